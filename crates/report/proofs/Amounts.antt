@@ -18,12 +18,12 @@ use Rattle.report.specs.WrongCases.{wrong_case_at, wrong_cases_under, wrong_case
 use Rattle.report.proofs.LineSteps.{all-sound}
 use Rattle.report.specs.FileReports.{first_malformed, report_on, verdict_from, verdict_by}
 
--- the no of the first of these cases
+-- the verdict that the first of these wrong cases gives, if there is one
 abbrev no_of_first : List WrongCase → Option Verdict
 no_of_first [] = None
 no_of_first (w ∷ ws) = Some (Wrong w.line w.direction w.place)
 
--- the no of a malformed line
+-- the verdict that a malformed line gives, if there is one
 abbrev no_of_malformed : Option (ℕ × Cause) → Option Verdict
 no_of_malformed None = None
 no_of_malformed (Some m) = Some (Malformed m.0 m.1)
@@ -45,7 +45,7 @@ module _ (limits : LimitsOf) where
       one-more n (read_under (strict_terms limits) claim d) d (layout_under limits claim d) (wrong_cases_under (strict_terms limits) n claim ds) (wrong_place_under limits claim d)
       (wrong_case limits claim ds) (first-under n claim ds)
 
-  -- the first no of these lines
+  -- the verdict of the first of these lines that is wrong or malformed
   first-from : (k : ℕ) (fs : List Finding) → first_no limits k fs ≡ option_or (no_of_first (wrong_cases_from (strict_terms limits) k (sound_lines fs))) (no_of_malformed (first_malformed k fs))
   first-from k [] = refl
   first-from k (Silent ∷ fs) = first-from (k + 1) fs

@@ -25,7 +25,7 @@ use Rattle.report.specs.Reporting.{LineReporting, Reporting, Reports, IsAfterLin
 use Rattle.report.proofs.LineSteps.{over-long, report-behind, report-ends, report-whole}
 
 module _ (terms : Terms) (kind : Kind) (s : LineReporting) (told : List WrongCase) (lines : List (List ℕ)) (h : IsReportBehind terms kind s told lines) where
-  -- the report that ends here, for this cause
+  -- the report that ends here with this cause
   abbrev ended-here : Cause → FileReport
   ended-here cause = record { wrong = told; tally = s.tally; malformed = Some (line_number (length lines), cause) }
 
@@ -41,7 +41,7 @@ module _ (terms : Terms) (kind : Kind) (s : LineReporting) (told : List WrongCas
       ap (λ ls. report_on terms (findings_by kind ls)) l.3
       ∙ report-ends terms kind s told lines h l.0 LineTooLong (over-long kind s.reading l.0 l.2) l.1
 
-  -- a line that has ended, by why it is malformed
+  -- a complete line: the report goes on, or ends with the cause if the line is malformed
   line-step : (o : Option Cause) (new : Cutting) (t : LineReporting) (b line : List ℕ) → StandsFor new b → CutsInto b (lines ++ line ∷ []) []
       → cause_of (finding_behind kind s.reading line) ≡ o → (o ≡ None → IsAfterLine kind (line_number (length lines)) line s t)
       → ((cause : Cause) → o ≡ Some cause → HasNothingNew s t) → ReportsBy terms kind (malformed_at (line_number (length lines)) o) new t (told ++ t.found) b
@@ -56,11 +56,11 @@ module _ (terms : Terms) (kind : Kind) (s : LineReporting) (told : List WrongCas
       let nothing = ended cause refl in
       rw (nothing.found, nothing.tally, append-nil told) (ends-by b line cause cut e more)
 
-  -- at the end of the file, where no line has begun
+  -- at the end of the file, if no line has begun
   whole-at : (b : List ℕ) → lines_of b ≡ lines → report_of terms kind b ≡ record { wrong = told; tally = s.tally; malformed = None }
   whole-at b is = ap (λ ls. report_on terms (findings_by kind ls)) is ∙ report-whole terms kind s told lines h
 
-  -- at the end of the file, where this line has begun
+  -- at the end of the file, if this line has begun
   last-at : (o : Option Cause) (t : LineReporting) (b line : List ℕ) → lines_of b ≡ lines ++ line ∷ []
       → cause_of (finding_behind kind s.reading line) ≡ o → (o ≡ None → IsAfterLine kind (line_number (length lines)) line s t)
       → ((cause : Cause) → o ≡ Some cause → HasNothingNew s t)
@@ -76,7 +76,7 @@ module _ (terms : Terms) (kind : Kind) (s : LineReporting) (told : List WrongCas
 malformed-some : (number : ℕ) (o : Option Cause) (cause : Cause) → o ≡ Some cause → malformed_at number o ≡ Some (number, cause)
 malformed-some number o cause e = ap (malformed_at number) e
 
--- where nothing was found before, nothing more is told
+-- if no wrong cases are stored, no more are reported
 none-more : (told : List WrongCase) (s t : LineReporting) → t ≡ s → s.found ≡ [] → told ++ t.found ≡ told
 none-more told s t same none = ap (λ (u : LineReporting). told ++ u.found) same ∙ ap (λ ws. told ++ ws) none ∙ append-nil told
 
@@ -103,13 +103,13 @@ module _ (terms : Terms) (kind : Kind) (old new : Cutting) (s t : LineReporting)
       let nothing = ended (number, LineTooLong) refl in
       rw (nothing.found, nothing.tally, append-nil told, l.1) (ends-long terms kind s told o.lines o.behind (b ++ take used piece) l.0 more)
 
--- behind a malformed line nothing changes
+-- after a malformed line nothing changes
 pub ended-on : (terms : Terms) (kind : Kind) (m : ℕ × Cause) (old new : Cutting) (s t : LineReporting) (told : List WrongCase) (b xs : List ℕ)
     → HasNothingNew s t → ReportsBy terms kind (Some m) old s told b → ReportsBy terms kind (Some m) new t (told ++ t.found) (b ++ xs)
 ended-on terms kind m old new s t told b xs nothing r more =
     rw (nothing.found, nothing.tally, append-nil told) (ap (report_of terms kind) (append_assoc b xs more) ∙ r (xs ++ more))
 
--- and at the end of the file the report is the one that ended
+-- at the end of the file the report is the one that ended
 pub ended-whole : (terms : Terms) (kind : Kind) (m : ℕ × Cause) (cutting : Cutting) (s t : LineReporting) (told : List WrongCase) (b : List ℕ)
     → HasNothingNew s t → ReportsBy terms kind (Some m) cutting s told b → report_of terms kind b ≡ record { wrong = told ++ t.found; tally = t.tally; malformed = Some m }
 ended-whole terms kind m cutting s t told b nothing r =
@@ -133,12 +133,12 @@ module _ (terms : Terms) (kind : Kind) (cutting : Cutting) (s t : LineReporting)
       (last-at terms kind s told o.lines o.behind cause t b last.1.now l.0 refl
       (λ e. subst At l.1 (after (ap (malformed_at last.0) e))) (λ c e. ended (last.0, c) (malformed-some last.0 cause c e)))
 
--- what holds where there is an error holds if there is one
+-- what holds if there is an error holds here
 pub if-error : {T E : Type 0} (P : Type 0) (r : Result T E) (e : E) → result_err r ≡ Some e → OnErr r P → P
 if-error P (Ok x) e some holds = absurd cc
 if-error P (Err x) e some holds = holds
 
--- that the cases of the last line are forgotten changes nothing of what was told
+-- forgetting the wrong cases of the last line changes nothing that was reported
 forgets : (terms : Terms) (kind : Kind) (cutting : Cutting) (s t : LineReporting) (told : List WrongCase) (b : List ℕ) → t ≡ forgotten s
     → GoesOn terms kind cutting s told b → GoesOn terms kind cutting t told b
 forgets terms kind cutting s t told b same o =
@@ -158,7 +158,7 @@ none-found s t same = ap (λ (u : LineReporting). u.found) same
 same-tally : (s t : LineReporting) → t ≡ forgotten s → t.tally ≡ s.tally
 same-tally s t same = ap (λ (u : LineReporting). u.tally) same
 
--- what a report stands for, by its own kind
+-- what a report represents, with its own kind
 kind-is : (terms : Terms) (kind : Kind) (j : Reporting) (told : List WrongCase) (b : List ℕ) → Reports terms kind j told b
     → ReportsBy terms j.kind j.malformed j.cutting j.lines told b
 kind-is terms kind j told b r =
@@ -172,7 +172,7 @@ module _ (j : Reporting) (s t : LineReporting) (fresh : s ≡ forgotten j.lines)
         let P : Option (ℕ × Cause) → Type 0 = λ m. ReportsBy terms j.kind m j.cutting j.lines told b in
         forgets terms j.kind j.cutting j.lines s told b fresh (subst P undecided (kind-is terms kind j told b r))
 
-    -- a report behind what its cutter used
+    -- a report after the bytes that its line splitter used
     pub takes : (new : Cutting) (malformed : Option (ℕ × Cause)) (piece : List ℕ) (used : ℕ) (taken : Cut) → used ≤ length piece
         → ((b : List ℕ) (lines : List (List ℕ)) (rest : List ℕ) → StandsFor j.cutting b → CutsInto b lines rest → EndsByFeed used piece)
         → ((b : List ℕ) → StandsFor j.cutting b → AnswersPiece b piece used taken)
@@ -190,7 +190,7 @@ module _ (j : Reporting) (s t : LineReporting) (fresh : s ≡ forgotten j.lines)
         let R : Kind → Type 0 = λ k. ReportsBy terms k malformed new t (told ++ t.found) (b ++ take used piece) in
         record { of = r.of; is = subst R r.of by }
 
-    -- and at the end of its file
+    -- a report at the end of its file
     pub ends : (malformed : Option (ℕ × Cause)) (last : Option (ℕ × Bor (List ℕ))) → ((b : List ℕ) → StandsFor j.cutting b → Finishes b last)
         → malformed ≡ malformed_last j.kind s last → (malformed ≡ None → IsAfterLast j.kind last s t)
         → ((m : ℕ × Cause) → malformed ≡ Some m → HasNothingNew s t)
@@ -204,7 +204,7 @@ module _ (j : Reporting) (s t : LineReporting) (fresh : s ≡ forgotten j.lines)
   nothing-new : HasNothingNew j.lines s
   nothing-new = record { found = none-found j.lines s fresh; tally = same-tally j.lines s fresh }
 
-  -- a report that has ended, behind further bytes
+  -- a report that has ended, after further bytes
   pub takes-ended : (cutting : Cutting) (piece : List ℕ) → is_some j.malformed ≡ true
       → (terms : Terms) (kind : Kind) (told : List WrongCase) (b : List ℕ) → Reports terms kind j told b
       → Reports terms kind (record { kind = j.kind; cutting = cutting; lines = s; malformed = j.malformed }) (told ++ s.found) (b ++ piece)
@@ -213,7 +213,7 @@ module _ (j : Reporting) (s t : LineReporting) (fresh : s ≡ forgotten j.lines)
     by None e r = absurd (false≢true e)
     by (Some m) e r = ended-on terms kind m j.cutting cutting j.lines s told b piece nothing-new r
 
-  -- and at the end of its file
+  -- a report that has ended, at the end of its file
   pub ends-ended : is_some j.malformed ≡ true → (terms : Terms) (kind : Kind) (told : List WrongCase) (b : List ℕ) → Reports terms kind j told b
       → report_of terms kind b ≡ record { wrong = told ++ s.found; tally = s.tally; malformed = j.malformed }
   ends-ended some terms kind told b r = by j.malformed some r.is where

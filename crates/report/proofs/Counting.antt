@@ -1,4 +1,4 @@
--- What is counted grows line by line.
+-- The counts grow line by line.
 use Rattle.std.proofs.Common.{◌≡◌, ℕ, ◌+◌, ◌||◌, min, Bool, false, Option, None, Some, List, [], ◌∷◌, ◌++◌, length, refl, sym, ap, ◌∙◌, arith, append_assoc, append-nil, count_by, sum_by, cond, length-append, is_some}
 use Rattle.std.proofs.lemmas.List.Sums.{sum_by-append}
 use Rattle.std.specs.List.{list_any}
@@ -17,7 +17,7 @@ use Rattle.report.specs.ReadClaims.{place_under, read_under}
 use Rattle.report.specs.WrongCases.{wrong_case_at, wrong_cases_in, wrong_cases_under, wrong_cases_from}
 use Rattle.report.specs.Tallies.{is_under, is_of, is_wrong_row, counted_by, tally_by_direction, tally_by_part, tally_of, more_by_direction, more_by_part, with_row}
 
--- counting on, behind what was counted up to the greatest number
+-- saturated counts add up
 more : (a c n : ℕ) → n ≡ a + c → saturated n ≡ saturated (saturated a + c)
 more a c n e = omega (arith, e)
 
@@ -40,7 +40,7 @@ one-case n claim d layout ws None rest e = e
 one-case n claim d layout ws (Some place) rest e = omega arith
 
 module _ (terms : Terms) where
-  -- a row is wrong where it has a wrong case
+  -- a row is wrong if and only if it has a wrong case
   some-case : (n : ℕ) (claim : Claim) (ds : List Direction) → cond (list_any (λ d. is_some (place_under terms claim d)) ds) 1 0 ≡ min (length (wrong_cases_under terms n claim ds)) 1
   some-case n claim [] = refl
   some-case n claim (d ∷ ds) =
@@ -54,7 +54,7 @@ module _ (terms : Terms) where
       ap (λ ws. here ++ ws) (from-append (k + 1) a b ∙ ap (λ n. wrong_cases_from terms (k + 1) a ++ wrong_cases_from terms n b) (omega arith))
       ∙ sym (append_assoc here (wrong_cases_from terms (k + 1) a) (wrong_cases_from terms (k + length (f ∷ a)) b))
 
-  -- the wrong cases with those of one line more
+  -- the wrong cases after one line more
   pub from-push : (fs : List Finding) (f : Finding) → wrong_cases_from terms 0 (fs ++ f ∷ []) ≡ wrong_cases_from terms 0 fs ++ wrong_cases_in terms (line_number (length fs)) f
   from-push fs f =
       from-append 0 fs (f ∷ [])
@@ -76,7 +76,7 @@ module _ (terms : Terms) where
   wrong-cases-push : (ws vs : List WrongCase) → saturated (length (ws ++ vs)) ≡ saturated (saturated (length ws) + length vs)
   wrong-cases-push ws vs = more (length ws) (length vs) _ (length-append ws vs)
 
-  -- the counts with a row more
+  -- the counts after one row more
   pub tally-row : (fs : List Finding) (claim : Claim)
       → tally_of terms (fs ++ Row claim ∷ []) ≡ with_row (length claim.directions) (wrong_cases_in terms (line_number (length fs)) (Row claim)) (tally_of terms fs)
   tally-row fs claim =
@@ -89,7 +89,7 @@ module _ (terms : Terms) where
       let zero : count_by p (x ∷ []) ≡ 0 = rw none refl in
       count-append p xs (x ∷ []) ∙ omega (arith, zero)
 
-  -- a line that says nothing counts nothing
+  -- a line without a row adds nothing
   pub tally-silent : (fs : List Finding) → tally_of terms (fs ++ Silent ∷ []) ≡ tally_of terms fs
   tally-silent fs =
       let cases : sum_by cases_of (fs ++ Silent ∷ []) ≡ sum_by cases_of fs = sum_by-append cases_of fs (Silent ∷ []) ∙ omega arith in

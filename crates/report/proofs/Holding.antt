@@ -1,4 +1,4 @@
--- Which wrong cases a report holds, in the words of the headline.
+-- Which wrong cases a report contains, in the terms of the main theorem.
 use Rattle.std.proofs.Common.{◌≡◌, ◌≢◌, ◌↔◌, ℕ, zero, suc, ◌+◌, ◌<◌, ◌≤◌, Option, None, Some, List, [], ◌∷◌, length, get_or, refl, sym, ap, subst, ◌∙◌, arith, inl, inr}
 use Rattle.std.specs.List.{Contains}
 use Rattle.std.specs.Option.{option_map, option_to_list}
@@ -30,7 +30,7 @@ in-one : {A : Type 0} (x y : A) → x ≡ y → Contains (x ∷ []) y
 in-one x y e = (0, omega arith, e)
 
 module _ (terms : Terms) where
-  -- the case is that of the claim, on the line of this number, under its direction
+  -- the wrong case is one of this row, on the line with this number, under its direction
   record IsCase (n : ℕ) (claim : Claim) (w : WrongCase) : Type 0 where
     line : w.line ≡ n
     wrong : IsWrongAt terms.limits (read_under terms claim w.direction) w.direction w.place
@@ -38,7 +38,7 @@ module _ (terms : Terms) where
     defined : w.defined ≡ defined_at (layout_under terms.limits claim w.direction) w.place
 
   module _ (n : ℕ) (claim : Claim) where
-    -- the case under the direction at a place
+    -- the wrong case under a direction at a place
     abbrev case-at : Direction → Place → WrongCase
     case-at d = wrong_case_at n (read_under terms claim d) d (layout_under terms.limits claim d)
 
@@ -85,7 +85,7 @@ module _ (terms : Terms) where
               Contains-append_right (option_to_list (wrong_case_under terms n claim d)) (wrong_cases_under terms n claim ds) w (in-cases ds w there c)
         ]
 
-  -- the line at this index is a row that has the case, and no line up to it is malformed
+  -- the line at this index is a row with this wrong case, and neither it nor a line before it is malformed
   record IsAt (k : ℕ) (fs : List Finding) (w : WrongCase) : Type 0 where
     j : ℕ
     well_formed : (i : ℕ) (cause : Cause) → i ≤ j → ¬ IsMalformed fs i cause
@@ -97,7 +97,7 @@ module _ (terms : Terms) where
   not-row : (f : Finding) (fs : List Finding) (cause : Cause) → f ≢ Faulty cause → ¬ IsMalformed (f ∷ fs) 0 cause
   not-row f fs cause ne e = ne (same_Some _ _ e)
 
-  -- a line more in front that is not malformed
+  -- the same with one line more in front that is not malformed
   later : (k : ℕ) (f : Finding) (fs : List Finding) (w : WrongCase) → ((cause : Cause) → f ≢ Faulty cause) → IsAt (k + 1) fs w → IsAt k (f ∷ fs) w
   later k f fs w sound a =
       let P : ℕ → Type 0 = λ n. IsCase (line_number n) a.claim w in
@@ -150,7 +150,7 @@ module _ (terms : Terms) where
       Contains-append_right (wrong_cases_in terms (line_number k) (Row other)) (wrong_cases_from terms (k + 1) (sound_lines fs)) w
       (in-lines (k + 1) j fs w claim (λ i cause le. formed (suc i) cause (omega arith)) row named (subst Q at c))
 
-  -- a report holds exactly the wrong cases of its lines
+  -- a report contains exactly the wrong cases of its lines
   pub holds : (fs : List Finding) (w : WrongCase) → Contains (wrong_cases_from terms 0 (sound_lines fs)) w ↔ IsWrongCase terms fs w
   holds fs w = (
     (λ h.

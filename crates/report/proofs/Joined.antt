@@ -1,4 +1,4 @@
--- Where an index of joined lists stands.
+-- Where an index of joined lists falls.
 use Rattle.std.proofs.Common.{◌≡◌, ℕ, zero, suc, ◌+◌, ◌-◌, ◌<◌, ◌≤◌, Some, List, [], ◌∷◌, ◌++◌, length, drop, get_or, drop-cons, add-one, flat_map, refl, ap, ◌∙◌, arith, length-append}
 use Rattle.std.specs.List.{slice_get}
 use Rattle.std.proofs.lemmas.List.{get_or_append_left}
@@ -9,7 +9,7 @@ use Rattle.units.specs.Layout.{LineLayout}
 pub joined-within : (xs ys : List ℕ) (i d : ℕ) → i < length xs → slice_get (xs ++ ys) i ≡ Some (get_or xs i d)
 joined-within xs ys i d lt = slice_get-get_or (xs ++ ys) i d (omega (arith, length-append xs ys)) ∙ ap (λ x. Some x) (get_or_append_left xs ys d i lt)
 
--- behind it
+-- after the first list
 pub joined-behind : (xs ys : List ℕ) (i : ℕ) → length xs ≤ i → slice_get (xs ++ ys) i ≡ slice_get ys (i - length xs)
 joined-behind [] ys i le = ap (λ n. slice_get ys n) (omega arith)
 joined-behind (x ∷ xs) ys zero le = absurd (omega arith)

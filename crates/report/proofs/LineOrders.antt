@@ -1,4 +1,4 @@
--- What is left of a claimed order beside the order of a line, position by position.
+-- The rest of an expected order beside the order of a line, position by position.
 use Rattle.std.proofs.Common.{◌≡◌, ◌≢◌, ℕ, ◌+◌, ◌<◌, ◌≤◌, Bool, true, false, not, Option, None, Some, List, [], ◌∷◌, ◌++◌, length, drop, get_or, refl, sym, ap, ap₂, ◌∙◌, arith}
 use Rattle.std.specs.Prelude.{nat_eq, MatchOption}
 use Rattle.std.specs.Option.{option_eq}
@@ -8,7 +8,7 @@ use Rattle.std.proofs.lemmas.Option.{none-some, same_Some}
 use Rattle.bidtests.specs.Verdicts.{first_difference}
 use Rattle.report.specs.Comparing.{PassesLine}
 
--- what the next position was taken of, and what is left behind it
+-- the next position, and the rest after it
 abbrev pub Takes : List ℕ → Option ℕ → List ℕ → Type 0
 Takes before next after = MatchOption next ((before ≡ []) × (after ≡ [])) (λ x. before ≡ x ∷ after)
 
@@ -37,7 +37,7 @@ module _ (line : List ℕ) (i : ℕ) (lt : i < length line) (more : List ℕ) (a
   here : drop i line ++ more ≡ get_or line i 0 ∷ (drop (i + 1) line ++ more)
   here = ap (λ (ps : List ℕ). ps ++ more) (drop_more line i 0 lt)
 
-  -- the line's position comes next
+  -- the next position is the line's
   pub agrees-on : (before after : List ℕ) (next : Option ℕ) → Takes before next after → next ≡ Some (get_or line i 0)
       → first_difference nat_eq before (drop i line ++ more) (at + i) ≡ first_difference nat_eq after (drop (i + 1) line ++ more) (at + (i + 1))
   agrees-on before after None takes e = absurd (none-some _ e)
@@ -47,7 +47,7 @@ module _ (line : List ℕ) (i : ℕ) (lt : i < length line) (more : List ℕ) (a
       ∙ step x (get_or line i 0) after (drop (i + 1) line ++ more) (at + i) (same_Some _ _ e)
       ∙ ap (λ n. first_difference nat_eq after (drop (i + 1) line ++ more) n) count
 
-  -- another one does, or none
+  -- the next position is another one, or there is none
   pub differs-on : (before after : List ℕ) (next : Option ℕ) → Takes before next after → next ≢ Some (get_or line i 0)
       → first_difference nat_eq before (drop i line ++ more) (at + i) ≡ Some (at + i)
   differs-on before after None takes ne = ap₂ (λ (b r : List ℕ). first_difference nat_eq b r (at + i)) takes.0 here
@@ -59,7 +59,7 @@ pub taken-length : (before after : List ℕ) (next : Option ℕ) (n : ℕ) → T
 taken-length before after None n takes e = absurd (none-some _ e)
 taken-length before after (Some x) n takes e = let both = ap (λ (ps : List ℕ). length ps) takes in omega (arith, both)
 
--- before a line, and behind it
+-- before a line, and after it
 pub none-passed : (line before more : List ℕ) (at : ℕ) → first_difference nat_eq before (line ++ more) at ≡ first_difference nat_eq before (line ++ more) (at + 0)
 none-passed line before more at = ap (λ n. first_difference nat_eq before (line ++ more) n) (omega arith)
 

@@ -24,13 +24,13 @@ use Rattle.report.specs.Tallies.{tally_of}
 use Rattle.report.specs.WrongCases.{wrong_cases_in, wrong_cases_from, sound_lines}
 use Rattle.report.proofs.Counting.{from-push, tally-row, tally-silent}
 
--- a line that has a cause is malformed for it
+-- a line with a cause is malformed with this cause
 pub is-faulty : (f : Finding) (cause : Cause) → cause_of f ≡ Some cause → f ≡ Faulty cause
 is-faulty Silent cause e = absurd cc
 is-faulty (Faulty other) cause e = cc
 is-faulty (Row claim) cause e = absurd cc
 
--- behind lines none of which is malformed
+-- after lines without a malformed one
 pub malformed-behind : (k : ℕ) (fs gs : List Finding) → first_malformed k fs ≡ None → first_malformed k (fs ++ gs) ≡ first_malformed (k + length fs) gs
 malformed-behind k [] gs e = ap (λ n. first_malformed n gs) (omega arith)
 malformed-behind k (Silent ∷ fs) gs e = malformed-behind (k + 1) fs gs e ∙ ap (λ n. first_malformed n gs) (omega arith)
@@ -55,7 +55,7 @@ all-sound k (Silent ∷ fs) e = ap (λ hs. Silent ∷ hs) (all-sound (k + 1) fs 
 all-sound k (Faulty cause ∷ fs) e = absurd cc
 all-sound k (Row claim ∷ fs) e = ap (λ hs. Row claim ∷ hs) (all-sound (k + 1) fs e)
 
--- the lists in force behind one line more
+-- the lists in force after one line more
 pub lists-after : (kind : Kind) (before after : LineReading) (lines : List (List ℕ)) (line : List ℕ) → AreInForce kind (levels_in before) (order_in before) lines
     → IsBehindLine kind line before after → AreInForce kind (levels_in after) (order_in after) (lines ++ line ∷ [])
 lists-after Classes before after lines line h b = rw (b.levels, b.order) (in-force Classes (carried_by standard 0 0 before) lines line h)
@@ -95,7 +95,7 @@ module _ (terms : Terms) (kind : Kind) (s : LineReporting) (told : List WrongCas
       a.found ∙ ap (λ l. wrong_cases_in l (line_number (length lines)) (said line)) h.under
       ∙ ap (λ n. wrong_cases_in terms (line_number n) (said line)) (sym (length-findings kind lines))
 
-  -- behind a line that is not malformed
+  -- after a line that is not malformed
   pub report-behind : (line : List ℕ) (after : LineReporting) → IsAfterLine kind (line_number (length lines)) line s after
       → cause_of (finding_behind kind s.reading line) ≡ None → IsReportBehind terms kind after (told ++ after.found) (lines ++ line ∷ [])
   report-behind line after a none =
@@ -115,7 +115,7 @@ module _ (terms : Terms) (kind : Kind) (s : LineReporting) (told : List WrongCas
         cases = all ∙ ap (wrong_cases_from terms 0) (sym (findings-push line));
       }
 
-  -- a malformed line ends the report, whatever stands behind it
+  -- a malformed line ends the report, whatever follows it
   pub report-ends : (line : List ℕ) (cause : Cause) → cause_of (finding_behind kind s.reading line) ≡ Some cause → (others : List (List ℕ))
       → report_on terms (findings_by kind (lines ++ line ∷ others)) ≡ record { wrong = told; tally = s.tally; malformed = Some (line_number (length lines), cause) }
   report-ends line cause e others =
@@ -127,6 +127,6 @@ module _ (terms : Terms) (kind : Kind) (s : LineReporting) (told : List WrongCas
       malformed-behind 0 before (Faulty cause ∷ f.0) h.sound ∙ ap (λ n. Some (n, cause)) at in
       rw (faulty, sound-before 0 before f.0 cause h.sound, first, h.cases, h.tally) refl
 
-  -- at the end of a file no line of which is malformed
+  -- at the end of a file without a malformed line
   pub report-whole : report_on terms (findings_by kind lines) ≡ record { wrong = told; tally = s.tally; malformed = None }
   report-whole = rw (all-sound 0 before h.sound, h.sound, h.cases, h.tally) refl

@@ -20,7 +20,7 @@ use Rattle.report.specs.PrintedReports.{BreaksOff, EndsUnwritten, HasTold, HasWr
 use Rattle.report.specs.ReportText.{first_cases_text, report_text, wrong_case_text}
 use Rattle.report.proofs.SettledCases.{told-settled}
 
--- the first cases of two lists, one behind the other, where so many more may follow those of the first
+-- the first cases of two joined lists, if `left` more may follow those of the first list
 take-both : (most left : ℕ) (xs ys : List WrongCase) → left + length (take most xs) ≡ most → take most (xs ++ ys) ≡ take most xs ++ take left ys
 take-both zero left xs ys e =
     let none : left ≡ 0 = omega (arith, e) in rw none refl
@@ -43,7 +43,7 @@ pub nothing-written : (most : ℕ) (a : Option (List ℕ)) → HasWrittenFirst m
 nothing-written zero a = record { lines = Appends-nothing a; more = refl }
 nothing-written (suc most) a = record { lines = Appends-nothing a; more = omega arith }
 
--- more cases, behind others
+-- more cases, after others
 pub written-more : (most left rest : ℕ) (ws vs : List WrongCase) (a b c : Option (List ℕ)) → HasWrittenFirst most ws a b left → HasWrittenFirst left vs b c rest
     → HasWrittenFirst most (ws ++ vs) a c rest
 written-more most left rest ws vs a b c h g = record {
@@ -51,16 +51,16 @@ written-more most left rest ws vs a b c h g = record {
   more = length-both most left rest ws vs h.more g.more;
 }
 
--- nothing is told of no bytes
+-- no bytes report no cases
 pub nothing-told : (r : Reporting) → HasTold r [] [] r
 nothing-told r terms kind told b s = rw (append-nil told, append-nil b) s
 
--- what is told of bytes, behind what is told of those before
+-- the cases reported of bytes, after those reported of the bytes before
 pub told-more : (r s t : Reporting) (ws vs : List WrongCase) (xs ys : List ℕ) → HasTold r ws xs s → HasTold s vs ys t → HasTold r (ws ++ vs) (xs ++ ys) t
 told-more r s t ws vs xs ys f g terms kind told b h =
     rw (← append_assoc told ws vs, ← append_assoc b xs ys) (g terms kind (told ++ ws) (b ++ xs) (f terms kind told b h))
 
--- a part of a piece is handed over, and the first cases told are written
+-- a part of a piece has been passed to the report, and the first cases that it reported are written
 pub record HasGone (before after : Reporting) (most left : ℕ) (a b : Option (List ℕ)) (piece rest : List ℕ) : Type 0 where
   pub passed : List ℕ
   pub joined : passed ++ rest ≡ piece
@@ -68,32 +68,32 @@ pub record HasGone (before after : Reporting) (most left : ℕ) (a b : Option (L
   pub told : HasTold before cases passed after
   pub written : HasWrittenFirst most cases a b left
 
--- where a report breaks off, the cases that it told are those of the settled lines
+-- if a report breaks off, the cases that it reported are those of the final lines, which no further bytes change
 pub settled-written : (r s : Reporting) (most left : ℕ) (ws : List WrongCase) (a b : Option (List ℕ)) (xs ys : List ℕ) → ys ≡ xs → HasTold r ws xs s
     → HasWrittenFirst most ws a b left → PrintsSettled Whole r most ys a b
 settled-written r s most left ws a b xs ys e told written terms kind just =
     let is : ws ≡ settled_cases terms kind ys = told-settled terms kind s ws xs (told terms kind [] [] just) ∙ ap (settled_cases terms kind) (sym e) in
     Appends-to a b _ _ (ap (first_cases_text most) is) written.lines
 
--- an error says that nobody reads what is written, or it doesn't
+-- either nobody reads what is written any more, or the error has another kind
 by-kind : (P : Type 0) (kind : ErrorKind) → (kind ≡ BrokenPipe → P) → (kind ≢ BrokenPipe → P) → P
 by-kind P BrokenPipe broken other = broken refl
 by-kind P kind broken other = other (λ e. cc)
 
--- the fault of an error is one of a write
+-- the fault of a write error is a write fault
 pub fault-of-write : (error : Error) (fault : ReportFault) → IsFaultOf error fault → IsWriteFault fault
 fault-of-write error fault is = by-kind (IsWriteFault fault) (error_kind error)
     (λ e. subst IsWriteFault (sym (is.broken e)) tt) (λ e. subst IsWriteFault (sym (is.other e)) tt)
 
 module _ (Failed Ended : Type 0) (r : Reporting) (most : ℕ) (a b : Option (List ℕ)) where
-  -- what ends the reading on ends the report
+  -- a fault while the rest of the source is read ends the report
   pub unwritten-ends : (bytes : List ℕ) (fault : ReportFault) → EndsUnwritten Failed Ended fault → BreaksOff Failed Ended r most bytes a b fault
   unwritten-ends bytes (Read Whole) h = absurd h
   unwritten-ends bytes (Read CutOff) h = (h, λ terms kind just. tt)
   unwritten-ends bytes Write h = h
   unwritten-ends bytes NobodyReads h = absurd h
 
-  -- a write failed by an error, after these bytes
+  -- a write failed with an error after these bytes
   pub piece-ends : {S : Type 0} (gives : S → List ℕ → S → Type 0) → ((s t u : S) (xs ys : List ℕ) → gives s xs t → gives t ys u → gives s (xs ++ ys) u)
       → (start now next : S) (bytes : List ℕ) → gives start bytes now → (error : Error) (fault : ReportFault)
       → (error_kind error ≡ BrokenPipe → (fault ≡ NobodyReads) × (next ≡ now))
@@ -106,7 +106,7 @@ module _ (Failed Ended : Type 0) (r : Reporting) (most : ℕ) (a b : Option (Lis
       (λ e. let is = write e in
       (bytes ++ is.0, joined start now next bytes is.0 given is.1, unwritten-ends (bytes ++ is.0) fault is.2))
 
-  -- a write fails where all was read
+  -- a write failed, and the source was read to its end
   write-ends : (bytes : List ℕ) (fault : ReportFault) → Ended → IsWriteFault fault → BreaksOff Failed Ended r most bytes a b fault
   write-ends bytes (Read written) ended h = absurd h
   write-ends bytes Write ended h = ended
@@ -117,7 +117,7 @@ module _ (Failed Ended : Type 0) (r : Reporting) (most : ℕ) (a b : Option (Lis
   end-fails Gave given gave ended (Ok x) h = tt
   end-fails Gave given gave ended (Err fault) h = (given, gave, write-ends given fault ended h)
 
--- the text of a whole report: the cases told before the end and those of a last line, and the foot
+-- the text of a whole report: the cases reported before the end, those of a last line, and the foot
 pub whole-printed : (r s : Reporting) (e : EndedReport) (most left : ℕ) (ws : List WrongCase) (given : List ℕ) (a b d : Option (List ℕ)) (right : Bool)
     → HasTold r ws given s → HasWrittenFirst most ws a b left
     → ((terms : Terms) (kind : Kind) (told : List WrongCase) (bs : List ℕ) → Reports terms kind s told bs → report_of terms kind bs ≡ report_at_end told e)
@@ -134,7 +134,7 @@ module _ (before : Reporting) (most : ℕ) (a : Option (List ℕ)) (piece : List
   pub nothing-gone : HasGone before before most most a a piece piece
   nothing-gone = record { passed = []; joined = refl; cases = []; told = nothing-told before; written = nothing-written most a }
 
-  -- some more of the piece
+  -- one more part of the piece
   pub more-gone : (r t : Reporting) (left further : ℕ) (b c : Option (List ℕ)) (rest : List ℕ) (used : ℕ) (vs : List WrongCase)
       → HasGone before r most left a b piece rest → HasTold r vs (take used rest) t → HasWrittenFirst left vs b c further
       → HasGone before t most further a c piece (drop used rest)

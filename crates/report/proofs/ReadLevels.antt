@@ -1,4 +1,4 @@
--- Claimed levels as they are read, beside those of a layout.
+-- Expected levels as they are compared, beside those of a layout.
 use Rattle.std.proofs.Common.{◌≡◌, ◌≢◌, ℕ, zero, suc, ◌+◌, ◌<◌, ◌≤◌, ◌&&◌, min, Bool, true, false, not, Option, None, Some, List, [], ◌∷◌, length, drop, get_or, refl, sym, ap, ap₂, ◌∙◌, arith, length-drop}
 use Rattle.std.specs.Prelude.{if◌then◌else◌, nat_eq}
 use Rattle.std.specs.List.{slice_get}
@@ -21,15 +21,15 @@ use Rattle.report.specs.ReadClaims.{is_compared, level_shown, levels_read, level
 abbrev Levels : Type 0
 Levels = List (Option ℕ)
 
--- the first difference of claimed levels as they are read
+-- the first difference of the expected levels as they are compared
 abbrev pub difference : Positions → Levels → Levels → ℕ → Option ℕ
 difference compared levels claimed at = first_difference same_position (levels_read parts.All compared levels claimed) levels at
 
--- the level that is claimed is another one, and compared
+-- the expected level is another one, and compared
 abbrev is_other : Positions → Option ℕ → Option ℕ → Bool
 is_other compared claimed level = is_compared compared level && not (same_position claimed level)
 
--- a level that is passed over or agrees
+-- a level that is skipped or agrees
 level-agrees : (compared : Positions) (level claimed : Option ℕ) (levels more : Levels) (at : ℕ) → is_other compared claimed level ≡ false
     → difference compared (level ∷ levels) (claimed ∷ more) at ≡ difference compared levels more (at + 1)
 level-agrees All level claimed levels more at passed = by (same_position claimed level) refl where
@@ -50,7 +50,7 @@ level-passed compared levels claimed i d e lt within passed =
     ap₂ (λ ls cs. difference compared ls cs i) (drop_more levels i d lt) (drop_more claimed i e within)
     ∙ level-agrees compared (get_or levels i d) (get_or claimed i e) (drop (i + 1) levels) (drop (i + 1) claimed) i passed
 
--- where one of the lists ends
+-- at the end of one of the lists
 pub level-ends : (compared : Positions) (levels claimed : Levels) (at : ℕ) → min (length claimed) (length levels) ≡ 0
     → length claimed ≢ length levels → difference compared levels claimed at ≡ Some at
 level-ends All [] [] at e ne = absurd (ne refl)
@@ -77,7 +77,7 @@ pub no-difference : (levels : Levels) (at : ℕ) → first_difference same_posit
 no-difference [] at = refl
 no-difference (level ∷ levels) at = rw (same_position_refl level) (no-difference levels (at + 1))
 
--- a difference stands behind those before it
+-- a difference is not before the index where the search began
 at-least : (xs ys : Levels) (at n : ℕ) → first_difference same_position xs ys at ≡ Some n → at ≤ n
 at-least [] [] at n e = absurd cc
 at-least [] (y ∷ ys) at n e = omega (arith, same_Some _ _ e)
@@ -87,7 +87,7 @@ at-least (x ∷ xs) (y ∷ ys) at n e = by (same_position x y) refl (at-least xs
   by true same rest = let later : first_difference same_position xs ys (at + 1) ≡ Some n = rw same at e in omega (arith, rest later)
   by false same rest = let here : Some at ≡ Some n = rw same at e in omega (arith, same_Some _ _ here)
 
--- the level that is read where they differ is the one that is claimed there
+-- the compared level at a difference is the expected one
 shown-there : (levels claimed : Levels) (at i : ℕ) → first_difference same_position (levels_shown levels claimed) levels at ≡ Some (at + i)
     → slice_get (levels_shown levels claimed) i ≡ slice_get claimed i
 shown-there levels [] at i e = refl
@@ -111,7 +111,7 @@ pub claimed-there : (compared : Positions) (levels claimed : Levels) (i : ℕ) �
 claimed-there All levels claimed i e = refl
 claimed-there Shown levels claimed i e = let at : i ≡ 0 + i = omega arith in shown-there levels claimed 0 i (e ∙ ap (λ n. Some n) at)
 
--- a place among the levels is their first difference
+-- if the first difference is among the levels, it is theirs
 which : (right : Bool) (d o : Option ℕ) (i : ℕ)
     → (if right then option_or (placed_in AtLevels d) (placed_in AtOrder o) else Some AtParaLevel) ≡ Some (AtLevels i) → d ≡ Some i
 which true (Some j) o i e = cc
@@ -125,13 +125,13 @@ read-there : (by : Parts) (compared : Positions) (levels claimed : Levels) (i : 
 read-there parts.All compared levels claimed i e = claimed-there compared levels claimed i e
 read-there parts.OrderAlone compared levels claimed i e = absurd (none-some i (sym (no-difference levels 0) ∙ e))
 
--- where a claim, as it is read, first differs in a level, that is the level that it claims
+-- if the first difference is in a level, the compared level is the expected one
 pub level-claimed : (l : Leniency) (layout : TextLayout) (claim : Claim) (i : ℕ) → place_in layout (read_claim l layout claim) ≡ Some (AtLevels i)
     → slice_get (read_claim l layout claim).levels i ≡ slice_get claim.levels i
 level-claimed l layout claim i e =
     read-there l.parts l.positions layout.levels claim.levels i (which _ _ _ i e)
 
--- beside the order alone the place is one of the order
+-- if only the order is compared, the place is in the order
 pub order-place : (compared : Positions) (layout : TextLayout) (claim : Claim)
     → placed_in AtOrder (first_difference nat_eq (order_read compared layout.levels claim.order) (all_orders layout) 0)
     ≡ place_in layout (read_claim (record { parts = parts.OrderAlone; positions = compared }) layout claim)

@@ -1,4 +1,4 @@
--- A claimed order as it is read, position by position.
+-- An expected order as it is compared, position by position.
 use Rattle.std.proofs.Common.{◌≡◌, ℕ, zero, suc, ◌+◌, ◌<◌, ◌≤◌, Bool, true, false, Option, None, Some, List, [], ◌∷◌, length, drop, get_or, refl, sym, ap, ◌∙◌, arith}
 use Rattle.std.specs.Prelude.{filter}
 use Rattle.std.specs.List.{position, position_or_len, slice_get}
@@ -10,7 +10,7 @@ use Rattle.report.specs.declared.terms.Positions.{Positions}
 use Rattle.report.specs.declared.terms.Positions.TheVariants.{All, Shown}
 use Rattle.report.specs.ReadClaims.{is_compared, is_read, order_read}
 
--- where all are compared, each is read
+-- if all positions are compared, each one is read
 all-read : (levels : List (Option ℕ)) (p : ℕ) → is_read All levels p ≡ true
 all-read levels p = by (slice_get levels p) where
   by : (level : Option (Option ℕ)) → option_map_or (is_compared All) level true ≡ true

@@ -1,4 +1,4 @@
--- What a report has come to depends on the tables of its file's kind, not on where they stand.
+-- What a report has found depends on the tables of its kind, not on their address.
 use Rattle.std.proofs.Common.{◌≡◌, ℕ, Option, None, Some, List, ◌++◌, sym, ap, subst, ◌∙◌}
 use Rattle.units.specs.LineCutting.{Cutting}
 use Rattle.report.specs.declared.terms.Terms.{Terms}
@@ -37,18 +37,18 @@ module _ (terms : Terms) (kind other : Kind) (same : tables_of other ≡ tables_
       record { cutter = h.cutter; lines = h.lines; rest = h.rest; cut = h.cut; behind = behind-as s told h.lines h.behind }
   reports-as (Some m) cutting s told b h = λ more. report-as (b ++ more) ∙ h more
 
--- a report on a file of one kind has come so far for each kind with the same tables
+-- the state of a report on a file of one kind is one for each kind with the same tables
 pub told-for : (terms : Terms) (kind : Kind) (state : StateOf) (told : List WrongCase) (b : List ℕ)
     → ReportsBy terms kind state.malformed state.cutting state.lines told b → HasToldFor terms (tables_of kind) state told b
 told-for terms kind state told b h = λ other same. reports-as terms kind other same state.malformed state.cutting state.lines told b h
 
--- what a report of this kind has come to
+-- the state of a report of this kind
 pub state-of : (terms : Terms) (kind own : Kind) (state : StateOf) (told : List WrongCase) (b : List ℕ)
     → Reports terms kind (reporting own state) told b → HasToldFor terms (tables_of own) state told b
 state-of terms kind own state told b h =
     told-for terms own state told b (subst (λ (k : Kind). ReportsBy terms k state.malformed state.cutting state.lines told b) (sym h.of) h.is)
 
--- a report of this kind that has come so far
+-- a report of this kind with this state
 pub reports-of : (terms : Terms) (kind own : Kind) (state : StateOf) (told : List WrongCase) (b : List ℕ) → own ≡ kind
     → HasToldFor terms (tables_of own) state told b → Reports terms kind (reporting own state) told b
 reports-of terms kind own state told b of holds = record { of = of; is = holds kind (ap tables_of (sym of)) }

@@ -1,4 +1,4 @@
--- The wrong cases that were told are those of the lines that are settled.
+-- The wrong cases that were reported are those of the final lines, which no further bytes change.
 use Rattle.std.proofs.Common.{◌≡◌, ◌⊎◌, ℕ, ◌+◌, true, false, Bool, Option, None, Some, List, [], ◌∷◌, ◌++◌, reverse, map, refl, sym, ap, ◌∙◌, append-nil, inl, inr}
 use Rattle.units.specs.Limits.{standard}
 use Rattle.report.specs.declared.terms.Terms.{Terms}
@@ -20,7 +20,7 @@ use Rattle.report.specs.Reporting.{LineReporting, Reporting, Reports, ReportsBy}
 use Rattle.report.specs.WrongCases.{sound_lines, wrong_cases_from}
 use Rattle.report.proofs.LineSteps.{all-sound}
 
--- the lines are the settled ones, or these and one more
+-- the lines are the final ones, or these and one more
 abbrev OneMore : List (List ℕ) → List (List ℕ) → Type 0
 OneMore lines settled = (lines ≡ settled) ⊎ ((last : List ℕ) × (lines ≡ settled ++ last ∷ []))
 
@@ -41,7 +41,7 @@ with-last x (y ∷ more) = behind-line x _ _ (with-last y more)
 lines-settled : (bytes : List ℕ) → OneMore (lines_of bytes) (settled_lines bytes)
 lines-settled bytes = let s = cut_at-some 10 bytes in rw s.2 (with-last s.0 s.1)
 
--- one line more comes to one finding more
+-- one line more gives one finding more
 one-finding : (kind : Kind) (lines : List (List ℕ)) (line : List ℕ) → (f : Finding) × (findings_by kind (lines ++ line ∷ []) ≡ findings_by kind lines ++ f ∷ [])
 one-finding Classes lines line =
     let s : Carried = record {
@@ -56,7 +56,7 @@ one-finding (Characters tables) lines line =
     let s : Carried = record { limits = standard; levels = None; order = None; rows = 0; cases = 0 } in
     (comes_to_behind (Characters tables) s line, findings-last (Characters tables) s lines line tt)
 
--- where one of these is malformed, the last stands behind the sound lines
+-- if one of these lines is malformed, the last line is not among the sound ones
 last-unsound : (k : ℕ) (fs : List Finding) (f : Finding) (m : ℕ × Cause) → first_malformed k (fs ++ f ∷ []) ≡ Some m → sound_lines (fs ++ f ∷ []) ≡ sound_lines fs
 last-unsound k [] Silent m e = absurd cc
 last-unsound k [] (Faulty cause) m e = refl

@@ -1,14 +1,14 @@
--- What is left of a claimed order while it is compared.
+-- The rest of an expected order while it is compared.
 use Rattle.std.specs.Prelude.{◌≡◌, ℕ, ◌+◌, List, ◌++◌, length, nat_eq}
 use Rattle.bidtests.specs.Verdicts.{first_difference}
 use Rattle.report.specs.declared.read_order.ReadOrder.{ReadOrder}
 use Rattle.report.specs.ReadClaims.{order_read}
 
--- the positions that are still to be read
+-- the positions that remain to be read
 abbrev pub order_left : ReadOrder → List ℕ
 order_left claimed = order_read claimed.compared claimed.levels.now claimed.order.now
 
--- the order of a line is the front of what was left: the search for the first difference goes on behind both
+-- the order of a line is the front of the rest: the search for the first difference goes on after both
 pub record PassesLine (line before after : List ℕ) : Type 0 where
   pub fits : length before ≡ length line + length after
   pub search : (more : List ℕ) (at : ℕ)

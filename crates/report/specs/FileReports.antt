@@ -18,7 +18,7 @@ use Rattle.report.specs.ReadClaims.{read_under, strict_terms}
 use Rattle.report.specs.Tallies.{tally_of}
 use Rattle.report.specs.WrongCases.{wrong_cases_from, sound_lines, claimed_at, defined_at}
 
--- the number and the cause of the first malformed line, where k lines stand before these
+-- the number and the cause of the first malformed line, if k lines are before these
 abbrev pub first_malformed : ℕ → List Finding → Option (ℕ × Cause)
 first_malformed k [] = None
 first_malformed k (Faulty cause ∷ fs) = Some (line_number k, cause)
@@ -30,7 +30,7 @@ pub record FileReport : Type 0 where
   pub tally : Tally
   pub malformed : Option (ℕ × Cause)
 
--- the report on a file whose lines come to these: of those before the first malformed one
+-- the report on a file with these findings: on the lines before the first malformed one
 abbrev pub report_on : Terms → List Finding → FileReport
 report_on terms fs = record {
   wrong = wrong_cases_from terms 0 (sound_lines fs);
@@ -38,11 +38,11 @@ report_on terms fs = record {
   malformed = first_malformed 0 fs;
 }
 
--- the report on the bytes of a file of this kind, by these terms
+-- the report on the bytes of a file of this kind, with these terms
 abbrev pub report_of : Terms → Kind → List ℕ → FileReport
 report_of terms kind bytes = report_on terms (findings_by kind (lines_of bytes))
 
--- the wrong cases of the lines that stay as they are whatever bytes follow these, up to the first malformed one
+-- the wrong cases of the final lines, which no further bytes change, up to the first malformed one
 abbrev pub settled_cases : Terms → Kind → List ℕ → List WrongCase
 settled_cases terms kind bytes = wrong_cases_from terms 0 (sound_lines (findings_by kind (settled_lines bytes)))
 
@@ -65,8 +65,8 @@ verdict_from [] None rows cases = Yes rows cases
 abbrev pub verdict_by : FileReport → Verdict
 verdict_by report = verdict_from report.wrong report.malformed report.tally.rows report.tally.cases
 
--- line k is a row of which this is a wrong case, with what is claimed and defined at the first place at which its claim
--- differs as it is read, and no line before it is malformed
+-- line k is a row with this wrong case: its expected and defined items are those at the first place where the compared
+-- values differ from the layout; no line up to k is malformed
 pub record IsWrongCase (terms : Terms) (found : List Finding) (w : WrongCase) : Type 0 where
   pub k : ℕ
   pub numbered : w.line ≡ line_number k
@@ -78,11 +78,11 @@ pub record IsWrongCase (terms : Terms) (found : List Finding) (w : WrongCase) : 
   pub claimed : w.claimed ≡ claimed_at (read_under terms claim w.direction) w.place
   pub defined : w.defined ≡ defined_at (layout_under terms.limits claim w.direction) w.place
 
--- the verdict on each file is the one that its report amounts to, in which all that is claimed is compared
+-- the verdict on each file is that of its report, if the report compares everything
 abbrev pub AmountsToVerdict : LimitsOf → Kind → List ℕ → Type 0
 AmountsToVerdict limits kind b = verdict_of limits kind b ≡ verdict_by (report_of (strict_terms limits) kind b)
 
--- a report holds exactly the wrong cases of the file's lines
+-- a report contains exactly the wrong cases of the file's lines
 abbrev pub HoldsWrongCases : Terms → Kind → List ℕ → Type 0
 HoldsWrongCases terms kind b = (w : WrongCase)
     → Contains (report_of terms kind b).wrong w ↔ IsWrongCase terms (findings_by kind (lines_of b)) w

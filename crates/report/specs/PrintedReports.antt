@@ -16,19 +16,19 @@ use Rattle.report.specs.FileReports.{FileReport, is_right, report_of, settled_ca
 use Rattle.report.specs.Reporting.{EndedReport, Reporting, Reports, report_at_end}
 use Rattle.report.specs.ReportText.{first_cases_text, foot_text, report_text}
 
--- the report told these wrong cases while it was handed these bytes
+-- the report reported these wrong cases while it was given these bytes
 abbrev pub HasTold : Reporting → List WrongCase → List ℕ → Reporting → Type 0
 HasTold before ws bytes after =
     (terms : Terms) (kind : Kind) (told : List WrongCase) (b : List ℕ)
     → Reports terms kind before told b → Reports terms kind after (told ++ ws) (b ++ bytes)
 
--- known bytes grew by the lines of the first of these wrong cases, at most so many, and so many more may follow
+-- the known bytes grew by the lines of the first of these wrong cases, at most `most`; `left` more may follow
 pub record HasWrittenFirst (most : ℕ) (ws : List WrongCase) (before after : Option (List ℕ)) (left : ℕ) : Type 0 where
   pub lines : Appends before after (first_cases_text most ws)
   pub more : left + length (take most ws) ≡ most
 
--- behind the first wrong cases, an ended report is printed: those of its own that may follow, at most so many, and the
--- foot; and the answer is whether the file is right
+-- after the first wrong cases the end of a report is printed: the first of the wrong cases that it found last, as many
+-- as may follow, and the foot; the result is whether the file is right
 pub record PrintsEnd (most : ℕ) (ended : EndedReport) (before after : Option (List ℕ)) (right : Bool) : Type 0 where
   pub between : Option (List ℕ)
   pub left : ℕ
@@ -37,44 +37,45 @@ pub record PrintsEnd (most : ℕ) (ended : EndedReport) (before after : Option (
   pub answer : (terms : Terms) (kind : Kind) (told : List WrongCase) (bytes : List ℕ)
       → report_of terms kind bytes ≡ report_at_end told ended → right ≡ is_right (report_of terms kind bytes)
 
--- what known bytes grew by is the text of the report, and the answer is whether the file is right
+-- the known bytes grew by the text of the report; the result is whether the file is right
 pub record IsPrinted (most : ℕ) (report : FileReport) (before after : Option (List ℕ)) (right : Bool) : Type 0 where
   pub text : Appends before after (report_text most report)
   pub answer : right ≡ is_right report
 
--- the report, which was just begun, is printed on these bytes as its whole file
+-- a new report is printed, and these bytes are its whole file
 abbrev pub Prints : Reporting → ℕ → List ℕ → Option (List ℕ) → Option (List ℕ) → Bool → Type 0
 Prints report most bytes before after right =
     (terms : Terms) (kind : Kind) → Reports terms kind report [] []
     → IsPrinted most (report_of terms kind bytes) before after right
 
--- the lines of the wrong cases are printed, unless a write failed, that stand on the lines which these bytes settle
+-- unless a write failed, the lines of the wrong cases are printed that are on final lines, which no further bytes
+-- change
 abbrev pub PrintsSettled : Written → Reporting → ℕ → List ℕ → Option (List ℕ) → Option (List ℕ) → Type 0
 PrintsSettled written report most bytes before after =
     (terms : Terms) (kind : Kind) → Reports terms kind report [] []
     → IsWritten written before after (first_cases_text most (settled_cases terms kind bytes))
 
--- the report, which was just begun, breaks off after these bytes: the source failed, and the wrong cases so far are
--- printed, unless a write failed; or they are all, and a write failed; or nobody reads what is written
+-- a new report breaks off after these bytes: the source failed, and the wrong cases so far are printed unless a write
+-- failed; or the source ended, and a write failed; or nobody reads what is written
 abbrev pub BreaksOff : Type 0 → Type 0 → Reporting → ℕ → List ℕ → Option (List ℕ) → Option (List ℕ) → ReportFault → Type 0
 BreaksOff Failed Ended report most bytes before after (Read written) = Failed × PrintsSettled written report most bytes before after
 BreaksOff Failed Ended report most bytes before after Write = Ended
 BreaksOff Failed Ended report most bytes before after NobodyReads = Unit {0}
 
--- the same where a write failed before, and the source was read on
+-- the same if a write failed before, and the source was read on
 abbrev pub EndsUnwritten : Type 0 → Type 0 → ReportFault → Type 0
 EndsUnwritten Failed Ended (Read CutOff) = Failed
 EndsUnwritten Failed Ended Write = Ended
 EndsUnwritten Failed Ended _ = ⊥
 
--- a fault is that of a write
+-- the fault is that of a write
 abbrev pub IsWriteFault : ReportFault → Type 0
 IsWriteFault (Read written) = ⊥
 IsWriteFault Write = Unit {0}
 IsWriteFault NobodyReads = Unit {0}
 
--- the fault of a write that failed by this error, where all was read: nobody reads what is written exactly where its kind
--- says so
+-- the fault of a write that failed with this error, after the source was read to its end: nobody reads what is written
+-- if and only if the error's kind says so
 pub record IsFaultOf (error : Error) (fault : ReportFault) : Type 0 where
   pub broken : error_kind error ≡ BrokenPipe → fault ≡ NobodyReads
   pub other : error_kind error ≢ BrokenPipe → fault ≡ Write

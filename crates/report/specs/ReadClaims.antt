@@ -1,4 +1,5 @@
--- What of a claim is compared: the claim as it is read, in which all else is what the layout has.
+-- Which of a row's expected values are compared: its values as they are read. The layout's own values replace the
+-- others, so that these can't differ.
 use Rattle.std.specs.Prelude.{Option, None, Some, ℕ, Bool, true, false, List, [], ◌∷◌, filter}
 use Rattle.std.specs.List.{slice_get}
 use Rattle.std.specs.Option.{option_map_or}
@@ -19,53 +20,52 @@ use Rattle.report.specs.declared.terms.Terms.{Terms}
 abbrev pub all_parts_at : Positions → Leniency
 all_parts_at compared = record { parts = parts.All; positions = compared }
 
--- all that is claimed is compared
+-- everything is compared
 abbrev pub strict : Leniency
 strict = all_parts_at positions.All
 
--- the same, by these limits
+-- the same with these limits
 abbrev pub strict_terms : LimitsOf → Terms
 strict_terms limits = record { limits = limits; leniency = strict }
 
--- where the order alone is compared, no paragraph level is read
+-- if only the order is compared, no paragraph level is read
 abbrev pub para_read : Parts → Option ℕ → Option ℕ
 para_read parts.All claimed = claimed
 para_read parts.OrderAlone claimed = None
 
--- a position that has this level is compared: X9 removes it where it has none
+-- a position with this level is compared: if only shown positions are, X9 must not remove it
 abbrev pub is_compared : Positions → Option ℕ → Bool
 is_compared positions.All level = true
 is_compared positions.Shown None = false
 is_compared positions.Shown (Some level) = true
 
--- what is read of the level that is claimed of a position with this level: none where X9 removes it
+-- the expected level of a position with this level, as it is read: none if X9 removes the position
 abbrev pub level_shown : Option ℕ → Option ℕ → Option ℕ
 level_shown None claimed = None
 level_shown (Some level) claimed = claimed
 
--- the claimed levels of a text with these levels, each read so
+-- the expected levels of a text with these levels, each as it is read
 abbrev pub levels_shown : List (Option ℕ) → List (Option ℕ) → List (Option ℕ)
 levels_shown levels [] = []
 levels_shown [] claimed = claimed
 levels_shown (level ∷ levels) (c ∷ claimed) = level_shown level c ∷ levels_shown levels claimed
 
--- the claimed levels as they are read beside those of the layout, which stand for them where the order alone is
--- compared
+-- the expected levels as they are read beside those of the layout; these replace them if only the order is compared
 abbrev pub levels_read : Parts → Positions → List (Option ℕ) → List (Option ℕ) → List (Option ℕ)
 levels_read parts.OrderAlone compared levels claimed = levels
 levels_read parts.All positions.All levels claimed = claimed
 levels_read parts.All positions.Shown levels claimed = levels_shown levels claimed
 
--- the position of a text with these levels is read in an order: it is compared, or stands behind the text
+-- the position of a text with these levels is read in an order: it is compared, or after the text's end
 abbrev pub is_read : Positions → List (Option ℕ) → ℕ → Bool
 is_read compared levels p = option_map_or (is_compared compared) (slice_get levels p) true
 
--- the claimed order as it is read
+-- the expected order as it is read
 abbrev pub order_read : Positions → List (Option ℕ) → List ℕ → List ℕ
 order_read positions.All levels order = order
 order_read positions.Shown levels order = filter (is_read positions.Shown levels) order
 
--- the claim as it is read beside this layout of its text
+-- the expected values of a row as they are read beside this layout of its text
 abbrev pub read_claim : Leniency → TextLayout → Claim → Claim
 read_claim leniency layout claim = record {
   text = claim.text;
@@ -75,14 +75,14 @@ read_claim leniency layout claim = record {
   order = order_read leniency.positions layout.levels claim.order;
 }
 
--- the claim as it is read under the direction
+-- the expected values as they are read under the direction
 abbrev pub read_under : Terms → Claim → Direction → Claim
 read_under terms claim d = read_claim terms.leniency (layout_under terms.limits claim d) claim
 
--- the first place at which a claim that is read so differs from the layout
+-- the first place where the values as they are read differ from the layout
 abbrev pub place_in : TextLayout → Claim → Option Place
 place_in layout read = wrong_place read.para_level read.levels read.order layout
 
--- the first place at which the claim, as it is read under the direction, differs from the layout
+-- the first place where the expected values, as they are read under the direction, differ from the layout
 abbrev pub place_under : Terms → Claim → Direction → Option Place
 place_under terms claim d = place_in (layout_under terms.limits claim d) (read_under terms claim d)

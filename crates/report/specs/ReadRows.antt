@@ -1,4 +1,4 @@
--- Worked claims as they are read.
+-- Worked examples of expected values as they are read.
 use Rattle.std.specs.Prelude.{◌≡◌, None, Some, ℕ, Option, List, [], ◌∷◌, refl}
 use Rattle.units.specs.Layout.{TextLayout}
 use Rattle.bidtests.specs.Verdicts.{Claim}
@@ -11,33 +11,33 @@ use Rattle.report.specs.declared.terms.Positions.TheVariants as positions
 abbrev embedded : List (Option ℕ)
 embedded = None ∷ Some 1 ∷ None ∷ []
 
--- where all is compared, the claim is read as it stands
+-- if everything is compared, the expected values are read unchanged
 pub all_read : (layout : TextLayout) (claim : Claim) → read_claim strict layout claim ≡ claim
 all_read layout claim = refl
 
--- a claim of an engine that keeps the removed positions
+-- an engine that keeps the removed positions
 pub kept_levels_read : levels_read parts.All positions.Shown embedded (Some 0 ∷ Some 1 ∷ Some 1 ∷ []) ≡ embedded
 kept_levels_read = refl
 
 pub kept_order_read : order_read positions.Shown embedded (0 ∷ 2 ∷ 1 ∷ []) ≡ 1 ∷ []
 kept_order_read = refl
 
--- a level that is shown stays, also where it is claimed to be removed
+-- a level that is shown stays, even if it is expected to be removed
 pub shown_levels_read : levels_read parts.All positions.Shown embedded (Some 0 ∷ None ∷ None ∷ []) ≡ None ∷ None ∷ None ∷ []
 shown_levels_read = refl
 
--- a list of another length than the text stays so
+-- a list with another length than the text keeps its length
 pub short_levels_read : levels_read parts.All positions.Shown embedded (Some 0 ∷ []) ≡ None ∷ []
 short_levels_read = refl
 
 pub long_levels_read : levels_read parts.All positions.Shown embedded (None ∷ Some 1 ∷ None ∷ Some 0 ∷ []) ≡ None ∷ Some 1 ∷ None ∷ Some 0 ∷ []
 long_levels_read = refl
 
--- so does what stands behind the text in an order
+-- positions after the text's end stay in an order
 pub behind_order_read : order_read positions.Shown embedded (2 ∷ 1 ∷ 3 ∷ 0 ∷ []) ≡ 1 ∷ 3 ∷ []
 behind_order_read = refl
 
--- beside the order alone neither the paragraph's level nor the levels are read
+-- if only the order is compared, neither the paragraph's level nor the levels are read
 pub order_alone_levels_read : (compared : Positions) (claimed : List (Option ℕ)) → levels_read parts.OrderAlone compared embedded claimed ≡ embedded
 order_alone_levels_read compared claimed = refl
 

@@ -13,7 +13,7 @@ use Rattle.report.specs.declared.wrong_case.Item.TheVariants.{Ended, Removed, Le
 use Rattle.report.specs.declared.wrong_case.WrongCase.{WrongCase}
 use Rattle.report.specs.FileReports.{FileReport}
 
--- what stands at a place: a level or a position, `x` where the position is removed, `nothing` where the list has ended
+-- the item at a place: a level or a position, `x` if the position is removed, `nothing` if the list has ended
 abbrev pub item_text : Item → List ℕ
 item_text Ended = codes "nothing"
 item_text Removed = codes "x"
@@ -50,12 +50,12 @@ parts_text t =
     concat (codes "wrong by place: paragraph level " ∷ decimal t.by_part.para_level ∷ codes ", levels " ∷ decimal t.by_part.levels
     ∷ codes ", order " ∷ decimal t.by_part.order ∷ codes "\n" ∷ [])
 
--- the first malformed line, if there is one, as the verdict says it that it gives
+-- the first malformed line, if there is one, in the words of the verdict
 abbrev pub malformed_text : Option (ℕ × Cause) → List ℕ
 malformed_text None = []
 malformed_text (Some m) = verdict_text (Malformed m.0 m.1)
 
--- what stands behind the wrong cases
+-- the text after the wrong cases
 abbrev pub foot_text : Option (ℕ × Cause) → Tally → List ℕ
 foot_text malformed t = malformed_text malformed ++ totals_text t ++ directions_text t ++ parts_text t
 
@@ -63,10 +63,10 @@ foot_text malformed t = malformed_text malformed ++ totals_text t ++ directions_
 abbrev pub wrong_cases_text : List WrongCase → List ℕ
 wrong_cases_text ws = flat_map wrong_case_text ws
 
--- the lines of the first of these wrong cases, at most so many
+-- the lines of the first of these wrong cases, at most `most`
 abbrev pub first_cases_text : ℕ → List WrongCase → List ℕ
 first_cases_text most ws = wrong_cases_text (take most ws)
 
--- the text of a report: its first wrong cases, at most so many, and its foot
+-- the text of a report: its first wrong cases, at most `most`, and its foot
 abbrev pub report_text : ℕ → FileReport → List ℕ
 report_text most report = first_cases_text most report.wrong ++ foot_text report.malformed report.tally

@@ -1,4 +1,4 @@
--- What a report keeps from line to line, and the bytes that it stands for.
+-- What a report stores from line to line, and the bytes that it represents.
 use Rattle.std.specs.Borrow.{Bor}
 use Rattle.std.specs.Prelude.{◌≡◌, Option, Some, None, ℕ, List, [], ◌++◌, length, ⊤}
 use Rattle.units.specs.LineCutting.{Cutting, StandsFor}
@@ -19,8 +19,8 @@ use Rattle.report.specs.FileReports.{FileReport, report_of, first_malformed}
 use Rattle.report.specs.Tallies.{tally_of, nothing_counted, with_row}
 use Rattle.report.specs.WrongCases.{wrong_cases_in, wrong_cases_from}
 
--- what is kept from line to line: the terms, what the reader of lines holds, the counts, and the wrong cases of the
--- line that was read last
+-- what is stored from line to line: the terms, the state of the line reader, the counts, and the wrong cases of the
+-- last line
 pub record LineReporting : Type 0 where
   pub terms : Terms
   pub reading : LineReading
@@ -34,52 +34,52 @@ pub record IsAtStart (terms : Terms) (s : LineReporting) : Type 0 where
   pub tally : s.tally ≡ nothing_counted
   pub found : s.found ≡ []
 
--- the same with no case found
+-- the same without wrong cases
 abbrev pub forgotten : LineReporting → LineReporting
 forgotten s = record { terms = s.terms; reading = s.reading; tally = s.tally; found = [] }
 
--- why a line is malformed that comes to this, if it is
+-- why a line with this finding is malformed, if it is
 abbrev pub cause_of : Finding → Option Cause
 cause_of Silent = None
 cause_of (Faulty cause) = Some cause
 cause_of (Row claim) = None
 
--- the counts behind a line that comes to this, of whose cases these are wrong
+-- the counts after a line with this finding and these wrong cases
 abbrev pub tally_behind : Finding → List WrongCase → Tally → Tally
 tally_behind Silent ws t = t
 tally_behind (Faulty cause) ws t = t
 tally_behind (Row claim) ws t = with_row (length claim.directions) ws t
 
--- what is kept behind the line of this number, which is not malformed
+-- what is stored after the line with this number, which is not malformed
 pub record IsAfterLine (kind : Kind) (number : ℕ) (line : List ℕ) (before after : LineReporting) : Type 0 where
   pub terms : after.terms ≡ before.terms
   pub lists : IsBehindLine kind line before.reading after.reading
   pub found : after.found ≡ wrong_cases_in before.terms number (finding_behind kind before.reading line)
   pub tally : after.tally ≡ tally_behind (finding_behind kind before.reading line) after.found before.tally
 
--- nothing more was found or counted
+-- no more wrong cases or counts
 pub record HasNothingNew (before after : LineReporting) : Type 0 where
   pub found : after.found ≡ []
   pub tally : after.tally ≡ before.tally
 
--- the line of this number, with its cause, if it is malformed
+-- the line with this number and its cause, if it is malformed
 abbrev pub malformed_at : ℕ → Option Cause → Option (ℕ × Cause)
 malformed_at number None = None
 malformed_at number (Some cause) = Some (number, cause)
 
--- the malformed line that a cut of the cutter ends, if it ends one
+-- the malformed line that a cut of the line splitter ends, if it ends one
 abbrev pub malformed_by : Kind → LineReporting → Cut → Option (ℕ × Cause)
 malformed_by kind s More = None
 malformed_by kind s (Line number text) = malformed_at number (cause_of (finding_behind kind s.reading text.now))
 malformed_by kind s (TooLong number) = Some (number, LineTooLong)
 
--- what is kept behind a cut that ends no malformed line
+-- what is stored after a cut that ends no malformed line
 abbrev pub IsAfterCut : Kind → Cut → LineReporting → LineReporting → Type 0
 IsAfterCut kind More before after = after ≡ before
 IsAfterCut kind (Line number text) before after = IsAfterLine kind number text.now before after
 IsAfterCut kind (TooLong number) before after = ⊤
 
--- this is kept behind these lines, none of which is malformed, and these are all of their wrong cases
+-- this is stored after these lines; none of them is malformed, and these are all of their wrong cases
 pub record IsReportBehind (terms : Terms) (kind : Kind) (s : LineReporting) (told : List WrongCase) (lines : List (List ℕ)) : Type 0 where
   pub under : s.terms ≡ terms
   pub sound : first_malformed 0 (findings_by kind lines) ≡ None
@@ -87,7 +87,7 @@ pub record IsReportBehind (terms : Terms) (kind : Kind) (s : LineReporting) (tol
   pub tally : s.tally ≡ tally_of terms (findings_by kind lines)
   pub cases : told ≡ wrong_cases_from terms 0 (findings_by kind lines)
 
--- what a report keeps: the kind of its file, where its cutter stands in a line, what is kept between lines, and the
+-- what a report stores: the kind of its file, the state of its line splitter, what it stores between lines, and the
 -- malformed line at which it has ended
 pub record Reporting : Type 0 where
   pub kind : Kind
@@ -95,7 +95,7 @@ pub record Reporting : Type 0 where
   pub lines : LineReporting
   pub malformed : Option (ℕ × Cause)
 
--- no line that has ended is malformed
+-- no complete line is malformed
 pub record GoesOn (terms : Terms) (kind : Kind) (cutting : Cutting) (s : LineReporting) (told : List WrongCase) (bytes : List ℕ) : Type 0 where
   pub cutter : StandsFor cutting bytes
   pub lines : List (List ℕ)
@@ -103,35 +103,36 @@ pub record GoesOn (terms : Terms) (kind : Kind) (cutting : Cutting) (s : LineRep
   pub cut : CutsInto bytes lines rest
   pub behind : IsReportBehind terms kind s told lines
 
--- what holds of the bytes that were handed over and of the wrong cases that were told: with no malformed line those are
--- of the lines so far, else each file that begins so has this report
+-- what holds of the bytes that were given and the wrong cases that were reported: without a malformed line the cases
+-- are those of the lines so far; with one, each file that begins with these bytes has this report
 abbrev pub ReportsBy : Terms → Kind → Option (ℕ × Cause) → Cutting → LineReporting → List WrongCase → List ℕ → Type 0
 ReportsBy terms kind None cutting s told bytes = GoesOn terms kind cutting s told bytes
 ReportsBy terms kind (Some malformed) cutting s told bytes =
     (more : List ℕ) → report_of terms kind (bytes ++ more) ≡ record { wrong = told; tally = s.tally; malformed = Some malformed }
 
--- the report is on a file of this kind by these terms, was handed these bytes in any pieces, and told these wrong cases
+-- the report is on a file of this kind with these terms, was given these bytes in any pieces, and reported these wrong
+-- cases
 pub record Reports (terms : Terms) (kind : Kind) (report : Reporting) (told : List WrongCase) (bytes : List ℕ) : Type 0 where
   pub of : report.kind ≡ kind
   pub is : ReportsBy terms kind report.malformed report.cutting report.lines told bytes
 
--- the malformed line that the end of a file ends, if one has begun
+-- the malformed line that the end of a file ends, if it ends one
 abbrev pub malformed_last : Kind → LineReporting → Option (ℕ × Bor (List ℕ)) → Option (ℕ × Cause)
 malformed_last kind s None = None
 malformed_last kind s (Some last) = malformed_at last.0 (cause_of (finding_behind kind s.reading last.1.now))
 
--- what is kept behind the end of a file, if that ends no malformed line
+-- what is stored after the end of a file, if it ends no malformed line
 abbrev pub IsAfterLast : Kind → Option (ℕ × Bor (List ℕ)) → LineReporting → LineReporting → Type 0
 IsAfterLast kind None before after = after ≡ before
 IsAfterLast kind (Some last) before after = IsAfterLine kind last.0 last.1.now before after
 
--- what a report has come to at the end of its file: the wrong cases of a last line without line feed, the counts, and
--- the first malformed line
+-- the rest of a report at the end of its file: the wrong cases of a last line without line feed, the counts, and the
+-- first malformed line
 pub record EndedReport : Type 0 where
   pub found : List WrongCase
   pub tally : Tally
   pub malformed : Option (ℕ × Cause)
 
--- the report on the whole file, of which these wrong cases were told before its end
+-- the report on the whole file, if these wrong cases were reported before its end
 abbrev pub report_at_end : List WrongCase → EndedReport → FileReport
 report_at_end told e = record { wrong = told ++ e.found; tally = e.tally; malformed = e.malformed }

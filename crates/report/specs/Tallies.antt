@@ -18,7 +18,7 @@ use Rattle.report.specs.declared.tally.Tally.{Tally}
 use Rattle.report.specs.ReadClaims.{place_under}
 use Rattle.report.specs.WrongCases.{wrong_cases_from}
 
--- the directions are one
+-- the directions are the same
 abbrev pub same_direction : Direction → Direction → Bool
 same_direction Auto Auto = true
 same_direction Ltr Ltr = true
@@ -26,24 +26,24 @@ same_direction Rtl Rtl = true
 same_direction AutoRtl AutoRtl = true
 same_direction _ _ = false
 
--- it is wrong under the direction
+-- the case is wrong under the direction
 abbrev pub is_under : Direction → WrongCase → Bool
 is_under d w = same_direction w.direction d
 
--- what a place is one of
+-- the part of a row's expected values that a place belongs to
 abbrev pub part_of : Place → Part
 part_of AtParaLevel = ParaLevel
 part_of (AtLevels i) = Levels
 part_of (AtOrder i) = Order
 
--- the parts are one
+-- the parts are the same
 abbrev pub same_part : Part → Part → Bool
 same_part ParaLevel ParaLevel = true
 same_part Levels Levels = true
 same_part Order Order = true
 same_part _ _ = false
 
--- this part of its claim differs first
+-- the first difference is in this part
 abbrev pub is_of : Part → WrongCase → Bool
 is_of part w = same_part (part_of w.place) part
 
@@ -53,11 +53,11 @@ is_wrong_row terms Silent = false
 is_wrong_row terms (Faulty cause) = false
 is_wrong_row terms (Row claim) = list_any (λ d. is_some (place_under terms claim d)) claim.directions
 
--- how many of these hold it, counted up to 2^64 - 1
+-- how many of these cases satisfy the predicate, counted up to 2^64 - 1
 abbrev pub counted_by : (WrongCase → Bool) → List WrongCase → ℕ
 counted_by holds ws = saturated (count_by holds ws)
 
--- how many of these there are under each direction
+-- how many of these cases are under each direction
 abbrev pub tally_by_direction : List WrongCase → ByDirection
 tally_by_direction ws = record {
   auto = counted_by (is_under Auto) ws;
@@ -66,7 +66,7 @@ tally_by_direction ws = record {
   auto_rtl = counted_by (is_under AutoRtl) ws;
 }
 
--- how many of these there are by what differs first
+-- how many of these cases there are by what differs first
 abbrev pub tally_by_part : List WrongCase → ByPart
 tally_by_part ws = record {
   para_level = counted_by (is_of ParaLevel) ws;
@@ -74,7 +74,7 @@ tally_by_part ws = record {
   order = counted_by (is_of Order) ws;
 }
 
--- the counts of these lines, none of which is malformed
+-- the counts of these lines without a malformed one
 abbrev pub tally_of : Terms → List Finding → Tally
 tally_of terms fs = record {
   rows = rows_in fs;
@@ -96,7 +96,7 @@ nothing_counted = record {
   by_part = record { para_level = 0; levels = 0; order = 0 };
 }
 
--- with these counted too
+-- the counts with these wrong cases added
 abbrev pub more_by_direction : List WrongCase → ByDirection → ByDirection
 more_by_direction ws t = record {
   auto = saturated (t.auto + count_by (is_under Auto) ws);
@@ -112,7 +112,7 @@ more_by_part ws t = record {
   order = saturated (t.order + count_by (is_of Order) ws);
 }
 
--- with a row counted that has so many cases, of which these are wrong
+-- the counts with one row added that has so many cases, these of them wrong
 abbrev pub with_row : ℕ → List WrongCase → Tally → Tally
 with_row cases ws t = record {
   rows = saturated (t.rows + 1);

@@ -1,4 +1,4 @@
--- The wrong cases of a test file, each with what it claims and what is defined.
+-- The wrong cases of a test file, each with its expected and its defined item.
 use Rattle.std.specs.Prelude.{Option, Some, None, ℕ, ◌+◌, List, [], ◌∷◌, ◌++◌}
 use Rattle.std.specs.List.{slice_get, flat_map}
 use Rattle.std.specs.Option.{option_map, option_to_list}
@@ -16,13 +16,13 @@ use Rattle.report.specs.declared.wrong_case.Item.TheVariants.{Ended, Removed, Le
 use Rattle.report.specs.declared.wrong_case.WrongCase.{WrongCase}
 use Rattle.report.specs.ReadClaims.{place_in, read_claim}
 
--- what stands at an index of a list of levels
+-- the item at an index of a list of levels
 abbrev pub level_item : Option (Option ℕ) → Item
 level_item None = Ended
 level_item (Some None) = Removed
 level_item (Some (Some level)) = Level level
 
--- what stands at an index of an order
+-- the item at an index of an order
 abbrev pub position_item : Option ℕ → Item
 position_item None = Ended
 position_item (Some position) = Position position
@@ -32,19 +32,19 @@ abbrev pub para_item : Option ℕ → Item
 para_item None = Ended
 para_item (Some level) = Level level
 
--- what is claimed at a place
+-- the expected item at a place
 abbrev pub claimed_at : Claim → Place → Item
 claimed_at claim ParaLevel = para_item claim.para_level
 claimed_at claim (Levels i) = level_item (slice_get claim.levels i)
 claimed_at claim (Order i) = position_item (slice_get claim.order i)
 
--- what a layout has at a place
+-- the item of a layout at a place
 abbrev pub defined_at : TextLayout → Place → Item
 defined_at layout ParaLevel = para_item (slice_get layout.paras 0)
 defined_at layout (Levels i) = level_item (slice_get layout.levels i)
 defined_at layout (Order i) = position_item (slice_get (all_orders layout) i)
 
--- a claim of the line of this number that differs at this place from the layout under the direction
+-- the wrong case of a row on the line with this number, whose expected values differ from the layout at this place
 abbrev pub wrong_case_at : ℕ → Claim → Direction → TextLayout → Place → WrongCase
 wrong_case_at number claim d layout place = record {
   line = number;
@@ -54,13 +54,13 @@ wrong_case_at number claim d layout place = record {
   defined = defined_at layout place;
 }
 
--- the case of a row under the direction, if its claim, as it is read, differs from this layout
+-- the wrong case of a row under the direction, if its expected values, as they are read, differ from this layout
 abbrev pub wrong_case_in : Leniency → ℕ → Claim → Direction → TextLayout → Option WrongCase
 wrong_case_in leniency number claim d layout =
     let read = read_claim leniency layout claim in
     option_map (wrong_case_at number read d layout) (place_in layout read)
 
--- the same of the layout under the direction
+-- the same for the layout under the direction
 abbrev pub wrong_case_under : Terms → ℕ → Claim → Direction → Option WrongCase
 wrong_case_under terms number claim d = wrong_case_in terms.leniency number claim d (layout_under terms.limits claim d)
 
@@ -68,18 +68,18 @@ wrong_case_under terms number claim d = wrong_case_in terms.leniency number clai
 abbrev pub wrong_cases_under : Terms → ℕ → Claim → List Direction → List WrongCase
 wrong_cases_under terms number claim ds = flat_map (λ d. option_to_list (wrong_case_under terms number claim d)) ds
 
--- the wrong cases of the line of this number
+-- the wrong cases of the line with this number
 abbrev pub wrong_cases_in : Terms → ℕ → Finding → List WrongCase
 wrong_cases_in terms number Silent = []
 wrong_cases_in terms number (Faulty cause) = []
 wrong_cases_in terms number (Row claim) = wrong_cases_under terms number claim claim.directions
 
--- the wrong cases of these lines, where k lines stand before them
+-- the wrong cases of these lines, if k lines are before them
 abbrev pub wrong_cases_from : Terms → ℕ → List Finding → List WrongCase
 wrong_cases_from terms k [] = []
 wrong_cases_from terms k (f ∷ fs) = wrong_cases_in terms (line_number k) f ++ wrong_cases_from terms (k + 1) fs
 
--- the lines before the first one that is malformed: what stands behind it may rest on what it was to say
+-- the lines before the first malformed one: later lines may depend on what it was to say
 abbrev pub sound_lines : List Finding → List Finding
 sound_lines [] = []
 sound_lines (Faulty cause ∷ fs) = []

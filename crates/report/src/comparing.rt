@@ -1,4 +1,4 @@
-// Claims, as they are read, compared with layouts.
+// Compares the expected values of rows with layouts.
 ghost use Rattle.std.specs.Prelude.{◌≡◌, ◌&&◌, nat_eq, not, MatchOption};
 ghost use Rattle.units.specs.Layout.{all_orders};
 ghost use Rattle.units.specs.Positions.{same_position};
@@ -19,14 +19,14 @@ use bidtests::verdict::Place;
 use lines::layout::Layout;
 use units::level::Level;
 
-/// Whether the level that is claimed of a position is another one than it has, and compared.
+/// Returns whether the expected level of a position differs from its level and is compared.
 fn is_other(compared: Positions, claimed: Option<Level>, defined: Option<Level>) -> bool
     ensures { result ≡ is_compared compared defined && not (same_position claimed defined) }
 {
     compared.has(defined) && claimed != defined
 }
 
-/// The first index at which the lists differ, of the positions that are compared, or one of them ends.
+/// Returns the first index where a compared level differs or one of the lists ends.
 fn differing_level(
     compared: Positions,
     claimed: &[Option<Level>],
@@ -48,8 +48,8 @@ fn differing_level(
     }
 }
 
-/// The first index of the line's order at which what is left of the claimed one differs or ends; what stands behind it
-/// is left.
+/// Returns the first index of the line's order where the rest of the expected one differs or ends. Positions after the
+/// line remain in the rest.
 fn differing_position(claimed: &mut ReadOrder<'_>, line: &[usize]) -> Option<usize>
     ensures { MatchOption result (PassesLine line.now (order_left claimed.old) (order_left claimed.new))
         (DiffersAt (order_left claimed.old) line.now) }
@@ -62,8 +62,8 @@ fn differing_position(claimed: &mut ReadOrder<'_>, line: &[usize]) -> Option<usi
     None
 }
 
-/// The first index at which the claimed order, as it is read, and the orders of all lines, joined, differ or one of
-/// them ends.
+/// Returns the first index where the expected order, as it is read, differs from the joined orders of all lines or one
+/// of them ends.
 fn differing_order(compared: Positions, claimed: &[usize], layout: &Layout<'_>) -> Option<usize>
     ensures { result ≡ first_difference nat_eq
         (order_read compared (view_of layout.now).levels claimed.now) (all_orders (view_of layout.now)) 0 }
@@ -80,7 +80,7 @@ fn differing_order(compared: Positions, claimed: &[usize], layout: &Layout<'_>) 
     left.next().map(|_| at)
 }
 
-/// The first place of the claimed order, as it is read, at which it differs from the layout.
+/// Returns the first place in the expected order, as it is read, where it differs from the layout.
 fn wrong_order(compared: Positions, claim: Claim<'_>, layout: &Layout<'_>) -> Option<Place>
     ensures { result ≡ placed_in Order (first_difference nat_eq
         (order_read compared (view_of layout.now).levels claim.entry.order.now) (all_orders (view_of layout.now)) 0) }
@@ -88,7 +88,7 @@ fn wrong_order(compared: Positions, claim: Claim<'_>, layout: &Layout<'_>) -> Op
     differing_order(compared, claim.order, layout).map(Place::Order)
 }
 
-/// The first place at which the claim differs from the layout, if all of its parts are compared.
+/// Returns the first place where the expected values differ from the layout, if all parts are compared.
 fn wrong_part(compared: Positions, claim: Claim<'_>, layout: &Layout<'_>) -> Option<Place>
     ensures { result ≡ place_in (view_of layout.now)
         (read_claim (all_parts_at compared) (view_of layout.now) (claim_of claim.entry)) }
@@ -102,7 +102,7 @@ fn wrong_part(compared: Positions, claim: Claim<'_>, layout: &Layout<'_>) -> Opt
     }
 }
 
-/// The first place at which the claim, as it is read, differs from the layout.
+/// Returns the first place where the expected values, as they are read, differ from the layout.
 pub fn wrong_place(leniency: Leniency, claim: Claim<'_>, layout: &Layout<'_>) -> Option<Place>
     ensures { result
         ≡ place_in (view_of layout.now) (read_claim leniency (view_of layout.now) (claim_of claim.entry)) }

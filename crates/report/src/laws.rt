@@ -1,18 +1,21 @@
-//! The laws of reports.
+//! The theorems about reports.
 ghost use Rattle.std.specs.Prelude.{ℕ, List};
 ghost use Rattle.units.specs.Limits.{LimitsOf};
 ghost use Rattle.bidtests.specs.declared.kind.Kind.{Kind};
 ghost use Rattle.report.specs.declared.terms.Terms.{Terms as TermsOf};
 ghost use Rattle.report.specs.FileReports.{AmountsToVerdict, HoldsWrongCases};
 
-/// What the report on a file says, for each choice of terms.
+/// States what the report on a file contains, for each choice of terms.
 ///
-/// `cases`: it holds a wrong case exactly if that stands on a line that is a row, before which and at which no line is
-/// malformed, under a direction that the row names, at the first of the paragraph's level, the levels and the order at
-/// which its claim, as it is read by these terms, differs from the layout of its text by the rules P1 to L2, with what
-/// is claimed and defined there. `verdict`: by strict terms the verdict is wrong with the line, the direction and the
-/// place of its first wrong case, or, where it has none, malformed with its malformed line, or, where it has none of
-/// these either, yes with its numbers of rows and cases.
+/// `cases`: it contains a wrong case if and only if all of these hold. The line of the case is a row, and neither it
+/// nor a line before it is malformed. The row names the direction of the case. The place of the case is the first where
+/// the row's expected values, as these terms read them, differ from the layout of its text by the rules P1 to L2: the
+/// paragraph's level is compared first, then the levels, then the order. The case has the expected and the defined item
+/// of this place.
+///
+/// `verdict`: with strict terms the verdict follows from the report. It is wrong, with the line, the direction and the
+/// place of the first wrong case, if there is one. Else it is malformed, with the malformed line, if there is one. Else
+/// it is yes, with the numbers of rows and cases.
 pub fn report_law()
     ensures cases { (terms : TermsOf) (kind : Kind) (b : List ℕ) → HoldsWrongCases terms kind b }
     ensures verdict { (limits : LimitsOf) (kind : Kind) (b : List ℕ) → AmountsToVerdict limits kind b }

@@ -1,8 +1,8 @@
-//! A report on a test file: all of its wrong cases, with what each claims and what is defined, and their counts.
+//! A report on a test file: all of its wrong cases, each with what is expected and what is defined, and their counts.
 //!
-//! The judge stops at the first wrong case. Whoever mends an engine wants the others too: a report goes on behind a
-//! wrong row, up to the end of the file or the first line that is malformed. It reads lines by the grammar of the
-//! judge, takes its room when it is made, and no memory after that.
+//! A judge stops at the first wrong case. Whoever repairs an engine wants the others too, so a report goes on after a
+//! wrong row, up to the end of the file or the first malformed line. It reads lines by the judge's grammar. It takes
+//! its memory when it is made, and none after that.
 #![tactic(auto)]
 
 mod comparing;

@@ -1,4 +1,4 @@
-// Lines reported on, one behind the other.
+// Reports on lines, one after the other.
 ghost use Rattle.std.specs.Prelude.{◌≡◌, ◌≤◌, [], IfOk, OnErr, OnOk, length, vec_capacity};
 ghost use Rattle.std.specs.Result.{result_err};
 ghost use Rattle.units.specs.Text.{longest_line};
@@ -17,11 +17,11 @@ use std::alloc::Global;
 use std::marker::Model;
 use units::memory::Memory;
 
-/// The wrong cases that a row can have: one for each direction.
+/// The maximum number of wrong cases of a row: one for each direction.
 const MOST_FOUND: usize = 4;
 
-/// Reports on lines, one behind the other: the terms and the room for layouts, what reads the lines, the counts, and
-/// the wrong cases of the line that was read last.
+/// Reports on lines, one after the other. It stores the terms, the `Scratch` for layouts, the line reader, the counts,
+/// and the wrong cases of the last line.
 #[derive(Drop)]
 pub struct LineReport {
     terms: Terms,
@@ -50,7 +50,7 @@ impl Model for LineReport {
     ghost invariant = { λ s. (room_of s.scratch ≡ MOST_UNITS) × (MOST_FOUND ≤ vec_capacity s.found) };
 }
 
-// A list without cases, with room for those of a row.
+// Returns an empty list with capacity for the wrong cases of a row.
 fn list(alloc: Global) -> Result<Vec<WrongCase>, Memory>
     ensures none { IfOk result (λ list. list.items ≡ []) }
     ensures room { IfOk result (λ list. MOST_FOUND ≤ vec_capacity list) }
@@ -62,7 +62,7 @@ impl LineReport {
     ghost use Rattle.bidtests.specs.LineReadings.{finding_behind};
     ghost use Rattle.report.specs.Reporting.{IsAtStart, IsAfterLine, HasNothingNew, cause_of, forgotten};
 
-    /// Before the first line.
+    /// Makes a report before its first line. Fails with `Memory`.
     pub fn new(alloc: Global, terms: Terms) -> Result<Self, Memory>
         ensures { IfOk result (IsAtStart terms) }
     {
@@ -78,29 +78,29 @@ impl LineReport {
         })
     }
 
-    /// The wrong cases of the line that was read last.
+    /// Returns the wrong cases of the last line.
     pub fn found(&self) -> &[WrongCase]
         ensures { result.now ≡ self.now.found }
     {
         &self.found
     }
 
-    /// The counts.
+    /// Returns the counts.
     pub fn tally(&self) -> Tally
         ensures { result ≡ self.now.tally }
     {
         self.tally
     }
 
-    /// Forgets the wrong cases of the line that was read last.
+    /// Forgets the wrong cases of the last line.
     pub fn forget(&mut self)
         ensures { self.new ≡ forgotten self.old }
     {
         self.found.clear();
     }
 
-    /// Reports on the line of this number of a file of this kind, by what the lines before it said: finds its wrong
-    /// cases, and counts. The error is the cause for which it is malformed.
+    /// Reports on the line with this number of a file of this kind, after the lines before it: finds its wrong cases,
+    /// and counts them. Fails with the cause if the line is malformed.
     pub fn report_line(&mut self, kind: Kind<'_>, number: u64, line: &[u8]) -> Result<(), Cause>
         requires short { length line.now ≤ longest_line }
         requires none { self.old.found ≡ [] }

@@ -1,4 +1,4 @@
-//! A report printed as its file is read.
+//! Prints a report while its file is read.
 ghost use Rattle.std.specs.Prelude.{◌≡◌, ◌≢◌, ℕ, List, IfOk, IfErr, OnOk};
 ghost use Rattle.std.specs.Io.KnownBytes.{Appends};
 ghost use Rattle.report.specs.declared.wrong_case.WrongCase.{WrongCase as Told};
@@ -50,7 +50,7 @@ fn print_cases<W: Write>(w: &mut W, cases: &[WrongCase]) -> io::Result<()>
     Ok(())
 }
 
-/// Writes the lines of the first of these wrong cases, at most `most`, and answers how many more may follow.
+/// Writes the lines of the first of these wrong cases, at most `most`. Returns how many more may follow.
 fn print_first<W: Write>(w: &mut W, cases: &[WrongCase], most: u64) -> io::Result<u64>
     ensures { IfOk result (HasWrittenFirst most cases.now (W.contents w.old) (W.contents w.new)) }
 {
@@ -59,8 +59,8 @@ fn print_first<W: Write>(w: &mut W, cases: &[WrongCase], most: u64) -> io::Resul
     Ok(most - count)
 }
 
-/// Hands the next bytes of the file to the report, and writes the lines of the first wrong cases that it tells, at most
-/// `most`. Answers how many more may follow.
+/// Passes the next bytes of the file to the report, and writes the lines of the first wrong cases that it reports, at
+/// most `most`. Returns how many more may follow.
 fn print_piece<W: Write>(
     w: &mut W,
     report: &mut Report<'_>,
@@ -96,8 +96,8 @@ fn read_on<S: ByteSource>(source: &mut S) -> ReportFault
     }
 }
 
-/// Returns the fault of a report of which a write failed with this error. Reads the source to its end, as `read_on`
-/// does, only if somebody may still read what is written.
+/// Returns the fault of a report if a write failed with this error. Reads the source to its end, as `read_on` does,
+/// unless nobody reads what is written any more.
 fn end_unwritten<S: ByteSource>(error: io::Error, source: &mut S) -> ReportFault
     ensures unread { error_kind error ≡ BrokenPipe → (result ≡ ReportFault.NobodyReads) × (source.new ≡ source.old) }
     ensures write { error_kind error ≢ BrokenPipe → (given : List ℕ) × S.gives source.old given source.new
@@ -109,8 +109,8 @@ fn end_unwritten<S: ByteSource>(error: io::Error, source: &mut S) -> ReportFault
     }
 }
 
-/// Reads the source to its end, hands the report what it gives, and writes the lines of the first wrong cases that the
-/// report tells, at most `most`. Answers how many more may follow.
+/// Reads the source to its end, passes its bytes to the report, and writes the lines of the first wrong cases that it
+/// reports, at most `most`. Returns how many more may follow.
 fn print_source<S: ByteSource, W: Write>(
     w: &mut W,
     report: &mut Report<'_>,
@@ -140,8 +140,8 @@ fn print_source<S: ByteSource, W: Write>(
     }
 }
 
-/// Writes what an ended report still has to tell: the lines of the first of its wrong cases, at most `most`, and then
-/// the foot. Answers whether the file is right.
+/// Writes the rest of an ended report: the lines of the first of its wrong cases, at most `most`, and then the foot.
+/// Returns whether the file is right.
 fn print_end<W: Write>(w: &mut W, ended: &Ended, most: u64) -> Result<bool, ReportFault>
     ensures printed { IfOk result (PrintsEnd most ended.now (W.contents w.old) (W.contents w.new)) }
     ensures fault { IfErr result IsWriteFault }
@@ -151,15 +151,17 @@ fn print_end<W: Write>(w: &mut W, ended: &Ended, most: u64) -> Result<bool, Repo
     Ok(ended.is_right())
 }
 
-/// Reads the source to its end and writes the report on what it handed out, the whole file as which the report was
-/// begun: a line for each of the first wrong cases, at most `most`, each as soon as its line is read, and then the foot
-/// (`report_text`). Answers whether the file is right: no line is malformed, and no case wrong.
+/// Reads the source to its end and writes the report on its bytes: a line for each of the first wrong cases, at most
+/// `most`, and then the foot (`report_text`). Each wrong case is written as soon as its line is read. The report must
+/// be a new one, so that the source is the whole file. Returns whether the file is right: no line is malformed, and no
+/// case wrong.
 ///
-/// It reads on behind a malformed line, 4,096 bytes at a time, and takes no memory. Fails with
-/// `Read` if the source has failed, and else with `Write` if a write failed. So the source is read to its end after a
-/// failed write, and nothing more is written. `Read` says whether a write failed before. If none did, the lines of the
-/// wrong cases on the lines that have ended are written. Fails at once with `NobodyReads` if a write fails with
-/// `ErrorKind::BrokenPipe`; the source is not read further.
+/// It reads on after a malformed line. It reads 4,096 bytes at a time, and takes no memory.
+///
+/// Fails with `Read` if the source has failed, and else with `Write` if a write failed. So the source is read to its
+/// end after a failed write, and nothing more is written. `Read` says whether a write failed before. If none did, the
+/// lines of the wrong cases on the lines that have ended are written. Fails at once with `NobodyReads` if a write fails
+/// with `ErrorKind::BrokenPipe`; the source is not read further.
 pub fn print_report<S: ByteSource, W: Write>(
     w: &mut W,
     mut report: Report<'_>,

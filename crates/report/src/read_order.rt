@@ -1,4 +1,4 @@
-// A claimed order as it is read.
+// An expected order as it is read.
 ghost use Rattle.std.specs.Prelude.{◌≡◌};
 ghost use Rattle.std.specs.List.{position};
 ghost use Rattle.report.specs.ReadClaims.{is_read as is_read_by, order_read};
@@ -6,7 +6,7 @@ ghost use Rattle.report.specs.ReadClaims.{is_read as is_read_by, order_read};
 use crate::terms::Positions;
 use units::level::Level;
 
-/// What is left of a claimed order: of the positions that are compared.
+/// The rest of an expected order, without the positions that are not compared.
 #[derive(Drop)]
 pub struct ReadOrder<'a> {
     compared: Positions,
@@ -14,7 +14,7 @@ pub struct ReadOrder<'a> {
     order: &'a [usize],
 }
 
-/// Whether the position of a text of these levels is read.
+/// Returns whether a position of a text with these levels is read.
 fn is_read(compared: Positions, levels: &[Option<Level>], position: usize) -> bool
     ensures { result ≡ is_read_by compared levels.now position }
 {
@@ -24,7 +24,7 @@ fn is_read(compared: Positions, levels: &[Option<Level>], position: usize) -> bo
     }
 }
 
-/// Where the first position stands that is read.
+/// Returns the index of the first position that is read.
 fn first_read(compared: Positions, levels: &[Option<Level>], order: &[usize]) -> Option<usize>
     ensures { result ≡ position (is_read_by compared levels.now) order.now }
 {
@@ -34,7 +34,7 @@ fn first_read(compared: Positions, levels: &[Option<Level>], order: &[usize]) ->
 impl<'a> ReadOrder<'a> {
     ghost use Rattle.report.specs.Comparing.{order_left};
 
-    /// The order that is claimed of a text of these levels.
+    /// Makes the expected order of a text with these levels, as it is read.
     pub fn new(
         compared: Positions,
         levels: &'a [Option<Level>],

@@ -17,9 +17,9 @@ use std::marker::Model;
 use units::memory::Memory;
 
 /// Reports on the bytes of a test file, in whatever pieces they come: its wrong cases, line by line, and their counts.
-/// It holds one line, one row's text, the lists in force and the wrong cases of one row, and ends at the first
-/// malformed line. Contracts say by which terms it reports, which bytes it stands for (those that were handed over,
-/// joined), and which wrong cases it has told.
+/// It stores one line, one row's text, the lists in force and the wrong cases of one row. It ends at the first
+/// malformed line. Contracts name its terms, the bytes that it was given (its pieces, joined), and the wrong cases that
+/// it has reported.
 #[derive(Drop)]
 pub struct Report<'t> {
     kind: Kind<'t>,
@@ -36,8 +36,8 @@ impl<'t> Model for Report<'t> {
 }
 
 impl<'t> Report<'t> {
-    /// A report on a file of this kind, before its first byte, by these terms. All memory is taken
-    /// here: `Memory` is answered where some of it was refused.
+    /// Makes a report on a file of this kind, before its first byte, with these terms. It takes all of its memory here.
+    /// Fails with `Memory`.
     pub fn new(alloc: Global, kind: Kind<'t>, terms: Terms) -> Result<Report<'t>, Memory>
         ensures stands { IfOk result (λ report. Reports terms kind.entry report [] []) }
         ensures none { IfOk result (λ report. report.lines.found ≡ []) }
@@ -46,8 +46,8 @@ impl<'t> Report<'t> {
         Ok(Report { kind, state })
     }
 
-    /// Takes the next bytes of the file, through the end of a line at most, and answers how many: call it until the
-    /// piece is used up, and look at `found` each time. Where pieces begin and end changes nothing. Behind a malformed
+    /// Takes the next bytes of the file, through the end of a line at most, and returns how many. Call it until the
+    /// piece is used up, and look at `found` each time. Where pieces begin and end changes nothing. After a malformed
     /// line further bytes change nothing. It takes no memory and always succeeds.
     pub fn take(&mut self, piece: &[u8]) -> usize
         ensures used { result ≤ length piece.now }
@@ -59,14 +59,14 @@ impl<'t> Report<'t> {
         self.state.take(self.kind, piece)
     }
 
-    /// The wrong cases of the line that the last bytes ended, in the order auto, LTR, RTL, AutoRtl.
+    /// Returns the wrong cases of the line that the last bytes ended, in the order auto, LTR, RTL, AutoRtl.
     pub fn found(&self) -> &[WrongCase]
         ensures { result.now ≡ self.now.lines.found }
     {
         self.state.found()
     }
 
-    /// Takes the end of the file: the line that has begun ends too. It takes no memory and always succeeds.
+    /// Takes the end of the file, which also ends the line that has begun. It takes no memory and always succeeds.
     pub fn finish(self) -> Ended
         ensures { (terms : TermsOf) (kind : FileKind) (told : List Told) (b : List ℕ)
             → Reports terms kind self.entry told b → report_of terms kind b ≡ report_at_end told result }
@@ -77,7 +77,7 @@ impl<'t> Report<'t> {
     }
 }
 
-/// What a report has come to at the end of its file.
+/// The rest of a report, at the end of its file.
 #[derive(Drop)]
 pub struct Ended {
     state: ReportState,
@@ -93,21 +93,21 @@ impl Model for Ended {
 }
 
 impl Ended {
-    /// The wrong cases of a last line that no LF ends.
+    /// Returns the wrong cases of a last line that no LF ends.
     pub fn found(&self) -> &[WrongCase]
         ensures { result.now ≡ self.now.found }
     {
         self.state.found()
     }
 
-    /// The counts of the file, up to its first malformed line.
+    /// Returns the counts of the file, up to its first malformed line.
     pub fn tally(&self) -> Tally
         ensures { result ≡ self.now.tally }
     {
         self.state.tally()
     }
 
-    /// Whether the file is right: no line is malformed, and no case wrong.
+    /// Returns whether the file is right: no line is malformed, and no case wrong.
     pub fn is_right(&self) -> bool
         ensures { (terms : TermsOf) (kind : FileKind) (told : List Told) (b : List ℕ)
             → report_of terms kind b ≡ report_at_end told self.now → result ≡ is_right (report_of terms kind b) }
@@ -115,7 +115,7 @@ impl Ended {
         self.state.tally().wrong_cases == 0 && self.state.malformed().is_none()
     }
 
-    /// The number of the first malformed line and why it is malformed, if there is one.
+    /// Returns the number of the first malformed line and why it is malformed, if there is one.
     pub fn malformed(&self) -> Option<(u64, Cause)>
         ensures { result ≡ self.now.malformed }
     {

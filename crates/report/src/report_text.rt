@@ -40,7 +40,7 @@ impl fmt::Display for PlaceWords {
     }
 }
 
-/// Writes the line of a wrong case, with its LF. The error is the writer's; how much it took before is not known then.
+/// Writes the line of a wrong case, with its LF. Fails with the writer's error; then the line may be written in part.
 pub fn print_wrong_case<W: Write>(w: &mut W, case: &WrongCase) -> io::Result<()>
     ensures { OnOk result (Appends (W.contents w.old) (W.contents w.new) (wrong_case_text case.now)) }
 {
@@ -110,8 +110,8 @@ fn print_malformed<W: Write>(w: &mut W, malformed: Option<(u64, Cause)>) -> io::
     }
 }
 
-/// Writes what stands behind the wrong cases: the first malformed line, if there is one, and the counts. The error is
-/// the writer's; how much it took before is not known then.
+/// Writes the text after the wrong cases: the first malformed line, if there is one, and the counts. Fails with the
+/// writer's error; then the text may be written in part.
 pub fn print_foot<W: Write>(
     w: &mut W,
     malformed: Option<(u64, Cause)>,

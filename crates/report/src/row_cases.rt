@@ -1,4 +1,4 @@
-// The wrong cases of a row.
+// Finds the wrong cases of a row.
 ghost use Rattle.std.specs.Prelude.{◌≡◌, ◌<◌, ◌≤◌, Some, [], ◌++◌, length, map, vec_capacity};
 ghost use Rattle.std.specs.List.{slice_get};
 ghost use Rattle.std.specs.Option.{option_map, option_to_list};
@@ -24,7 +24,7 @@ use lines::layout::Layout;
 use lines::scratch::Scratch;
 use units::level::{Direction, Level, ParaLevel};
 
-/// What stands at an index of a list of levels.
+/// Returns the item at an index of a list of levels.
 fn level_at(levels: &[Option<Level>], index: usize) -> Item
     ensures { result ≡ level_item (slice_get levels.now index) }
 {
@@ -35,7 +35,7 @@ fn level_at(levels: &[Option<Level>], index: usize) -> Item
     }
 }
 
-/// What stands at an index of what is left of an order.
+/// Returns the item at an index of the rest of an order.
 fn position_at(mut order: ReadOrder<'_>, index: usize) -> Item
     ensures { result ≡ position_item (slice_get (order_left order.entry) index) }
 {
@@ -45,7 +45,7 @@ fn position_at(mut order: ReadOrder<'_>, index: usize) -> Item
     }
 }
 
-/// The level that is claimed of the first paragraph.
+/// Returns the item of the first paragraph's expected level.
 fn claimed_level(level: Option<ParaLevel>) -> Item
     ensures { result ≡ para_item (option_map level_of_para level) }
 {
@@ -55,7 +55,7 @@ fn claimed_level(level: Option<ParaLevel>) -> Item
     }
 }
 
-/// The level of the first paragraph.
+/// Returns the item of the first paragraph's level.
 fn first_level(paras: &[ParaLevel]) -> Item
     ensures { result ≡ para_item (slice_get (map level_of_para paras.now) 0) }
 {
@@ -65,7 +65,7 @@ fn first_level(paras: &[ParaLevel]) -> Item
     }
 }
 
-/// What stands at an index of the orders of all lines, joined.
+/// Returns the item at an index of the joined orders of all lines.
 fn position_in(layout: &Layout<'_>, index: usize) -> Item
     ensures { result ≡ position_item (slice_get (all_orders (view_of layout.now)) index) }
 {
@@ -80,7 +80,7 @@ fn position_in(layout: &Layout<'_>, index: usize) -> Item
     Item::Ended
 }
 
-/// What is claimed at the first place at which the claim, as it is read, differs from the layout.
+/// Returns the expected item at the first place where the expected values, as they are read, differ from the layout.
 fn item_claimed(leniency: Leniency, claim: Claim<'_>, layout: &Layout<'_>, place: Place) -> Item
     requires { place_in (view_of layout.now) (read_claim leniency (view_of layout.now) (claim_of claim))
         ≡ Some place }
@@ -96,7 +96,7 @@ fn item_claimed(leniency: Leniency, claim: Claim<'_>, layout: &Layout<'_>, place
     }
 }
 
-/// What a layout has at a place.
+/// Returns the item of a layout at a place.
 fn item_defined(layout: &Layout<'_>, place: Place) -> Item
     ensures { result ≡ defined_at (view_of layout.now) place }
 {
@@ -107,7 +107,8 @@ fn item_defined(layout: &Layout<'_>, place: Place) -> Item
     }
 }
 
-/// The case of the claim, if it differs, as it is read, from this layout of its text under the direction.
+/// Returns the wrong case of a row, if its expected values, as they are read, differ from this layout of its text under
+/// the direction.
 fn wrong_case(
     line: u64,
     claim: Claim<'_>,
@@ -127,7 +128,7 @@ fn wrong_case(
     })
 }
 
-/// The case of the claim, if it is wrong under the direction, under which its text is laid out.
+/// Returns the wrong case of a row under the direction under which its text is laid out, if there is one.
 fn case_under(
     scratch: &Scratch,
     line: u64,
@@ -152,7 +153,7 @@ fn put<T: Copy>(list: &mut Vec<T>, item: Option<T>)
     }
 }
 
-/// Puts the wrong cases of the claim, a row of the line of this number, into the list.
+/// Writes the wrong cases of a row on the line with this number into the list.
 pub fn find_wrong_cases(
     scratch: &mut Scratch,
     line: u64,

@@ -1,4 +1,4 @@
-//! What a report has come to, apart from the tables that it borrows.
+//! The state of a report, without the tables that it borrows.
 ghost use Rattle.std.specs.Prelude.{◌≡◌, ◌≤◌, ◌<◌, ℕ, List, [], Option, IfOk, IfSome, OnErr, OnOk, length, take};
 ghost use Rattle.std.specs.Result.{result_err};
 ghost use Rattle.units.specs.LineAnswers.{CutIsShort};
@@ -23,10 +23,10 @@ use std::marker::Model;
 use units::line_cut::{Cut, LineCut};
 use units::memory::Memory;
 
-/// What a report has come to, for a caller that keeps it while it borrows no tables: each call is handed the kind of
-/// file again, with the same tables. It holds one line, one row's text, the lists in force and the wrong cases of one
-/// row. Contracts say by which terms it reports, which bytes it stands for (those that were handed over, joined), and
-/// which wrong cases it has told.
+/// The state of a report, for a caller that stores it while it borrows no tables. The caller must pass the kind of file
+/// to each call again, with the same tables. It stores one line, one row's text, the lists in force and the wrong cases
+/// of one row. Contracts name its terms, the bytes that it was given (its pieces, joined), and the wrong cases that it
+/// has reported.
 #[derive(Drop)]
 pub struct ReportState {
     cutter: LineCut,
@@ -42,7 +42,7 @@ impl Model for ReportState {
     ghost view = { λ s. record { cutting = s.cutter; lines = s.lines; malformed = s.malformed } };
 }
 
-/// Reports on the line that a cut ends, if it ends one. The error is its number and cause if it is malformed.
+/// Reports on the line that a cut ends, if it ends one. Fails with its number and cause if it is malformed.
 fn report_cut(kind: Kind<'_>, lines: &mut LineReport, taken: Cut<'_>) -> Result<(), (u64, Cause)>
     requires short { CutIsShort taken }
     requires none { lines.old.found ≡ [] }
@@ -59,7 +59,7 @@ fn report_cut(kind: Kind<'_>, lines: &mut LineReport, taken: Cut<'_>) -> Result<
     }
 }
 
-/// Reports on the line that has begun, if one has, at the end of a file. The error is its number and cause if it is
+/// Reports on the line that has begun, if one has, at the end of a file. Fails with its number and cause if it is
 /// malformed.
 fn report_last(
     kind: Kind<'_>,
@@ -81,8 +81,8 @@ fn report_last(
 }
 
 impl ReportState {
-    /// Before the first byte of a file of either kind, to report by these terms. All memory is taken here: `Memory`
-    /// is answered where some of it was refused.
+    /// Makes the state before the first byte of a file of either kind, with these terms. It takes all of its memory
+    /// here. Fails with `Memory`.
     pub fn new(alloc: Global, terms: Terms) -> Result<ReportState, Memory>
         ensures stands { IfOk result (λ state. (tables : Option TablesOf) → HasToldFor terms tables state [] []) }
         ensures none { IfOk result (λ state. state.lines.found ≡ []) }
@@ -95,8 +95,8 @@ impl ReportState {
         })
     }
 
-    /// Takes the next bytes of a file of this kind, through the end of a line at most, and answers how many: call it
-    /// until the piece is used up, and look at `found` each time. Where pieces begin and end changes nothing. Behind a
+    /// Takes the next bytes of a file of this kind, through the end of a line at most, and returns how many. Call it
+    /// until the piece is used up, and look at `found` each time. Where pieces begin and end changes nothing. After a
     /// malformed line further bytes change nothing. It takes no memory and always succeeds.
     pub fn take(&mut self, kind: Kind<'_>, piece: &[u8]) -> usize
         ensures used { result ≤ length piece.now }
@@ -112,17 +112,18 @@ impl ReportState {
         used
     }
 
-    /// The wrong cases of the line that the last bytes ended, or the end of the file, in the order auto, LTR, RTL,
-    /// AutoRtl.
+    /// Returns the wrong cases of the line that the last bytes, or the end of the file, ended, in the order auto, LTR,
+    /// RTL, AutoRtl.
     pub fn found(&self) -> &[WrongCase]
         ensures { result.now ≡ self.now.lines.found }
     {
         self.lines.found()
     }
 
-    /// Takes the end of a file of this kind: the line that has begun ends too. What is told then are the wrong cases of
-    /// a last line that no LF ends, the counts of the file, and its first malformed line. It takes no memory and always
-    /// succeeds. Which bytes the state stands for afterwards isn't said.
+    /// Takes the end of a file of this kind, which also ends the line that has begun. Afterwards `found` returns the
+    /// wrong cases of a last line that no LF ends, `tally` the counts of the file, and `malformed` its first malformed
+    /// line. It takes no memory and always succeeds. The contract doesn't say which bytes the state represents
+    /// afterwards.
     pub fn finish(&mut self, kind: Kind<'_>)
         ensures { (terms : TermsOf) (told : List Told) (b : List ℕ)
             → HasToldFor terms (tables_of kind.entry) self.old told b
@@ -134,14 +135,14 @@ impl ReportState {
         }
     }
 
-    /// The counts of the lines so far, up to the first malformed one.
+    /// Returns the counts of the lines so far, up to the first malformed one.
     pub fn tally(&self) -> Tally
         ensures { result ≡ self.now.lines.tally }
     {
         self.lines.tally()
     }
 
-    /// The number of the first malformed line and why it is malformed, if there is one.
+    /// Returns the number of the first malformed line and why it is malformed, if there is one.
     pub fn malformed(&self) -> Option<(u64, Cause)>
         ensures { result ≡ self.now.malformed }
     {

@@ -16,7 +16,7 @@ pub struct ByDirection {
     pub auto_rtl: u64,
 }
 
-/// How many wrong cases there are by what of their claim differs first.
+/// How many wrong cases there are by which of the row's expected values differs first.
 #[derive(Clone, Copy, Debug, PartialEq, Eq)]
 pub struct ByPart {
     pub para_level: u64,
@@ -24,7 +24,7 @@ pub struct ByPart {
     pub order: u64,
 }
 
-/// What of a claim can differ from the layout.
+/// Which of a row's expected values can differ from the layout.
 #[derive(Clone, Copy, Debug, PartialEq, Eq)]
 pub enum Part {
     /// The level of the first paragraph.
@@ -52,7 +52,7 @@ pub struct Tally {
     pub by_part: ByPart,
 }
 
-/// What the place is one of.
+/// Returns the part that a place belongs to.
 fn part_at(place: Place) -> Part
     ensures { result ≡ part_of place }
 {
@@ -63,7 +63,7 @@ fn part_at(place: Place) -> Part
     }
 }
 
-/// How many of these are wrong under the direction.
+/// Returns how many of these cases are wrong under the direction.
 fn count_under(found: &[WrongCase], direction: Direction) -> u64
     ensures { result ≡ count_by (is_under direction) found.now }
 {
@@ -76,7 +76,7 @@ fn count_under(found: &[WrongCase], direction: Direction) -> u64
     count
 }
 
-/// In how many of these this part differs first.
+/// Returns in how many of these cases this part differs first.
 fn count_of(found: &[WrongCase], differs: Part) -> u64
     ensures { result ≡ count_by (is_of differs) found.now }
 {
@@ -92,7 +92,7 @@ fn count_of(found: &[WrongCase], differs: Part) -> u64
 impl ByDirection {
     ghost use Rattle.report.specs.Tallies.{more_by_direction};
 
-    /// With these counted too.
+    /// Returns the counts with these cases added.
     fn with(self, found: &[WrongCase]) -> ByDirection
         ensures { result ≡ more_by_direction found.now self }
     {
@@ -112,7 +112,7 @@ impl ByDirection {
 impl ByPart {
     ghost use Rattle.report.specs.Tallies.{more_by_part};
 
-    /// With these counted too.
+    /// Returns the counts with these cases added.
     fn with(self, found: &[WrongCase]) -> ByPart
         ensures { result ≡ more_by_part found.now self }
     {
@@ -129,7 +129,7 @@ impl ByPart {
 impl Tally {
     ghost use Rattle.report.specs.Tallies.{nothing_counted};
 
-    /// Before the first row.
+    /// Returns the counts before the first row.
     pub fn new() -> Tally
         ensures { result ≡ nothing_counted }
     {
@@ -152,7 +152,7 @@ impl Tally {
         }
     }
 
-    /// With a row counted that has so many cases, of which these are the wrong ones.
+    /// Returns the counts with one row added that has so many cases, including these wrong ones.
     pub fn with_row(self, cases: usize, found: &[WrongCase]) -> Tally
         ensures { result ≡ with_row cases found.now self }
     {

@@ -1,11 +1,11 @@
-//! The terms of a report: by which limits it lays out, and what of a claim it compares.
+//! The terms of a report: the limits of its layouts, and which of a row's expected values it compares.
 ghost use Rattle.std.specs.Prelude.{◌≡◌};
 ghost use Rattle.report.specs.ReadClaims.{strict_terms};
 
 use units::level::Level;
 use units::limits::Limits;
 
-/// Which parts of a claim are compared.
+/// Which parts of a row's expected values are compared.
 #[derive(Clone, Copy, Debug, PartialEq, Eq)]
 pub enum Parts {
     /// The level of the first paragraph, the levels and the order.
@@ -14,20 +14,20 @@ pub enum Parts {
     OrderAlone,
 }
 
-/// At which positions the levels and the order of a claim are compared.
+/// At which positions the expected levels and the expected order are compared.
 #[derive(Clone, Copy, Debug, PartialEq, Eq)]
 pub enum Positions {
-    /// At all.
+    /// All positions.
     All,
-    /// At those that X9 does not remove, which are shown. An implementation may keep the others, and then has a level
-    /// and a place in the order for each (UAX #9, section 5.2).
+    /// The shown positions, which X9 does not remove. An implementation may keep the others, and then has a level and a
+    /// place in the order for each (UAX #9, section 5.2).
     Shown,
 }
 
 impl Positions {
     ghost use Rattle.report.specs.ReadClaims.{is_compared};
 
-    /// Whether a position is among them that has this level, or that X9 removes.
+    /// Returns whether a position with this level, or without one if X9 removes it, is compared.
     pub fn has(self, level: Option<Level>) -> bool
         ensures { result ≡ is_compared self level }
     {
@@ -38,26 +38,26 @@ impl Positions {
     }
 }
 
-/// What of a claim is compared, for engines that differ from the layout by leave of the standard.
+/// Which expected values are compared, for engines that differ from the layout as the standard permits.
 #[derive(Clone, Copy, Debug, PartialEq, Eq)]
 pub struct Leniency {
-    /// Which parts.
+    /// The parts that are compared.
     pub parts: Parts,
-    /// At which positions.
+    /// The positions that are compared.
     pub positions: Positions,
 }
 
 /// The terms of a report.
 #[derive(Clone, Copy)]
 pub struct Terms {
-    /// The limits by which each text is laid out.
+    /// The limits of each layout.
     pub limits: Limits,
-    /// What of each claim is compared.
+    /// Which of each row's expected values are compared.
     pub leniency: Leniency,
 }
 
 impl Terms {
-    /// By these limits, and with all that is claimed compared, as a judge does.
+    /// Returns the terms with these limits that compare everything, as a judge does.
     pub fn strict(limits: Limits) -> Terms
         ensures { result ≡ strict_terms limits }
     {

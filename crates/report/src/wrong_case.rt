@@ -1,9 +1,9 @@
-//! A wrong case: where it stands in its file, and how its claim differs from the layout.
+//! A wrong case: its line, and how the row's expected values differ from the layout.
 
 use bidtests::verdict::Place;
 use units::level::{Direction, Level};
 
-/// What stands at a place of a claim or of a layout.
+/// The item at a place of a row's expected values or of a layout.
 #[derive(Clone, Copy, Debug, PartialEq, Eq)]
 pub enum Item {
     /// Nothing: the list ends before the place.
@@ -23,11 +23,11 @@ pub struct WrongCase {
     pub line: u64,
     /// The direction.
     pub direction: Direction,
-    /// The first place at which the claim, as it is read, differs from the layout under that direction; of an order in
-    /// which not all positions are compared, its index counts those that are.
+    /// The first place where the expected values, as they are read, differ from the layout under that direction. If not
+    /// all positions of an order are compared, its index counts those that are.
     pub place: Place,
-    /// What is claimed there.
+    /// The expected item there.
     pub claimed: Item,
-    /// What the rules P1 to L2 give there.
+    /// The item there by the rules P1 to L2.
     pub defined: Item,
 }
