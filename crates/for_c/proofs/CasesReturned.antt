@@ -29,7 +29,7 @@ settled-with : (limits : LimitsOf) (kind : Kind) (b : List ℕ) → settled_case
 settled-with limits Classes b = refl
 settled-with limits (Characters tables) b = refl
 
--- files by these tables are of some kind
+-- some kind of file has these tables
 kind_with : (tables : Option TablesOf) → (kind : Kind) × (tables_of kind ≡ tables)
 kind_with None = (Classes, refl)
 kind_with (Some tables) = (Characters (record { ref_ptr = (0, 0); now = tables }), refl)
@@ -47,11 +47,11 @@ come-known : (limits : LimitsOf) (tables : Option TablesOf) (ended : Bool) (stat
 come-known limits tables false state told b h = told-known limits tables state told b h
 come-known limits tables true state told b h = sym (ap (λ (r : FileReport). r.wrong) h)
 
--- what was returned and what is left are all that is known
+-- the cases that were returned and those that remain are all that are known
 pub returns-all : ReturnsAll
 returns-all limits tables ended report returned bytes h = come-known limits tables ended report.state (returned ++ cases_left report) bytes h.so_far
 
--- if nothing is left, what was returned is what was found
+-- if no case remains, all cases that were found have been returned
 module _ (old : TableReport) (none : cases_left old ≡ []) where
   before : (limits : LimitsOf) (tables : Option TablesOf) (returned : List WrongCase) (bytes : List ℕ)
       → HasReported limits tables false old returned bytes → HasToldFor (strict_terms limits) tables old.state returned bytes
@@ -59,7 +59,7 @@ module _ (old : TableReport) (none : cases_left old ≡ []) where
       subst (λ (told : List WrongCase). HasToldFor (strict_terms limits) tables old.state told bytes) (ap (λ ws. returned ++ ws) none ∙ append-nil returned) h.so_far
 
   module _ (kind : Kind) (same : tables_of kind ≡ option_map arc_value old.tables) (state : StateOf) where
-    -- a piece, of which all wrong cases that are found then are left
+    -- a piece; all wrong cases that are found in it remain
     pub takes-line : (piece : List ℕ) → TakesIn (tables_of kind) old.state piece state
         → Takes old (record { tables = old.tables; state = state; returned = 0; ended = old.ended }) piece
     takes-line piece takes = λ limits tables returned bytes h.

@@ -1,4 +1,4 @@
--- Each fault of a file of bytes is a lack of memory, or one of a line.
+-- Each fault of a file of bytes is a lack of memory, or a fault of a line.
 use Rattle.std.proofs.Common.{◌≡◌, ◌≢◌, ◌⊎◌, ℕ, List, IsSome, inl, inr, refl}
 use Rattle.ucdfiles.specs.Faults.{line_of_fault}
 use Rattle.ucdfiles.specs.Files.{IsFirstFaulty}

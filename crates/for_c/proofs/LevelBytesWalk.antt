@@ -12,7 +12,7 @@ abbrev pub AreWritten : RoomOf → List ℕ → ℕ → Type 0
 AreWritten room out from =
     (at k : ℕ) → at < from → IsAt room at k → slice_index_or out at 0 ≡ level_byte (slice_index_or room.layout.levels k None)
 
--- those of one character more
+-- the levels after one character more
 pub one_more : (room : RoomOf) → Rise room → (old new : List ℕ) (k from to byte : ℕ) → from ≡ offset_in room k → to ≡ offset_in room (k + 1)
     → k < characters_in room → to ≤ length old → byte ≡ level_byte (slice_index_or room.layout.levels k None)
     → ((i d : ℕ) → from ≤ i → i < to → i < length old → slice_index_or new i d ≡ byte)

@@ -1,4 +1,4 @@
--- How long the line of a verdict may be.
+-- The maximum length of the line of a verdict.
 use Rattle.std.proofs.Common.{ℕ, ◌<◌, ◌≤◌, ◌^◌, length, length-append, arith}
 use Rattle.std.specs.Fmt.{decimal}
 use Rattle.std.proofs.lemmas.Fmt.{length-decimal-le}

@@ -9,7 +9,7 @@ use Rattle.room.specs.Written.{WritesWhole}
 use Rattle.for_c.specs.LevelBytes.{level_byte}
 use Rattle.for_c.specs.RoomCalls.{WritesLineBytes}
 
--- a column that is put back as it is
+-- a column that is put back unchanged
 pub put_back : {A : Type 0} (column rest put : List A) (n : ℕ) → length column ≡ n → put ≡ take n (column ++ rest) → put ≡ column
 put_back column rest put n len is = is ∙ ap (λ (m : ℕ). take m (column ++ rest)) (sym len) ∙ take-append_seam column rest
 

@@ -24,7 +24,7 @@ IsBaseLevel tables source number level =
 abbrev pub RejectsText : SourceOf → CallError → Type 0
 RejectsText source error = (at : ℕ) × IsFirstFault source at × (error ≡ error_of_text source (IllFormed at))
 
--- it has no level under a direction for this reason: the number is no direction, or else what is wrong with the text
+-- it has no level under a direction for this reason: the number is no direction, or else the text is ill formed
 abbrev pub RejectsBase : SourceOf → ℕ → CallError → Type 0
 RejectsBase source number error =
     ((error ≡ NoDirection) × (direction_numbered number ≡ None))

@@ -1,4 +1,4 @@
--- L1 and L2 by arrays that a caller has, and properties of whole arrays.
+-- L1 and L2 on a caller's own arrays, and properties of whole arrays.
 use Rattle.std.specs.Prelude.{ℕ, ◌≡◌, ◌<◌, ◌≤◌, ◌++◌, ◌⊎◌, Some, IfErr, OnErr, OnOk, List, drop, length, map, slice_index, take}
 use Rattle.std.specs.Char.{IsScalar}
 use Rattle.std.specs.Option.{unwrap_or}
@@ -22,15 +22,15 @@ classes_numbered numbers = map (λ number. unwrap_or (class_numbered number) L) 
 abbrev pub IsLevelNumber : ℕ → Type 0
 IsLevelNumber number = number ≤ 126
 
--- L1 of a line by the numbers of its classes, at the front of a list of levels
+-- L1 of a line with the numbers of its classes, at the front of a list of levels
 pub record ResetsLine (classes : List ℕ) (para_level : ℕ) (old new : List ℕ) : Type 0 where
   pub fits : length classes ≤ length old
   pub level : IsLevelNumber para_level
   pub are_classes : AllAre IsClassNumber classes
   pub reset : new ≡ levels_reset_in (classes_numbered classes) para_level (take (length classes) old) ++ drop (length classes) old
 
--- the line is rejected for this reason, the first of several: there are fewer levels than classes, the paragraph's level
--- is none, or a number is that of no class
+-- the line is rejected for this reason, the first of several: there are fewer levels than classes, the paragraph's
+-- level is out of range, or a number is that of no class
 abbrev pub RejectsLine : List ℕ → ℕ → List ℕ → CallError → Type 0
 RejectsLine classes para_level levels TooSmall = length levels < length classes
 RejectsLine classes para_level levels (NoLevel place) = (length classes ≤ length levels) × (126 < para_level) × (place ≡ 0)
@@ -38,7 +38,7 @@ RejectsLine classes para_level levels (NoClass index) =
     (length classes ≤ length levels) × IsLevelNumber para_level × IsFirstOther IsClassNumber classes index
 RejectsLine classes para_level levels _ = ⊥
 
--- L2: the positions from left to right by the level of each, at the front of a list
+-- L2: the positions from left to right, as their levels give them, at the front of a list
 pub record Reorders (levels old new : List ℕ) : Type 0 where
   pub fits : length levels ≤ length old
   pub are_levels : AllAre IsLevelNumber levels
@@ -65,14 +65,14 @@ pub record WritesProperties (tables : TablesOf) (codes classes classes2 brackets
   pub brackets_after : drop (length codes) brackets2 ≡ drop (length codes) brackets
 
 -- the code points are rejected for this reason, the first of several: one of the lists has fewer items, or a code point
--- is no scalar value
+-- isn't a scalar value
 abbrev pub RejectsCodes : List ℕ → List ℕ → List ℕ → CallError → Type 0
 RejectsCodes codes classes brackets TooSmall = (length classes < length codes) ⊎ (length brackets < length codes)
 RejectsCodes codes classes brackets (NoCharacter index) =
     (length codes ≤ length classes) × (length codes ≤ length brackets) × IsFirstOther IsScalar codes index
 RejectsCodes codes classes brackets _ = ⊥
 
--- a call that is to write the properties of code points writes them, or fails for a reason, and nothing is written
+-- a call that writes the properties of code points, or fails for a reason; then nothing is written
 pub record PutsProperties (tables : TablesOf) (codes classes classes2 brackets brackets2 : List ℕ) (outcome : Outcome) : Type 0 where
   pub written : OnOk outcome (WritesProperties tables codes classes classes2 brackets brackets2)
   pub unchanged_classes : OnErr outcome (classes2 ≡ classes)

@@ -1,4 +1,4 @@
--- What a room says of its text in the units of the text's source, as C gets it.
+-- What a room says about its text in the units of the text's source, as C gets it.
 use Rattle.std.specs.Prelude.{ℕ, ◌≡◌, ◌<◌, ◌≤◌, ◌+◌, ◌-◌, ◌⊎◌, Option, None, List, length, slice_index_or}
 use Rattle.lines.specs.Layouts.{line_at}
 use Rattle.units.specs.Isolates.{level_of_para}
@@ -56,8 +56,8 @@ abbrev pub IsParaByteAt : RoomOf → ℕ → ℕ → Type 0
 IsParaByteAt room at byte =
     ((level : ParaLevel) × HasParaLevelIn room at level × (byte ≡ level_of_para level)) ⊎ ((size_in room ≤ at) × (byte ≡ 255))
 
--- L2: the units of the line with the number k are counted, and their places are written whole or not at all; there are none
--- if there is no such line
+-- L2: the units of the line with the number k are counted, and their places are written whole or not at all; there are
+-- none if there is no such line
 pub record WritesUnitPlaces (room : RoomOf) (k counted : ℕ) (old new : List ℕ) : Type 0 where
   pub some : k < length room.layout.lines → WritesPlaces room (line_at room.layout k) counted old new
   pub none : length room.layout.lines ≤ k → WritesNothing counted old new

@@ -16,8 +16,8 @@ RejectsLimits limits Depth = (limits.depth ≡ 0) ⊎ (125 < limits.depth)
 RejectsLimits limits Brackets = (1 ≤ limits.depth) × (limits.depth ≤ 125) × (63 < limits.brackets)
 RejectsLimits limits _ = ⊥
 
--- a call with limits tests them before all else: if they are not allowed it fails for that and changes nothing, else it
--- does with these limits what is so
+-- a call with limits tests them first: if they are not allowed it fails for that and changes nothing, else it does what
+-- `IsSo` states of these limits
 pub record ByLimits {A : Type 0} (given : BidiLimits) (IsSo : LimitsOf → A → A → Outcome → Type 0) (old new : A) (outcome : Outcome) : Type 0 where
   pub forbidden : (AreAllowed (limits_in given) → ⊥) → IsErrAnd outcome (RejectsLimits given)
   pub unchanged : (AreAllowed (limits_in given) → ⊥) → new ≡ old

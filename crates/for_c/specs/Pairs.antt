@@ -30,7 +30,8 @@ if_paired tables bracket (Some image) = if are_paired bracket (bracket_by tables
 abbrev pub mirrored_partner : TablesOf → ℕ → Bracket → Option ℕ
 mirrored_partner tables c bracket = if_paired tables bracket (glyph_by tables.mirrors (canonical_of c))
 
--- the code point is a bracket that pairs with this one; it is the mirrored one, if that pairs with it, and else the least
+-- the code point is a bracket that pairs with this one; it is the mirrored one, if that pairs with it, and else the
+-- least
 pub record IsPartner (tables : TablesOf) (code partner : ℕ) : Type 0 where
   pub bracket : IsScalar code
   pub scalar : IsScalar partner

@@ -1,4 +1,4 @@
--- What a layout says of a text, in positions of its characters.
+-- What a layout says about a text, in positions of its characters.
 use Rattle.std.specs.Prelude.{ℕ, ◌≡◌, ◌≢◌, ◌<◌, ◌≤◌, ◌+◌, ◌-◌, ◌^◌, ◌⊎◌, List, length, slice_index}
 use Rattle.units.specs.Layout.{LineLayout, TextLayout}
 use Rattle.lines.specs.Layouts.{line_at}
@@ -17,7 +17,7 @@ IsLineAt layout k line = (k < length layout.lines) × (line ≡ line_for_c (boun
 abbrev pub RejectsLine : TextLayout → ℕ → CallError → Type 0
 RejectsLine layout k error = (error ≡ NoLine) × (length layout.lines ≤ k)
 
--- what stands for the place of a position that has none
+-- the number for the place of a position that has none
 abbrev pub nowhere : ℕ
 nowhere = 2 ^ 64 - 1
 

@@ -1,4 +1,4 @@
--- The properties of a code point by tables, as numbers.
+-- The properties of a code point, as numbers.
 use Rattle.std.specs.Prelude.{ℕ, ◌≡◌, Some}
 use Rattle.std.specs.Char.{IsScalar}
 use Rattle.units.specs.declared.bracket.Unit.{Unit as BidiUnit}
@@ -27,6 +27,6 @@ bracket_number (Close key) = 2
 abbrev pub IsBracketOf : TablesOf → ℕ → ℕ → Type 0
 IsBracketOf tables code number = IsScalar code × (number ≡ bracket_number (bracket_by tables.brackets code))
 
--- the code point has no properties for this reason: it is no scalar value
+-- the code point has no properties for this reason: it isn't a scalar value
 abbrev pub RejectsCode : ℕ → CallError → Type 0
 RejectsCode code error = (error ≡ NoCharacter 0) × (IsScalar code → ⊥)

@@ -56,7 +56,7 @@ fault_number_in (BracketFile fault) = fault_number fault
 fault_number_in (MirrorFile fault) = fault_number fault
 fault_number_in _ = 0
 
--- the line and the kind of the fault; without an error those from before
+-- the line and the kind of the fault; without an error they are unchanged
 abbrev pub fault_named : Outcome → BidiFault → BidiFault
 fault_named (Ok done) before = before
 fault_named (Err error) before = record { line = place_of error; kind = fault_number_in error }

@@ -31,7 +31,7 @@ error_of_text (Classes numbers) (layout.IllFormed index) = NoClass index
 error_of_text (Units numbered) (layout.IllFormed index) = NoClass index
 error_of_text source fault = error_of_layout fault
 
--- one line alone is not laid out; of its two ends the start is the break with the index 0, the end that with the index 1
+-- one line alone is not laid out; its start counts as the break with the index 0, its end as that with the index 1
 abbrev pub error_of_line : LineFault → CallError
 error_of_line line.TooSmall = TooSmall
 error_of_line line.NotForward = LineNotForward

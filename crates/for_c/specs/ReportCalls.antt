@@ -11,25 +11,25 @@ use Rattle.for_c.specs.declared.counts.BidiCounts.{BidiCounts}
 use Rattle.for_c.specs.declared.table_report.TableReport.{TableReport}
 use Rattle.for_c.specs.declared.wrong_case.BidiWrongCase.{BidiWrongCase}
 
--- the report can take bytes, or the end of its file: that has not ended, and no wrong case is left
+-- the report can take bytes, or the end of its file: that has not ended, and no wrong case remains
 pub record IsReady (report : TableReport) : Type 0 where
   pub unended : report.ended ≡ false
   pub none : cases_left report ≡ []
 
--- it takes none for this reason: its file has ended, or wrong cases are left
+-- it takes no bytes for this reason: its file has ended, or wrong cases remain
 abbrev pub RejectsBytes : TableReport → CallError → Type 0
 RejectsBytes report error =
     ((error ≡ NoReport) × (report.ended ≡ true))
     ⊎ ((error ≡ CasesLeft) × (report.ended ≡ false) × (0 < length (cases_left report)))
 
--- whatever the report had taken before, it has then taken this piece too
+-- the report has taken this piece after all that it had taken before
 abbrev pub Takes : TableReport → TableReport → List ℕ → Type 0
 Takes old new piece =
     (limits : LimitsOf) (tables : Option TablesOf) (returned : List WrongCase) (bytes : List ℕ)
     → HasReported limits tables false old returned bytes → HasReported limits tables false new returned (bytes ++ piece)
 
--- a call that passes a piece of a file: if it succeeds, the report has taken that many bytes of it, and fewer than all only
--- if wrong cases are left; else the report is unchanged, for a reason
+-- a call that passes a piece of a file: if it succeeds, the report has taken that many bytes of it, and fewer than all
+-- only if wrong cases remain; else the report is unchanged, for a reason
 pub record TakesBytes (piece : List ℕ) (old new : TableReport) (result : Result ℕ CallError) : Type 0 where
   pub ready : OnOk result (IsReady old)
   pub takes : IfOk result (λ used. Takes old new (take used piece))
@@ -38,7 +38,7 @@ pub record TakesBytes (piece : List ℕ) (old new : TableReport) (result : Resul
   pub unchanged : OnErr result (new ≡ old)
   pub reason : IfErr result (RejectsBytes old)
 
--- whatever the report had returned before, it has then returned this wrong case too
+-- the report has returned this wrong case after all that it had returned before
 abbrev pub Returns : TableReport → TableReport → WrongCase → Type 0
 Returns old new case =
     (limits : LimitsOf) (tables : Option TablesOf) (ended : Bool) (returned : List WrongCase) (bytes : List ℕ)
@@ -50,8 +50,8 @@ HasReturnedAll report =
     (limits : LimitsOf) (tables : Option TablesOf) (ended : Bool) (returned : List WrongCase) (bytes : List ℕ)
     → HasReported limits tables ended report returned bytes → returned ≡ cases_known limits tables ended bytes
 
--- a call that asks for the next wrong case: if it succeeds, the report has returned the one with these numbers; else the
--- report is unchanged, since it has returned all
+-- a call that asks for the next wrong case: if it succeeds, the report has returned the one with these numbers; else
+-- the report is unchanged, since it has returned all
 pub record ReturnsNext (old new : TableReport) (result : Result BidiWrongCase CallError) : Type 0 where
   pub next : IfOk result (λ numbers. (case : WrongCase) × (numbers ≡ case_for_c case) × Returns old new case)
   pub unchanged : OnErr result (new ≡ old)

@@ -12,7 +12,7 @@ use Rattle.for_c.specs.declared.wrong_case.BidiItem.{BidiItem}
 use Rattle.for_c.specs.declared.wrong_case.BidiWrongCase.{BidiWrongCase}
 use Rattle.for_c.specs.declared.counts.BidiCounts.{BidiCounts}
 
--- what is at a place: 0 nothing, since the list ends before it, 1 a position that X9 removes, 2 a level, 3 a position
+-- the item at a place: 0 if the list ends before it, 1 a position that X9 removes, 2 a level, 3 a position
 abbrev pub item_for_c : Item → BidiItem
 item_for_c Ended = record { kind = 0; value = 0 }
 item_for_c Removed = record { kind = 1; value = 0 }

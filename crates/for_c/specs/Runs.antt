@@ -25,8 +25,8 @@ pub record IsVisualRun (levels : List (Option ℕ)) (order : List ℕ) (from : �
   pub start : run.start ≡ min (slice_index order from) (slice_index order (from + run.shown - 1))
   pub end : run.start + run.length ≡ max (slice_index order from) (slice_index order (from + run.shown - 1)) + 1
 
--- there is no run from a place of the line with the number k, for this reason: there is no such line, or no such place in
--- it
+-- there is no run from a place of the line with the number k, for this reason: there is no such line, or no such place
+-- in it
 abbrev pub RejectsRun : TextLayout → ℕ → ℕ → CallError → Type 0
 RejectsRun layout k from NoLine = length layout.lines ≤ k
 RejectsRun layout k from NoPlace = (k < length layout.lines) × (length (line_at layout k).order ≤ from)

@@ -5,7 +5,7 @@ use Rattle.ucdfiles.specs.Faults.{line_of_fault}
 use Rattle.for_c.specs.declared.call_error.CallError.{CallError}
 use Rattle.for_c.specs.declared.call_error.CallError.TheVariants.{Memory, TooBig, TooLong, NoCharacter, NoClass, BreakOutOfRange, BreakNotRising, NoDirection, NoRoom, NoTables, NoLine, NoPlace, NoJudge, Depth, Brackets, ClassFile, BracketFile, MirrorFile, NoVerdict, TooSmall, LineNotForward, LineBeyondText, LineCrossesParagraph, IllFormed, BreakInside, NoReport, NoCase, CasesLeft, NoLevel}
 
--- the status of a call that fails so; 0 is that of a call that succeeds
+-- the status of a call that fails with this error; a call that succeeds returns 0
 abbrev pub code_of : CallError → ℕ
 code_of Memory = 1
 code_of TooBig = 2
@@ -60,25 +60,25 @@ abbrev pub status_of : Outcome → ℕ
 status_of (Ok done) = 0
 status_of (Err error) = code_of error
 
--- the place that its error names; without an error that from before
+-- the place that its error names; without an error the place is unchanged
 abbrev pub place_named : Outcome → ℕ → ℕ
 place_named (Ok done) before = before
 place_named (Err error) before = place_of error
 
--- a call returns the status of an outcome of which this is so
+-- a call returns the status of an outcome for which `IsSo` holds
 pub record Answers (IsSo : Outcome → Type 0) (status : ℕ) : Type 0 where
   pub outcome : Outcome
   pub coded : status ≡ status_of outcome
   pub so : IsSo outcome
 
--- a call returns the status of an outcome of which this is so, and what is named beside it follows from that outcome
+-- a call returns the status of an outcome for which `IsSo` holds, and the value that it names follows from the outcome
 pub record AnswersNaming {A : Type 0} (named : Outcome → A → A) (IsSo : Outcome → Type 0) (status : ℕ) (before after : A) : Type 0 where
   pub outcome : Outcome
   pub coded : status ≡ status_of outcome
   pub place : after ≡ named outcome before
   pub so : IsSo outcome
 
--- a call puts something right into a place, or fails for a reason, and the place is unchanged
+-- a call puts a right value into a place, or fails for a reason, and the place is unchanged
 pub record Puts {A : Type 0} (IsRight : A → Type 0) (IsReason : CallError → Type 0) (old new : A) (outcome : Outcome) : Type 0 where
   pub right : OnOk outcome (IsRight new)
   pub unchanged : OnErr outcome (new ≡ old)

@@ -10,19 +10,19 @@ use Rattle.bidtests.specs.JudgedSoFar.{HoldsFor}
 use Rattle.bidtests.specs.declared.verdict.Verdict.{Verdict}
 use Rattle.for_c.specs.declared.table_judge.TableJudge.{TableJudge}
 
--- the judge has taken these bytes, in any pieces, and judges with these limits and tables: a file of characters, or without
--- tables one of classes
+-- the judge has taken these bytes, in any pieces, and judges with these limits and tables: a file of characters, or
+-- without tables one of classes
 pub record HasTaken (limits : LimitsOf) (judge : TableJudge) (tables : Option TablesOf) (bytes : List ℕ) : Type 0 where
   pub by : option_map arc_value judge.tables ≡ tables
   pub so_far : HoldsFor limits tables judge.state bytes
 
--- whatever the judge had taken before, by whatever limits and tables it judges, it has then taken this piece too
+-- the judge has taken this piece after all that it had taken before, whatever its limits and tables are
 abbrev pub TakesPiece : TableJudge → TableJudge → List ℕ → Type 0
 TakesPiece old new piece =
     (limits : LimitsOf) (tables : Option TablesOf) (bytes : List ℕ)
     → HasTaken limits old tables bytes → HasTaken limits new tables (bytes ++ piece)
 
--- with these limits the verdict on a file of characters by tables, or without tables on one of classes
+-- the verdict with these limits on a file of characters, or without tables on a file of classes
 abbrev pub verdict_by : LimitsOf → Option TablesOf → List ℕ → Verdict
 verdict_by limits None bytes = classes_verdict limits bytes
 verdict_by limits (Some tables) bytes = characters_verdict limits (unit_by tables) bytes

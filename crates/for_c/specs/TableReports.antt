@@ -15,7 +15,7 @@ use Rattle.report.specs.ReportedSoFar.{StateOf, HasToldFor}
 use Rattle.report.specs.WrongCases.{wrong_cases_from, sound_lines}
 use Rattle.for_c.specs.declared.table_report.TableReport.{TableReport}
 
--- the findings of lines of a file of characters by tables, or without tables of one of classes
+-- the findings of lines of a file of characters, or without tables of a file of classes
 abbrev pub findings_with : Option TablesOf → List (List ℕ) → List Finding
 findings_with None lines = classes_findings lines
 findings_with (Some tables) lines = characters_findings (unit_by tables) lines
@@ -24,31 +24,31 @@ findings_with (Some tables) lines = characters_findings (unit_by tables) lines
 abbrev pub report_with : LimitsOf → Option TablesOf → List ℕ → FileReport
 report_with limits tables bytes = report_on (strict_terms limits) (findings_with tables (lines_of bytes))
 
--- the wrong cases that such a file has which begins with these bytes, before its end is known, or that ends with them: of
--- the lines that stay as they are whatever follows, or of all; each up to the first malformed line
+-- the known wrong cases of such a file, up to the first malformed line: before its end those of the final lines, which
+-- no bytes after these change; at its end those of all lines
 abbrev pub cases_known : LimitsOf → Option TablesOf → Bool → List ℕ → List WrongCase
 cases_known limits tables false bytes = wrong_cases_from (strict_terms limits) 0 (sound_lines (findings_with tables (settled_lines bytes)))
 cases_known limits tables true bytes = (report_with limits tables bytes).wrong
 
--- the wrong cases of the line that the report judged last that it has not yet returned
+-- the wrong cases of the last line that the report has not yet returned
 abbrev pub cases_left : TableReport → List WrongCase
 cases_left report = drop report.returned report.state.lines.found
 
--- the state of a report with these limits and tables that has taken these bytes and found these wrong cases: before the end
--- of its file, or at it
+-- the state of a report with these limits and tables that has taken these bytes and found these wrong cases: before the
+-- end of its file, or at it
 abbrev pub HasCome : LimitsOf → Option TablesOf → Bool → StateOf → List WrongCase → List ℕ → Type 0
 HasCome limits tables false state cases bytes = HasToldFor (strict_terms limits) tables state cases bytes
 HasCome limits tables true state cases bytes =
     report_with limits tables bytes ≡ record { wrong = cases; tally = state.lines.tally; malformed = state.malformed }
 
--- the report lays out with these limits and tables, or without tables; it has taken these bytes, in any pieces, and the end
--- of the file or not, and has returned these wrong cases, which are with those that are left all that it has found
+-- the report lays out with these limits and tables, or without tables; it has taken these bytes, in any pieces, and if
+-- `ended` the end of the file; the wrong cases that it has returned and those that remain are all that it has found
 pub record HasReported (limits : LimitsOf) (tables : Option TablesOf) (ended : Bool) (report : TableReport) (returned : List WrongCase) (bytes : List ℕ) : Type 0 where
   pub by : option_map arc_value report.tables ≡ tables
   pub ends : report.ended ≡ ended
   pub so_far : HasCome limits tables ended report.state (returned ++ cases_left report) bytes
 
--- the wrong cases that it has returned, and those that are left, are together those that are known of the bytes that it has
+-- the wrong cases that it has returned and those that remain are together all that are known of the bytes that it has
 -- taken
 abbrev pub ReturnsAll : Type 0
 ReturnsAll =

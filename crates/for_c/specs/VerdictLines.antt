@@ -30,7 +30,7 @@ HasSmallNumbers (Wrong line direction place) = (line < 2 ^ 64) × HasSmallIndex 
 abbrev pub EncodeNoVerdict : BidiVerdict → Type 0
 EncodeNoVerdict numbers = (verdict : Verdict) → numbers ≢ verdict_for_c verdict
 
--- the line of these numbers is not made for this reason
+-- no line is made of these numbers, for this reason
 abbrev pub RejectsVerdictNumbers : BidiVerdict → CallError → Type 0
 RejectsVerdictNumbers numbers error = (error ≡ Memory) ⊎ ((error ≡ NoVerdict) × EncodeNoVerdict numbers)
 
@@ -38,14 +38,14 @@ RejectsVerdictNumbers numbers error = (error ≡ Memory) ⊎ ((error ≡ NoVerdi
 abbrev pub IsLongerThan : BidiVerdict → ℕ → Type 0
 IsLongerThan numbers most = (line : List ℕ) × IsVerdictLine numbers line × (most < length line)
 
--- the line of these numbers is not written to an output of so many bytes for this reason
+-- the line of these numbers is not written to an output of so many bytes, for this reason
 abbrev pub RejectsVerdictText : BidiVerdict → ℕ → CallError → Type 0
 RejectsVerdictText numbers most error =
     RejectsVerdictNumbers numbers error ⊎ ((error ≡ TooSmall) × IsLongerThan numbers most)
 
--- a call that writes the line of these numbers: if it succeeds, the line is at the front of the output, else the output is
--- unchanged, for a reason; if the numbers encode a verdict and memory suffices, the length that is written is that of the
--- line, 72 at most, else it is unchanged
+-- a call that writes the line of these numbers: if it succeeds, the line is at the front of the output; else the output
+-- is unchanged, for a reason. If the numbers encode a verdict and memory suffices, the length that is written is that
+-- of the line, 72 at most; else it is unchanged
 pub record WritesVerdictLine (numbers : BidiVerdict) (old new : List ℕ) (before after : ℕ) (outcome : Outcome) : Type 0 where
   pub fits : OnOk outcome ((line : List ℕ) × IsVerdictLine numbers line × (length line ≤ length old))
   pub written : OnOk outcome ((line : List ℕ) → IsVerdictLine numbers line → new ≡ line ++ drop (length line) old)

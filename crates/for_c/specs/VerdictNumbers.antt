@@ -24,7 +24,7 @@ cause_number DirectionField = 10
 cause_number ParaField = 11
 cause_number EmptyRow = 12
 
--- the number of what is wrong with a case
+-- the number of the part of a case that is wrong
 abbrev pub place_number : Place → ℕ
 place_number ParaLevel = 1
 place_number (Levels index) = 2

@@ -51,8 +51,9 @@ pub fn write_base_levels(
     }
 }
 
-/// Returns 1 if a text has only classes that stay at level 0, so that all of its levels are 0 unless its paragraphs are
-/// asked to be right-to-left; else 0. Fails with the first unit that is not part of a character. It takes no memory.
+/// Returns 1 if a text has only classes that stay at level 0, else 0. If it returns 1, all levels of the text are 0,
+/// unless its paragraphs are asked to be right-to-left. Fails with the first unit that is not part of a character. It
+/// takes no memory.
 pub fn left_to_right(tables: &Tables, source: Source<'_>) -> Result<u8, CallError>
     ensures stays { IfOk result (IsLeftToRight tables.now (source_seen source.entry)) }
     ensures reason { IfErr result (RejectsText (source_seen source.entry)) }

@@ -1,4 +1,4 @@
-//! Why a call fails, and the numbers by which C learns it.
+//! Why a call fails, and the number of each reason for C.
 ghost use Rattle.std.specs.Prelude.{◌≡◌, ◌<◌};
 ghost use Rattle.for_c.specs.Statuses.{code_of, place_of, place_named, status_of};
 
@@ -11,11 +11,11 @@ pub enum CallError {
     Memory,
     /// The requested capacity is greater than the greatest one.
     TooBig,
-    /// The text has more units than the room can hold.
+    /// The text has more units than the room has capacity for.
     TooLong,
-    /// The code point at this index is no scalar value.
+    /// The code point at this index isn't a scalar value.
     NoCharacter(usize),
-    /// The number at this index is no class, or that of a unit no class or no kind of bracket.
+    /// The number at this index is no class, or the unit there has a number of no class or no kind of bracket.
     NoClass(usize),
     /// The break at this index is 0 or not below the text's length.
     BreakOutOfRange(usize),
@@ -53,7 +53,7 @@ pub enum CallError {
     LineBeyondText,
     /// The line is within the text, and a paragraph ends within it, before its last position.
     LineCrossesParagraph,
-    /// The code unit at this offset is no part of a character; all before it are well formed.
+    /// The code unit at this offset isn't part of a character. All code units before it are well formed.
     IllFormed(usize),
     /// The break with this index is inside a character.
     BreakInside(usize),
@@ -71,7 +71,7 @@ pub enum CallError {
 pub const DONE: u32 = 0;
 
 impl CallError {
-    /// Returns the status of a call that fails so; it is never that of a call that succeeds.
+    /// Returns the status of a call that fails with this error. It differs from that of a call that succeeds.
     pub fn code(self) -> u32
         ensures code { result ≡ code_of self }
         ensures not_done { 0 < result }

@@ -26,11 +26,11 @@ pub struct BidiCounts {
     pub auto: u64,
     /// The wrong cases by the first strong character, or right-to-left.
     pub auto_rtl: u64,
-    /// The wrong cases of which the paragraph's level differs first.
+    /// The wrong cases whose paragraph level differs first.
     pub para_level: u64,
-    /// The wrong cases of which the levels differ first.
+    /// The wrong cases whose levels differ first.
     pub levels: u64,
-    /// The wrong cases of which the order differs first.
+    /// The wrong cases whose order differs first.
     pub order: u64,
     /// The number of the first malformed line, from 1; 0 if no line is malformed.
     pub malformed: u64,

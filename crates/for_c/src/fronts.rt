@@ -1,4 +1,4 @@
-//! L1 and L2 by arrays that a caller has, and properties of whole arrays: for engines that have their own front.
+//! L1 and L2 on a caller's own arrays, and properties of whole arrays: for engines with their own front.
 ghost use Rattle.std.specs.Prelude.{◌≡◌, length, OnOk, IfErr};
 ghost use Rattle.std.specs.Char.{IsScalar};
 ghost use Rattle.sources.specs.Kinds.{AllAre, IsFirstOther};
@@ -18,7 +18,7 @@ use units::level::Level;
 use visual::by_levels::write_order;
 use visual::own_resets::level_after;
 
-/// Does what `visual::own_resets::reset_levels` does, by the numbers of classes.
+/// Does what `visual::own_resets::reset_levels` does, with the numbers of classes.
 fn reset_numbered(classes: &[u8], para_level: Level, levels: &mut [u8])
     requires { length classes.now ≡ length levels.old }
     ensures { levels.new ≡ levels_reset_in (classes_numbered classes.now) para_level levels.old }
@@ -33,9 +33,9 @@ fn reset_numbered(classes: &[u8], para_level: Level, levels: &mut [u8])
     }
 }
 
-/// Gives separators, and white space, isolate formatting characters and what X9 removes before them or at the line's
-/// end, the level of their paragraph (L1): in one line, by the numbers of its classes. The front of `levels` has the
-/// level of each of its positions.
+/// Resets the levels of a line by L1. Separators get the level of their paragraph. So do white space, isolate
+/// formatting characters and what X9 removes, before a separator or at the line's end. `classes` are the numbers of the
+/// line's classes. The front of `levels` must have the level of each of its positions.
 ///
 /// Fails with `TooSmall` if `levels` has fewer items than there are classes, or else with `NoLevel` if the paragraph's
 /// level is above 126, or else with `NoClass` at the first number that is no class.
@@ -69,8 +69,9 @@ fn check_levels(levels: &[u8]) -> Result<(), usize>
     Ok(())
 }
 
-/// Writes all positions from left to right (L2), by the level of each, to the front of `order`. Fails with `TooSmall`
-/// if that has fewer items than there are levels, or else with `NoLevel` at the first level that is above 126.
+/// Writes all positions from left to right (L2), as their levels give them, to the front of `order`. Fails with
+/// `TooSmall` if that has fewer items than there are levels, or else with `NoLevel` at the first level that is above
+/// 126.
 pub fn reorder(levels: &[u8], order: &mut [usize]) -> Result<(), CallError>
     ensures { Puts (Reorders levels.now order.old) (RejectsLevels levels.now order.old) order.old order.new result }
 {
@@ -84,7 +85,7 @@ pub fn reorder(levels: &[u8], order: &mut [usize]) -> Result<(), CallError>
     Ok(())
 }
 
-/// Writes the numbers of the classes of code points, all of them scalar values, and of what their brackets do.
+/// Writes the numbers of the classes of code points, and of what their brackets do. All must be scalar values.
 fn write_numbers(tables: &Tables, codes: &[u32], classes: &mut [u8], brackets: &mut [u8])
     requires scalars { AllAre IsScalar codes.now }
     requires classes { length classes.old ≡ length codes.now }
@@ -103,7 +104,7 @@ fn write_numbers(tables: &Tables, codes: &[u32], classes: &mut [u8], brackets: &
 
 /// Writes the number of the class of each code point to the front of `classes`, and that of what its bracket does to
 /// the front of `brackets`: 0 if it is no bracket, 1 if it opens, 2 if it closes. Fails with `TooSmall` if one of them
-/// has fewer items than there are code points, or else with `NoCharacter` at the first code point that is no scalar
+/// has fewer items than there are code points, or else with `NoCharacter` at the first code point that isn't a scalar
 /// value.
 pub fn write_properties(
     tables: &Tables,

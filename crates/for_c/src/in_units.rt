@@ -1,4 +1,4 @@
-//! What a room says of its text in the units of the text's source.
+//! What a room says about its text in the units of the text's source.
 ghost use Rattle.std.specs.Prelude.{◌≡◌, ◌≤◌, ◌+◌, min, IfErr, IfOk, length};
 ghost use Rattle.room.specs.Looking.{line_in, size_in};
 ghost use Rattle.room.specs.Rooms.{characters_in, offset_in};
@@ -15,7 +15,8 @@ use crate::runs::{BidiRun, run_of};
 use room::places::put;
 use room::room::Room;
 
-/// Returns the index of the character that a unit belongs to; from the text's end on the number of characters.
+/// Returns the index of the character that a unit belongs to. From the text's end on it returns the number of
+/// characters.
 pub fn index_at(room: &Room, at: usize) -> usize
     ensures { IsIndexAt room.now at result }
 {
@@ -25,7 +26,7 @@ pub fn index_at(room: &Room, at: usize) -> usize
     }
 }
 
-/// Returns the offset at which the character with this index begins; from the number of characters on that of the
+/// Returns the offset at which the character with this index begins. From the number of characters on it returns the
 /// text's end.
 pub fn offset_at(room: &Room, index: usize) -> usize
     ensures { result ≡ offset_in room.now (min index (characters_in room.now)) }

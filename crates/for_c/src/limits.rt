@@ -10,9 +10,9 @@ use units::limits::{LimitFault, Limits};
 #[repr(C)]
 #[derive(Clone, Copy)]
 pub struct BidiLimits {
-    /// 1 to 125; the standard says 125.
+    /// 1 to 125; the standard's limit is 125.
     pub depth: u8,
-    /// 0 to 63; the standard says 63.
+    /// 0 to 63; the standard's limit is 63.
     pub brackets: u8,
 }
 

@@ -1,4 +1,4 @@
-//! What a layout says of a text, in positions of its characters.
+//! What a layout says about a text, in positions of its characters.
 ghost use Rattle.std.specs.Prelude.{ℕ, ◌≡◌, ◌<◌, ◌+◌, IfErr, IfOk, length, slice_index};
 ghost use Rattle.lines.specs.Layouts.{line_at, view_of};
 ghost use Rattle.room.specs.Written.{WritesWhole};
@@ -36,7 +36,7 @@ pub fn write_order(layout: &Layout<'_>, k: usize, out: &mut [usize]) -> usize
     write_items(layout.line(k).order, out)
 }
 
-/// Writes the place of each position from `start` on, so many as `out` has items, in the order of a line.
+/// Writes the place in a line's order of each position from `start` on, as many as `out` has items.
 fn fill_places(order: &[usize], start: usize, out: &mut [usize])
     ensures len { length out.new ≡ length out.old }
     ensures places { (i : ℕ) → i < length out.old → IsPlace order.now (length order.now) (start + i)

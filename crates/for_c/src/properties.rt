@@ -1,4 +1,4 @@
-//! The properties of a code point by tables.
+//! The properties of a code point.
 ghost use Rattle.std.specs.Prelude.{◌≡◌, Some, IfOk, IfErr};
 ghost use Rattle.std.specs.Char.{IsScalar};
 ghost use Rattle.std.specs.Option.{unwrap_or};
@@ -53,7 +53,7 @@ pub(crate) fn bracket_number(bracket: Bracket) -> u8
     }
 }
 
-/// Returns the class and the bracket of a code point. Fails with `NoCharacter` if it is no scalar value.
+/// Returns the class and the bracket of a code point. Fails with `NoCharacter` if it isn't a scalar value.
 fn unit_of(tables: &Tables, code: u32) -> Result<Unit, CallError>
     ensures unit { IfOk result (IsUnitOf tables.now code) }
     ensures reason { IfErr result (RejectsCode code) }
@@ -64,7 +64,7 @@ fn unit_of(tables: &Tables, code: u32) -> Result<Unit, CallError>
     }
 }
 
-/// Returns the number of the class of a code point. Fails with `NoCharacter` if it is no scalar value.
+/// Returns the number of the class of a code point. Fails with `NoCharacter` if it isn't a scalar value.
 pub fn class_of(tables: &Tables, code: u32) -> Result<u8, CallError>
     ensures class { IfOk result (IsClassOf tables.now code) }
     ensures reason { IfErr result (RejectsCode code) }
@@ -74,7 +74,7 @@ pub fn class_of(tables: &Tables, code: u32) -> Result<u8, CallError>
 }
 
 /// Returns the number of what the bracket of a code point does: 0 if it is no bracket, 1 if it opens, 2 if it closes.
-/// Fails with `NoCharacter` if it is no scalar value.
+/// Fails with `NoCharacter` if it isn't a scalar value.
 pub fn bracket_of(tables: &Tables, code: u32) -> Result<u8, CallError>
     ensures bracket { IfOk result (IsBracketOf tables.now code) }
     ensures reason { IfErr result (RejectsCode code) }
@@ -83,7 +83,7 @@ pub fn bracket_of(tables: &Tables, code: u32) -> Result<u8, CallError>
     Ok(bracket_number(unit.bracket))
 }
 
-/// Returns the mirrored character of a code point (L4), or the code point if it has none or is no scalar value.
+/// Returns the mirrored character of a code point (L4), or the code point if it has none or isn't a scalar value.
 pub fn mirror_image(tables: &Tables, code: u32) -> u32
     ensures other { (IsScalar code → ⊥) → result ≡ code }
     ensures image { IsScalar code → result ≡ unwrap_or (glyph_by tables.now.mirrors code) code }

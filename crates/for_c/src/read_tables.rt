@@ -51,8 +51,8 @@ pub fn kind_in(error: CallError) -> u32
     }
 }
 
-/// Returns the error for the fault of a file: `Memory`, or else the error that names the file. A read of bytes does not
-/// fail.
+/// Returns the error for the fault of a file: `Memory`, or else the error that names the file. Reading bytes never
+/// fails.
 fn error_of_file(fault: FileFault) -> CallError
     ensures { result ≡ error_of_file fault }
 {

@@ -1,4 +1,4 @@
-//! The error that a call fails with, from the reason why a room does not do what it is asked for.
+//! The error of a call, from the reason why a room does not do what it is asked for.
 ghost use Rattle.std.specs.Prelude.{◌≡◌};
 ghost use Rattle.sources.specs.Seen.{source_seen};
 ghost use Rattle.for_c.specs.Reasons.{error_of_layout, error_of_line, error_of_room, error_of_text};
@@ -47,8 +47,8 @@ pub fn error_of_text(source: Source<'_>, fault: LayoutFault) -> CallError
     }
 }
 
-/// Returns the error of a call that does not lay out one line alone for this reason. Of the two ends of a line, the
-/// start is the break with the index 0, and the end that with the index 1.
+/// Returns the error of a call that does not lay out one line alone for this reason. The line's start counts as the
+/// break with the index 0, its end as the break with the index 1.
 pub fn error_of_line(fault: LineFault) -> CallError
     ensures { result ≡ error_of_line fault }
 {

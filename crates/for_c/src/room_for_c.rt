@@ -41,8 +41,8 @@ impl RoomForC {
     ghost use Rattle.sources.specs.Sources.{Classes, Units};
     ghost use Rattle.for_c.specs.RoomCalls.{LaysOut, PutsLineOf, RejectsCapacity, SetsLines};
 
-    /// Makes a room for texts of up to `n` units, at most 16,777,216, code units only if it is to have offsets. It
-    /// holds the layout of an empty text. It takes 86 bytes for each unit, and 114 with offsets.
+    /// Makes a room for texts of up to `n` units, at most 16,777,216, with the layout of an empty text. If `encodes`,
+    /// it has offsets, and texts may be in code units. It takes 86 bytes for each unit, and 114 with offsets.
     pub fn with_room(alloc: Global, n: usize, encodes: bool) -> Result<RoomForC, CallError>
         ensures made { IfOk result (λ room. room ≡ new_room n encodes) }
         ensures reason { IfErr result (RejectsCapacity n) }
@@ -67,7 +67,7 @@ impl RoomForC {
         &self.room
     }
 
-    /// Lays out a text by the tables, as `Room::lay_out` does.
+    /// Lays out a text with the tables, as `Room::lay_out` does.
     // Inlined, a call on a short text takes fewer instructions.
     #[inline(always)]
     pub fn lay_out(&mut self, tables: &Tables, ask: &Ask<'_>) -> Result<(), CallError>
@@ -79,7 +79,7 @@ impl RoomForC {
         }
     }
 
-    /// Lays out a text of classes, by their numbers, as `Room::lay_out` does.
+    /// Lays out a text of classes, given as numbers, as `Room::lay_out` does.
     pub fn lay_out_classes(
         &mut self,
         numbers: &[u8],
@@ -100,7 +100,7 @@ impl RoomForC {
         }
     }
 
-    /// Lays out a text of units, by their numbers, as `Room::lay_out` does.
+    /// Lays out a text of units, given as numbers, as `Room::lay_out` does.
     pub fn lay_out_numbered(
         &mut self,
         numbered: &[NumberedUnit],

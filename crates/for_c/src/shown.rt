@@ -1,4 +1,4 @@
-//! A line as it is shown (L4), if the text is as long as the one that the room holds.
+//! A line as it is shown (L4), if the given text is as long as that of the room.
 ghost use Rattle.std.specs.Prelude.{◌≡◌};
 ghost use Rattle.room.specs.ShownUnits.{shown_utf16, shown_utf8};
 ghost use Rattle.for_c.specs.Shown.{WritesShownIf, WritesUnitsIf};
@@ -8,7 +8,7 @@ use ucdfiles::tables::Tables;
 
 /// Writes the characters of the line with the number `k` as they are shown, from left to right, to the front of `out`,
 /// if all fit there. `codes` are the code points of the whole text. Returns how many there are, 0 if there is no such
-/// line, or if the room holds a text of another length.
+/// line, or if the room's text has another length.
 pub fn write_shown(room: &Room, tables: &Tables, codes: &[u32], k: usize, out: &mut [u32]) -> usize
     ensures { WritesShownIf tables.now room.now codes.now k result out.old out.new }
 {
@@ -23,7 +23,7 @@ pub fn write_shown(room: &Room, tables: &Tables, codes: &[u32], k: usize, out: &
 
 /// Writes the characters of the line with the number `k` as they are shown, from left to right, in UTF-8 to the front
 /// of `out`, if all fit there. `text` is the whole text in UTF-8. Returns how many bytes there are, 0 if there is no
-/// such line, or if the room holds a text of another length.
+/// such line, or if the room's text has another length.
 pub fn write_shown_utf8(
     room: &Room,
     tables: &Tables,
@@ -44,7 +44,7 @@ pub fn write_shown_utf8(
 
 /// Writes the characters of the line with the number `k` as they are shown, from left to right, in UTF-16 to the front
 /// of `out`, if all fit there. `text` is the whole text in UTF-16. Returns how many code units there are, 0 if there is
-/// no such line, or if the room holds a text of another length.
+/// no such line, or if the room's text has another length.
 pub fn write_shown_utf16(
     room: &Room,
     tables: &Tables,

@@ -24,7 +24,7 @@ pub struct TableJudge {
     state: JudgeState,
 }
 
-/// Returns the kind of a file that is judged by these tables, or without tables.
+/// Returns the kind of a file that is judged with these tables, or without tables.
 pub(crate) fn kind_by(tables: &Option<Arc<Tables, Global>>) -> Kind<'_>
     ensures { tables_of result ≡ option_map arc_value tables.now }
 {
@@ -35,7 +35,7 @@ pub(crate) fn kind_by(tables: &Option<Arc<Tables, Global>>) -> Kind<'_>
 }
 
 impl TableJudge {
-    /// Makes a judge before its first byte that lays out with these limits: of a BidiCharacterTest.txt by the tables,
+    /// Makes a judge before its first byte that lays out with these limits: of a BidiCharacterTest.txt with the tables,
     /// or of a BidiTest.txt without tables. It is boxed because it contains a line. Fails with `Memory`.
     pub fn new(
         alloc: Global,

@@ -31,8 +31,8 @@ pub struct TableReport {
 }
 
 impl TableReport {
-    /// Makes a report before its first byte that lays out with these limits: on a BidiCharacterTest.txt by the tables,
-    /// or on a BidiTest.txt without tables. It is boxed because it contains a line. Fails with `Memory`.
+    /// Makes a report before its first byte that lays out with these limits: on a BidiCharacterTest.txt with the
+    /// tables, or on a BidiTest.txt without tables. It is boxed because it contains a line. Fails with `Memory`.
     pub fn new(
         alloc: Global,
         tables: Option<Arc<Tables, Global>>,
@@ -149,8 +149,8 @@ impl TableReport {
         counts_for_c(&self.state.tally(), self.state.malformed())
     }
 
-    /// Takes the end of the file. Returns the counts of the whole file. It has then the wrong cases of a last line
-    /// without LF. It takes no memory.
+    /// Takes the end of the file. Returns the counts of the whole file. Afterwards it has the wrong cases of a last
+    /// line without LF. It takes no memory.
     ///
     /// Fails with `NoReport` if the file has ended before, and else with `CasesLeft` if it has wrong cases that it has
     /// not yet returned; then it is unchanged.

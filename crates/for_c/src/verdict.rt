@@ -6,20 +6,20 @@ ghost use Rattle.for_c.specs.VerdictLines.{HasSmallIndex, HasSmallNumbers};
 use crate::directions::{direction_numbered, number_of_direction};
 use bidtests::verdict::{Cause, Place, Verdict};
 
-/// A verdict on a test file, as numbers; those that the verdict does not need are 0.
+/// A verdict on a test file, as numbers. Numbers that the verdict does not need are 0.
 #[repr(C)]
 #[derive(Clone, Copy, PartialEq, Eq)]
 pub struct BidiVerdict {
     /// 0 if the whole file is right, 1 if a line is malformed, 2 if a case is wrong.
     pub answer: u32,
-    /// Of a malformed line the number of the cause, from 1; of a wrong case 1 the paragraph's level, 2 the levels, 3
-    /// the order.
+    /// For a malformed line, the number of the cause, from 1. For a wrong case, 1 for the paragraph's level, 2 for the
+    /// levels, 3 for the order.
     pub reason: u32,
-    /// Of a wrong case the number of the direction.
+    /// For a wrong case, the number of the direction.
     pub direction: u32,
     /// The number of the line, from 1.
     pub line: u64,
-    /// Of a wrong case the index in the list of levels or of the order, from 0.
+    /// For a wrong case, the index in the list of levels or of the order, from 0.
     pub index: usize,
     /// If the whole file is right, the number of its rows.
     pub rows: u64,
@@ -47,7 +47,7 @@ pub(crate) fn number_of_cause(cause: Cause) -> u32
     }
 }
 
-/// Returns the number of what is wrong with a case, and the index at which it is wrong.
+/// Returns the number of the part of a case that is wrong, and the index at which it is wrong.
 pub(crate) fn numbers_of_place(place: Place) -> (u32, usize)
     ensures number { result.0 ≡ place_number place }
     ensures index { result.1 ≡ index_in place }
@@ -139,7 +139,7 @@ fn place_numbered(number: u32, index: usize) -> Option<Place>
 }
 
 impl BidiVerdict {
-    /// Returns the verdict that these numbers encode, whatever the numbers are that it does not need.
+    /// Returns the verdict that these numbers encode. It ignores numbers that the verdict does not need.
     fn named(self) -> Option<Verdict>
         ensures each { (verdict : Verdict) → self ≡ verdict_for_c verdict → result ≡ Some verdict }
         ensures small { IfSome result HasSmallNumbers }
@@ -162,7 +162,8 @@ impl BidiVerdict {
         }
     }
 
-    /// Returns the verdict that these numbers encode, if they encode one: numbers that it does not need must be 0.
+    /// Returns the verdict that these numbers encode, if they encode one. Numbers that the verdict does not need must
+    /// be 0.
     pub fn verdict(self) -> Option<Verdict>
         ensures each { (verdict : Verdict) → self ≡ verdict_for_c verdict → result ≡ Some verdict }
         ensures encoded { IfSome result (λ verdict. self ≡ verdict_for_c verdict) }

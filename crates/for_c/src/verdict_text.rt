@@ -24,10 +24,11 @@ fn verdict_line(alloc: Global, numbers: &BidiVerdict) -> Result<Vec<u8>, CallErr
     }
 }
 
-/// Writes the line that states the verdict of these numbers, with its LF, to the front of `out`.
+/// Writes the line that states the verdict of these numbers, with its LF, to the front of `out`, and its number of
+/// bytes to `line_length`.
 ///
-/// Fails with `NoVerdict` if the numbers encode no verdict, and with `Memory`; then all is unchanged. Else
-/// `line_length` is the number of bytes of the line; fails with `TooSmall` if `out` has fewer, and is unchanged then.
+/// Fails with `NoVerdict` if the numbers encode no verdict, and with `Memory`; then both are unchanged. Fails with
+/// `TooSmall` if `out` has fewer bytes; then only `line_length` is written.
 pub fn write_verdict_line(
     alloc: Global,
     numbers: &BidiVerdict,

@@ -6,7 +6,7 @@ use crate::directions::number_of_direction;
 use crate::verdict::numbers_of_place;
 use report::wrong_case::{Item, WrongCase};
 
-/// What is at a place of the expected levels or order, or of a layout, as numbers.
+/// The item at a place of the expected levels or order, or of a layout, as numbers.
 #[repr(C)]
 #[derive(Clone, Copy)]
 pub struct BidiItem {
@@ -28,13 +28,13 @@ pub struct BidiWrongCase {
     pub place: u32,
     /// The index in the list of levels or of the order, from 0.
     pub index: usize,
-    /// What the file expects there.
+    /// The expected item there.
     pub claimed: BidiItem,
-    /// What the rules P1 to L2 give there.
+    /// The item there by the rules P1 to L2.
     pub defined: BidiItem,
 }
 
-/// Returns what is at a place as C gets it.
+/// Returns an item as C gets it.
 fn item_for_c(item: Item) -> BidiItem
     ensures { result ≡ item_for_c item }
 {

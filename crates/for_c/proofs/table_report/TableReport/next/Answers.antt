@@ -2,7 +2,7 @@ use Rattle.std.proofs.Common.{◌++◌, refl, sym, ap, ◌∙◌, append-nil}
 use Rattle.for_c.proofs.CasesReturned.{returns-all}
 use Rattle.for_c.proofs.table_report.TableReport.next.Goals as goal
 
--- with none left it has returned all
+-- if no case remains, it has returned all
 pub returns-in-None : goal.returns-in-None
 returns-in-None c =
     let none = c.in-None.ensures in
