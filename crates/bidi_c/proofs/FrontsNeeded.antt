@@ -1,4 +1,4 @@
--- What a call for properties of whole arrays is without tables.
+-- A call for properties of whole arrays, without tables.
 use Rattle.std.specs.Prelude.{ℕ, ◌≡◌, Option, None, Err, List, MatchOption}
 use Rattle.std.proofs.Common.{refl, sym, subst}
 use Rattle.ucdfiles.specs.Tables.{TablesOf}

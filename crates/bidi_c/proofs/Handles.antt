@@ -53,7 +53,7 @@ Bh = bidi.the_row
 abbrev pub both : Val → Val → Val
 both v w = vstruct (vcons v (vcons w vnil))
 
--- what is held and its allocator, as a call passes them: by their layouts
+-- the contents of a handle and its allocator, as a call passes them: with their layouts
 abbrev pub Rc : RattleType
 Rc = arg (bare (layout R)) no R
 
@@ -66,14 +66,14 @@ Zc = arg (bare (layout Z)) no Z
 abbrev pub Zc_laws : Laws Zc
 Zc_laws = arg_laws (bare (layout Z)) no Z heap_laws.the_row_laws refl
 
--- how the allocator and what is held are let go
+-- how the allocator and the contents are dropped
 abbrev pub none_drops : Dict
 none_drops = impl ("bidi_c::Destruct++none::drop" ∷ []) (tcons (layout Zc) tnil) dnil
 
 abbrev pub held_drops : Dict
 held_drops = impl ("bidi_c::bidi_c++held++Held+Destruct::drop" ∷ []) tnil dnil
 
--- the box of what is held
+-- the box of the contents
 abbrev pub E : Bx
 E = record { row = R; laws = inner_laws.the_row_laws; al = record { row = Z; laws = heap_laws.the_row_laws; g = ghosts; d = dict; drops = none_drops } }
 
@@ -134,7 +134,7 @@ module _ {M : Type 1} {𝓤 : Ura M} {𝓛 : Logic 𝓤} {K : Type 0} {Γ : List
       fpack t (Valss (declared.fields bidi.the_type)) (within (declared.shape bidi.the_type) (bidi.the_type.to d) (w ∷ [])) (v ∷ [], (vbool d.made ∷ [], tt)) $ s)
 
 module _ {M : Type 1} {𝓤 : Ura M} {𝓛 : Logic 𝓤} {K : Type 0} {Γ : List (Item 𝓤)} {G : Goal 𝓤 𝓛.H} where
-  -- the pointer's owner; the handle's words; the open borrow; what is seen of it, twice
+  -- opens a handle: gives the pointer's owner, the handle's words, the open borrow, and what is observed of it, twice
   pub bidi_opens : K → Soaks G → {κ : Lft} {q : Share} {γ : GName} (d : Bh.Denot) (rb ro : ℕ)
       → ((v : Val) → Seq K 𝓛 (‵ (Hd.own_val d.handle (v ∷ [])) ∷ ‵ (cell_at full_share Bh.mir (both v (vbool d.made) ∷ []) rb ro)
       ∷ ‵ (fobor κ q (Borrowed (mem Bh) rb ro γ)) ∷ ‵ (fobs γ (Bh.coded.code d)) ∷ ‵ (fauth γ (Bh.coded.code d)) ∷ Γ) G)

@@ -1,4 +1,4 @@
--- A call with limits that are not allowed fails for that, and changes nothing.
+-- A call with limits that are not allowed fails for this reason, and changes nothing.
 use Rattle.std.specs.Prelude.{ℕ, ◌≡◌, Err}
 use Rattle.units.specs.Limits.{AreAllowed, LimitsOf}
 use Rattle.for_c.specs.LimitsGiven.{ByLimits, RejectsLimits, limits_in}

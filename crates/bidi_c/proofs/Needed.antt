@@ -1,4 +1,4 @@
--- What a call is that does not find what it needs in its handle.
+-- A call without the contents that it needs in its handle.
 use Rattle.std.specs.Prelude.{ℕ, Bool, ◌≡◌, Option, Some, None, Err, List, MatchOption}
 use Rattle.std.proofs.Common.{◌∙◌, refl, sym, subst}
 use Rattle.ucdfiles.specs.Tables.{TablesOf}
@@ -32,22 +32,22 @@ module _ {IsSo : Outcome → Type 0} {number : ℕ} where
   pub no_tables_named : {before after : ℕ} → number ≡ 10 → after ≡ 0 → IsSo (Err NoTables) → AnswersNaming place_named IsSo number before after
   no_tables_named coded named so = record { outcome = Err NoTables; coded = coded; place = named; so = so }
 
--- it fails for that
+-- it fails with that error
 pub not_found : {V A : Type 0} {error : CallError} {value : Option V} {IsSo : V → A → A → Outcome → Type 0} {old : A} → value ≡ None → Needs error value IsSo old old (Err error)
 not_found {V} {A} {error} {value} {IsSo} {old} none =
     record { so = subst (λ (v : Option V). MatchOption v (Fails error old old (Err error)) (λ w. IsSo w old old (Err error))) (sym none) (refl, refl) }
 
--- of a room that is to be changed
+-- the same for a room that the call changes
 pub no_room_of_kind : {encodes : Bool} {IsSo : RoomOf → RoomOf → Outcome → Type 0} {old new : Option Held} → old ≡ None → new ≡ old → AtRoom encodes IsSo old new (Err NoRoom)
 no_room_of_kind {encodes} {IsSo} {old} {new} none same =
     record { so = subst (λ (h : Option Held). MatchOption (room_for encodes h) (Fails NoRoom h new (Err NoRoom)) (λ room. (last : RoomOf) × (new ≡ Some (Room last)) × IsSo room last (Err NoRoom))) (sym none) (same ∙ none, refl) }
 
--- of a line
+-- the same for a line
 pub no_room_for_line : {room : Option RoomOf} {start end shown : ℕ} {levels order : List ℕ} → room ≡ None → AtLineOf room start end levels levels order order shown shown (Err NoRoom)
 no_room_for_line {room} {start} {end} {shown} {levels} {order} none =
     record { so = subst (λ (r : Option RoomOf). MatchOption r (Fails {A = List ℕ × List ℕ × ℕ} NoRoom (levels, order, shown) (levels, order, shown) (Err NoRoom)) (λ held. PutsLineOf held start end levels levels order order shown shown (Err NoRoom))) (sym none) (refl, refl) }
 
--- of the levels of paragraphs
+-- the same for the levels of paragraphs
 pub no_tables_no_levels : {tables : Option TablesOf} {source : SourceOf} {number count : ℕ} {levels : List ℕ} → tables ≡ None → PutsBaseLevelsAt tables source number levels levels count count (Err NoTables)
 no_tables_no_levels {tables} {source} {number} {count} {levels} none =
     record { so = subst (λ (t : Option TablesOf). MatchOption t (Fails {A = List ℕ × ℕ} NoTables (levels, count) (levels, count) (Err NoTables)) (λ by. PutsBaseLevels by source number levels levels count count (Err NoTables))) (sym none) (refl, refl) }

@@ -15,7 +15,7 @@ use Rattle.bidi_c.specs.declared.held.Held.TheVariants.{Room}
 abbrev pub Fails : {A : Type 0} → CallError → A → A → Outcome → Type 0
 Fails error old new outcome = (new ≡ old) × (outcome ≡ Err error)
 
--- a call that needs a value fails without it, and else this is so
+-- a call that needs a value fails without it; with the value `IsSo` holds
 pub record Needs {V A : Type 0} (error : CallError) (value : Option V) (IsSo : V → A → A → Outcome → Type 0) (old new : A) (outcome : Outcome) : Type 0 where
   pub so : MatchOption value (Fails error old new outcome) (λ v. IsSo v old new outcome)
 
@@ -36,7 +36,8 @@ pub record AtRoom (encodes : Bool) (IsSo : RoomOf → RoomOf → Outcome → Typ
   pub so : MatchOption (room_for encodes old) (Fails NoRoom old new outcome)
       (λ room. (last : RoomOf) × (new ≡ Some (Room last)) × IsSo room last outcome)
 
--- a call that needs a room of a kind, which it changes, and tables: if a handle is empty, it fails for that first
+-- a call that needs a room of a kind, which it changes, and tables: if one of the handles is empty, it fails for that
+-- first
 abbrev pub AtBoth : Bool → Option Held → (TablesOf → RoomOf → RoomOf → Outcome → Type 0) → Option Held → Option Held → Outcome → Type 0
 AtBoth encodes tables IsSo None new outcome = Fails NoRoom None new outcome
 AtBoth encodes None IsSo (Some held) new outcome = Fails NoTables (Some held) new outcome

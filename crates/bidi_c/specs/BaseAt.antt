@@ -1,4 +1,4 @@
--- The direction of a text by the tables of a handle, without a layout.
+-- The direction of a text, with the tables of a handle and without a layout.
 use Rattle.std.specs.Prelude.{ℕ, ◌≡◌, Option, List, MatchOption}
 use Rattle.ucdfiles.specs.Tables.{TablesOf}
 use Rattle.sources.specs.Sources.{SourceOf}

@@ -1,4 +1,4 @@
--- Properties of whole arrays by the tables of a handle, and what a room says of its text for other engines.
+-- Properties of whole arrays with the tables of a handle, and what a room says about its text for other engines.
 use Rattle.std.specs.Prelude.{ℕ, ◌≡◌, false, Option, Some, None, List, [], MatchOption}
 use Rattle.units.specs.Layout.{text_levels}
 use Rattle.units.specs.Limits.{LimitsOf}
@@ -21,7 +21,7 @@ pub record PutsPropertiesAt (tables : Option TablesOf) (codes classes classes2 b
   pub so : MatchOption tables (Fails {A = List ℕ × List ℕ} NoTables (classes, brackets) (classes2, brackets2) outcome)
       (λ by. PutsProperties by codes classes classes2 brackets brackets2 outcome)
 
--- BD14 to BD16: the bracket that a code point pairs with by the tables, or 0 if there is none, or there are no tables
+-- BD14 to BD16: the bracket that a code point pairs with, or 0 if there is none, or there are no tables
 abbrev pub PairsAt : Option TablesOf → ℕ → ℕ → Type 0
 PairsAt (Some tables) code partner = IsPairedBracket tables code partner
 PairsAt None code partner = partner ≡ 0
@@ -31,12 +31,12 @@ abbrev pub resolved_at : Option RoomOf → List (Option ℕ)
 resolved_at (Some room) = text_levels room.text.limits room.text.units room.text.direction
 resolved_at None = []
 
--- X9, L1: the levels of all characters of the text of a room are written, removed ones included; without a room none
+-- X9, L1: the levels of all characters of the text of a room are written, including removed ones; without a room none
 abbrev pub WritesWholeLevelsAt : Option RoomOf → ℕ → List ℕ → List ℕ → Type 0
 WritesWholeLevelsAt (Some room) counted old new = WritesWholeLevels room counted old new
 WritesWholeLevelsAt None counted old new = WritesNothing counted old new
 
--- P1 to L2: of a call that is to lay out a text of units, by their numbers, whatever the tables
+-- P1 to L2: of a call that lays out a text of units, given as numbers; it needs no tables
 abbrev pub LaysOutUnits : List NumberedUnit → LimitsOf → ℕ → List ℕ → Option Held → Option Held → Outcome → Type 0
 LaysOutUnits numbered limits number breaks old new outcome =
     AtRoom false (λ room last outcome. (tables : TablesOf) → LaysOutUnder (Units numbered) limits number breaks tables room last outcome)

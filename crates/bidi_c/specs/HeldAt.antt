@@ -34,7 +34,7 @@ judge_at handle = judge_in (held_at handle)
 abbrev pub report_at : BidiHandle → Option TableReport
 report_at handle = report_in (held_at handle)
 
--- no text has no layout
+-- the layout of no text
 abbrev pub no_layout : TextLayout
 no_layout = record { paras = []; levels = []; lines = [] }
 
@@ -51,7 +51,7 @@ layout_at handle = layout_if (room_at handle)
 abbrev pub line_of_room : BidiHandle → ℕ → LineLayout
 line_of_room handle k = line_at (layout_at handle) k
 
--- how many units the greatest text has that it can hold, 0 without a room
+-- the number of units of the longest text that fits into a room, 0 without a room
 abbrev pub capacity_if : Option RoomOf → ℕ
 capacity_if (Some room) = room.capacity
 capacity_if None = 0

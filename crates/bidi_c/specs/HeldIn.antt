@@ -29,7 +29,7 @@ abbrev pub report_in : Option Held → Option TableReport
 report_in (Some (Report report)) = Some report.value
 report_in _ = None
 
--- a room, if it has offsets, or else if it has none
+-- a room, if it has offsets or has none, as asked for
 abbrev pub only_if : Bool → RoomOf → Option RoomOf
 only_if true room = Some room
 only_if false room = None
@@ -43,12 +43,12 @@ abbrev pub room_for : Bool → Option Held → Option RoomOf
 room_for encodes (Some (Room room)) = of_kind encodes room
 room_for encodes _ = None
 
--- with this judge in place of the one that it is
+-- the same contents with this judge in place of their own
 abbrev pub with_judge : Held → TableJudge → Held
 with_judge (Judge judge) last = Judge (with_value judge last)
 with_judge held last = held
 
--- with this report in place of the one that it is
+-- the same contents with this report in place of their own
 abbrev pub with_report : Held → TableReport → Held
 with_report (Report report) last = Report (with_value report last)
 with_report held last = held

@@ -13,22 +13,22 @@ use Rattle.bidi_c.specs.HeldIn.{judge_in, tables_in, with_judge}
 use Rattle.bidi_c.specs.Sharing.{RejectsSharing}
 use Rattle.bidi_c.specs.declared.held.Held.{Held}
 
--- a judge is in the handle, and this is so of it
+-- a judge is in the handle, and `IsSo` holds of it
 abbrev pub OfJudge : Option Held → (TableJudge → Type 0) → Type 0
 OfJudge held IsSo = MatchOption (judge_in held) ⊥ IsSo
 
--- what a call leaves in a handle that makes a judge with these tables, or without tables, and limits
+-- the contents of a handle after a call that makes a judge with these tables, or without tables, and limits
 abbrev pub MakesJudge : Option TablesOf → LimitsOf → Option Held → Option Held → Outcome → Type 0
 MakesJudge tables limits old new outcome = Puts (λ held. OfJudge held (λ judge. HasTaken limits judge tables [])) (λ error. error ≡ Memory) old new outcome
 
--- what a call leaves in a handle that makes a judge of a BidiCharacterTest.txt with these limits and the tables of another
--- handle, if that has tables
+-- the contents of a handle after a call that makes a judge of a BidiCharacterTest.txt with these limits and the tables
+-- of another handle, if that has tables
 abbrev pub MakesTableJudge : Option Held → LimitsOf → Option Held → Option Held → Outcome → Type 0
 MakesTableJudge tables limits old new outcome =
     Puts (λ held. IsSome (tables_in tables) × OfJudge held (λ judge. HasTaken limits judge (tables_in tables) [])) (RejectsSharing tables) old new outcome
 
--- a call on the judge of a handle: it succeeds, this is so of the judge before and after, and only the judge changes; without
--- a judge it fails, and the handle is unchanged
+-- a call on the judge of a handle: it succeeds, `IsSo` holds of the judge before and after, and only the judge changes;
+-- without a judge it fails, and the handle is unchanged
 pub record AtJudge (IsSo : TableJudge → TableJudge → Type 0) (old new : Option Held) (outcome : Outcome) : Type 0 where
   pub at : MatchOption (judge_in old) ((outcome ≡ Err NoJudge) × (new ≡ old))
       (λ judge. (outcome ≡ Ok tt) × ((last : TableJudge) × (new ≡ option_map (λ held. with_judge held last) old) × IsSo judge last))
@@ -39,13 +39,13 @@ IsItsVerdict judge numbers =
     (limits : LimitsOf) (tables : Option TablesOf) (bytes : List ℕ)
     → HasTaken limits judge tables bytes → numbers ≡ verdict_for_c (verdict_by limits tables bytes)
 
--- a call that ends the judge of a handle: it succeeds with the verdict, and the handle is empty; without a judge it fails,
--- and all is unchanged
+-- a call that ends the judge of a handle: it succeeds with the verdict, and the handle is empty; without a judge it
+-- fails, and all is unchanged
 pub record EndsJudge (old new : Option Held) (before after : BidiVerdict) (outcome : Outcome) : Type 0 where
   pub at : MatchOption (judge_in old) ((outcome ≡ Err NoJudge) × (new ≡ old) × (after ≡ before))
       (λ judge. (outcome ≡ Ok tt) × (new ≡ None) × IsItsVerdict judge after)
 
--- a call that asks the judge that a handle contains for its verdict, and may change it: it succeeds; without a judge it
+-- a call that asks the judge of a handle for its verdict, and may change the judge: it succeeds; without a judge it
 -- fails, and all is unchanged
 pub record Finishes (old new : Option Held) (before after : BidiVerdict) (outcome : Outcome) : Type 0 where
   pub at : MatchOption (judge_in old) ((outcome ≡ Err NoJudge) × (new ≡ old) × (after ≡ before))

@@ -18,17 +18,17 @@ needs_offsets (Units numbered) = false
 needs_offsets (Utf8 bytes faults) = true
 needs_offsets (Utf16 units faults) = true
 
--- P1 to L2: a room lays out a text by tables, under the direction with this number
+-- P1 to L2: a room lays out a text with tables, under the direction with this number
 abbrev pub LaysOutUnder : SourceOf → LimitsOf → ℕ → List ℕ → TablesOf → RoomOf → RoomOf → Outcome → Type 0
 LaysOutUnder source limits number breaks tables =
     UnderDirection number (λ direction. LaysOut (record { source = source; direction = direction; breaks = breaks; limits = limits }) tables)
 
--- P1 to L2: what the handle of a room contains before and after a call that is to lay out a text
+-- P1 to L2: the contents of the handle of a room before and after a call that lays out a text
 abbrev pub LaysOutText : SourceOf → LimitsOf → ℕ → List ℕ → Option Held → Option Held → Option Held → Outcome → Type 0
 LaysOutText source limits number breaks tables old new outcome =
     AtBoth (needs_offsets source) tables (LaysOutUnder source limits number breaks) old new outcome
 
--- P1 to L2: of a call that is to lay out a text of classes, by their numbers, whatever the tables
+-- P1 to L2: of a call that lays out a text of classes, given as numbers; it needs no tables
 abbrev pub LaysOutClasses : List ℕ → LimitsOf → ℕ → List ℕ → Option Held → Option Held → Outcome → Type 0
 LaysOutClasses numbers limits number breaks old new outcome =
     AtRoom false (λ room last outcome. (tables : TablesOf) → LaysOutUnder (Classes numbers) limits number breaks tables room last outcome)

@@ -1,4 +1,4 @@
--- What handles own, lend and contain, and what calls on them do.
+-- What handles own, contain and let callers borrow, and what calls on them do.
 pub mod Kept
 pub mod Lent
 pub mod HeldIn

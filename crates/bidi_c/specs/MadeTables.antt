@@ -12,12 +12,12 @@ use Rattle.bidi_c.specs.declared.held.Held.{Held}
 abbrev pub HaveTables : Option Held → List ℕ → List ℕ → List ℕ → Type 0
 HaveTables held classes brackets mirrors = MatchOption (tables_in held) ⊥ (StateTables classes brackets mirrors)
 
--- what a call leaves in a handle that is to make tables from files with these bytes
+-- the contents of a handle after a call that makes tables from files with these bytes
 abbrev pub MakesTables : List ℕ → List ℕ → List ℕ → Option Held → Option Held → Outcome → Type 0
 MakesTables classes brackets mirrors old new outcome =
     Puts (λ held. HaveTables held classes brackets mirrors) (RejectsTables classes brackets mirrors) old new outcome
 
--- the mirrored character of a character by the tables, itself if it has none
+-- the mirrored character of a character, or the character itself if it has none
 abbrev pub image_by : Option TablesOf → ℕ → ℕ
 image_by (Some tables) c = unwrap_or (glyph_by tables.mirrors c) c
 image_by None c = c

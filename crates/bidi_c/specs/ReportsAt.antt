@@ -12,27 +12,28 @@ use Rattle.bidi_c.specs.HeldIn.{report_in, tables_in, with_report}
 use Rattle.bidi_c.specs.Sharing.{RejectsSharing}
 use Rattle.bidi_c.specs.declared.held.Held.{Held}
 
--- a report is in the handle, and this is so of it
+-- a report is in the handle, and `IsSo` holds of it
 abbrev pub OfReport : Option Held → (TableReport → Type 0) → Type 0
 OfReport held IsSo = MatchOption (report_in held) ⊥ IsSo
 
--- what a call leaves in a handle that makes a report with these tables, or without tables, and limits
+-- the contents of a handle after a call that makes a report with these tables, or without tables, and limits
 abbrev pub MakesReport : Option TablesOf → LimitsOf → Option Held → Option Held → Outcome → Type 0
 MakesReport tables limits old new outcome = Puts (λ held. OfReport held (λ report. HasReported limits tables false report [] [])) (λ error. error ≡ Memory) old new outcome
 
--- what a call leaves in a handle that makes a report on a BidiCharacterTest.txt with these limits and the tables of another
--- handle, if that has tables
+-- the contents of a handle after a call that makes a report on a BidiCharacterTest.txt with these limits and the tables
+-- of another handle, if that has tables
 abbrev pub MakesTableReport : Option Held → LimitsOf → Option Held → Option Held → Outcome → Type 0
 MakesTableReport tables limits old new outcome =
     Puts (λ held. IsSome (tables_in tables) × OfReport held (λ report. HasReported limits (tables_in tables) false report [] [])) (RejectsSharing tables) old new outcome
 
--- a result is written to a place if it is a value, else the place is unchanged, and the call fails for the reason that it is
+-- a result is written to a place if it is a value; else the place is unchanged, and the call fails with the result's
+-- error
 abbrev pub IsPut : {A : Type 0} → Result A CallError → A → A → Outcome → Type 0
 IsPut result before after outcome =
     MatchResult result (λ value. (outcome ≡ Ok tt) × (after ≡ value)) (λ error. (outcome ≡ Err error) × (after ≡ before))
 
--- a call on the report of a handle: this is so of the report before and after and of a result, which is written to a place,
--- and only the report changes in the handle; without a report it fails, and all is unchanged
+-- a call on the report of a handle: `IsSo` holds of the report before and after and of a result, which is written to a
+-- place, and only the report changes in the handle; without a report the call fails, and all is unchanged
 pub record AtReport {A : Type 0} (IsSo : TableReport → TableReport → Result A CallError → Type 0) (old new : Option Held) (before after : A) (outcome : Outcome) : Type 0 where
   pub at : MatchOption (report_in old) ((outcome ≡ Err NoReport) × (new ≡ old) × (after ≡ before))
       (λ report. (last : TableReport) × (result : Result A CallError) × (new ≡ option_map (λ held. with_report held last) old) × IsSo report last result

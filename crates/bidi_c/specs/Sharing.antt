@@ -11,7 +11,7 @@ abbrev pub RejectsSharing : Option Held → CallError → Type 0
 RejectsSharing held error =
     ((error ≡ Memory) × IsSome (tables_in held)) ⊎ ((error ≡ NoTables) × (tables_in held ≡ None))
 
--- what a call leaves in a handle that is to contain the tables of another one
+-- the contents of a handle after a call that gives it the tables of another one
 abbrev pub SharesTables : Option Held → Option Held → Option Held → Outcome → Type 0
 SharesTables tables old new outcome =
     Puts (λ held. IsSome (tables_in tables) × (tables_in held ≡ tables_in tables)) (RejectsSharing tables) old new outcome

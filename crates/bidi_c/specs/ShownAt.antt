@@ -1,4 +1,4 @@
--- L4: a line of a room as it is shown by tables, in code points and in code units.
+-- L4: a line of a room as it is shown, in code points and in code units.
 use Rattle.std.specs.Prelude.{ℕ, Option, Some, List}
 use Rattle.ucdfiles.specs.Tables.{TablesOf}
 use Rattle.room.specs.Rooms.{RoomOf}

@@ -65,7 +65,7 @@ fn is_left_to_right(
 }
 
 /// Writes the level of the first paragraph of a text of code points under a direction (P1 to P3) to `level`. If there
-/// are no tables, or the number is no direction, or a code point is no scalar value, `level` is unchanged.
+/// are no tables, or the number is no direction, or a code point isn't a scalar value, `level` is unchanged.
 #[unsafe(no_mangle)]
 pub extern "C" fn bidi_base_level(
     tables: &mut BidiHandle,
@@ -102,9 +102,9 @@ pub extern "C" fn bidi_base_levels(
     status_and_place(base_levels(tables, source, direction, levels, count), place)
 }
 
-/// Writes to `stays` whether a text of code points has only classes that stay at level 0 (1) or not (0): if so, all of
-/// its levels are 0, unless its paragraphs are asked to be right-to-left. If there are no tables, or a code point is no
-/// scalar value, `stays` is unchanged.
+/// Writes 1 to `stays` if a text of code points has only classes that stay at level 0, else 0. If it writes 1, all
+/// levels of the text are 0, unless its paragraphs are asked to be right-to-left. If there are no tables, or a code
+/// point isn't a scalar value, `stays` is unchanged.
 #[unsafe(no_mangle)]
 pub extern "C" fn bidi_is_left_to_right(
     tables: &mut BidiHandle,
@@ -121,7 +121,7 @@ pub extern "C" fn bidi_is_left_to_right(
 }
 
 /// Writes the level of the first paragraph of a text of bytes of UTF-8 under a direction (P1 to P3) to `level`. If
-/// there are no tables, or the number is no direction, or the bytes are no UTF-8, `level` is unchanged.
+/// there are no tables, or the number is no direction, or the bytes aren't UTF-8, `level` is unchanged.
 #[unsafe(no_mangle)]
 pub extern "C" fn bidi_base_level_utf8(
     tables: &mut BidiHandle,
@@ -158,9 +158,9 @@ pub extern "C" fn bidi_base_levels_utf8(
     status_and_place(base_levels(tables, source, direction, levels, count), place)
 }
 
-/// Writes to `stays` whether a text of bytes of UTF-8 has only classes that stay at level 0 (1) or not (0): if so, all
-/// of its levels are 0, unless its paragraphs are asked to be right-to-left. If there are no tables, or the bytes are
-/// no UTF-8, `stays` is unchanged.
+/// Writes 1 to `stays` if a text of bytes of UTF-8 has only classes that stay at level 0, else 0. If it writes 1, all
+/// levels of the text are 0, unless its paragraphs are asked to be right-to-left. If there are no tables, or the bytes
+/// aren't UTF-8, `stays` is unchanged.
 #[unsafe(no_mangle)]
 pub extern "C" fn bidi_is_left_to_right_utf8(
     tables: &mut BidiHandle,
@@ -177,7 +177,7 @@ pub extern "C" fn bidi_is_left_to_right_utf8(
 }
 
 /// Writes the level of the first paragraph of a text of code units of UTF-16 under a direction (P1 to P3) to `level`.
-/// If there are no tables, or the number is no direction, or a surrogate is alone, `level` is unchanged.
+/// If there are no tables, or the number is no direction, or there is a lone surrogate, `level` is unchanged.
 #[unsafe(no_mangle)]
 pub extern "C" fn bidi_base_level_utf16(
     tables: &mut BidiHandle,
@@ -214,9 +214,9 @@ pub extern "C" fn bidi_base_levels_utf16(
     status_and_place(base_levels(tables, source, direction, levels, count), place)
 }
 
-/// Writes to `stays` whether a text of code units of UTF-16 has only classes that stay at level 0 (1) or not (0): if
-/// so, all of its levels are 0, unless its paragraphs are asked to be right-to-left. If there are no tables, or a
-/// surrogate is alone, `stays` is unchanged.
+/// Writes 1 to `stays` if a text of code units of UTF-16 has only classes that stay at level 0, else 0. If it writes 1,
+/// all levels of the text are 0, unless its paragraphs are asked to be right-to-left. If there are no tables, or there
+/// is a lone surrogate, `stays` is unchanged.
 #[unsafe(no_mangle)]
 pub extern "C" fn bidi_is_left_to_right_utf16(
     tables: &mut BidiHandle,

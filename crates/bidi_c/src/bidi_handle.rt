@@ -40,7 +40,7 @@ impl BidiHandle {
         }
     }
 
-    /// Borrows what it contains, unless it is empty.
+    /// Borrows its contents, unless it is empty.
     pub(crate) fn held(&mut self) -> Option<&mut Held>
         ensures* writes_back { sem 𝓛 (LendsHeldIf self.entry result) }
         ensures value { MatchOption result (self.old.handle.value ≡ None)
@@ -65,14 +65,14 @@ impl BidiHandle {
         held.tables()
     }
 
-    /// Frees what it contains.
+    /// Frees its contents.
     pub(crate) fn empty(&mut self, alloc: Global)
         ensures { self.new.handle.value ≡ None }
     {
         *self = BidiHandle::none(alloc);
     }
 
-    /// Contains this from now on; what it contained before is freed. Fails with `Memory`, and is unchanged then.
+    /// Replaces its contents by `held`, and frees what it contained before. Fails with `Memory`; then it is unchanged.
     pub(crate) fn hold(&mut self, alloc: Global, held: Held) -> Result<(), CallError>
         ensures { Puts (λ new. new ≡ Some held) (λ error. error ≡ Memory) self.old.handle.value
             self.new.handle.value result }

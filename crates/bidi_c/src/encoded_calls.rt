@@ -1,4 +1,4 @@
-//! What a room says of a text in code units, copied out in offsets.
+//! What a room says about a text in code units, copied out in offsets.
 ghost use Rattle.std.specs.Prelude.{◌≡◌, true, MatchOption, min};
 ghost use Rattle.room.specs.Looking.{line_in};
 ghost use Rattle.room.specs.Rooms.{characters_in, offset_in};
@@ -27,8 +27,8 @@ use for_c::line_runs::write_runs;
 use for_c::runs::BidiRun;
 use for_c::shown::{write_shown_utf8, write_shown_utf16};
 
-/// Returns the index of the character that the code unit at an offset belongs to; from the text's end on the number of
-/// characters; 0 without a room for code units.
+/// Returns the index of the character that the code unit at an offset belongs to. From the text's end on it returns the
+/// number of characters. Returns 0 without a room for code units.
 #[unsafe(no_mangle)]
 pub extern "C" fn bidi_index_of(room: &mut BidiHandle, at: usize) -> usize
     ensures room { held_at room.new ≡ held_at room.old }
@@ -43,8 +43,8 @@ pub extern "C" fn bidi_index_of(room: &mut BidiHandle, at: usize) -> usize
     }
 }
 
-/// Returns the offset at which the character with this index begins; from the number of characters on that of the
-/// text's end; 0 without a room for code units.
+/// Returns the offset at which the character with this index begins. From the number of characters on it returns the
+/// text's end. Returns 0 without a room for code units.
 #[unsafe(no_mangle)]
 pub extern "C" fn bidi_offset_of(room: &mut BidiHandle, index: usize) -> usize
     ensures room { held_at room.new ≡ held_at room.old }
@@ -60,7 +60,7 @@ pub extern "C" fn bidi_offset_of(room: &mut BidiHandle, index: usize) -> usize
     }
 }
 
-/// Returns the level of the code unit at an offset after L1, which is that of its character: 255 if that was removed
+/// Returns the level after L1 of the character of the code unit at an offset. Returns 255 if the character was removed
 /// (X9), from the text's end on, and without a room for code units.
 #[unsafe(no_mangle)]
 pub extern "C" fn bidi_level_at(room: &mut BidiHandle, at: usize) -> u8

@@ -52,9 +52,9 @@ fn lay_out_text_with(
     lay_out_text(room, tables, source, direction, breaks, allowed)
 }
 
-/// Lays out a text in UTF-8 in the room, by the tables and the standard limits, under the direction with this number,
-/// broken into lines at offsets of its bytes (P1 to L2). No memory is taken. If it fails, the room is unchanged, and
-/// `place` names the place: the offset of the first byte that is no part of a character, or the index of a break.
+/// Lays out a text in UTF-8 in the room, with the tables and the standard limits, under the direction with this number,
+/// broken into lines at offsets of its bytes (P1 to L2). It takes no memory. If it fails, the room is unchanged, and
+/// `place` names the place: the offset of the first byte that isn't part of a character, or the index of a break.
 #[unsafe(no_mangle)]
 pub extern "C" fn bidi_lay_out_utf8(
     room: &mut BidiHandle,
@@ -94,8 +94,8 @@ pub extern "C" fn bidi_lay_out_utf8_with(
     status_and_place(done, place)
 }
 
-/// Lays out a text in UTF-8 as `bidi_lay_out_utf8` does, with U+FFFD in the place of each maximal subpart of what is no
-/// UTF-8: of the bytes there, all that could begin a character, or else one. No break is inside such a part.
+/// Lays out a text in UTF-8 as `bidi_lay_out_utf8` does, but reads each maximal subpart of ill-formed UTF-8 as U+FFFD:
+/// all bytes there that could begin a character, or else one byte. A break must not be inside such a part.
 #[unsafe(no_mangle)]
 pub extern "C" fn bidi_lay_out_utf8_lossy(
     room: &mut BidiHandle,
@@ -135,8 +135,8 @@ pub extern "C" fn bidi_lay_out_utf8_lossy_with(
     status_and_place(done, place)
 }
 
-/// Lays out a text in UTF-16 as `bidi_lay_out_utf8` does one in UTF-8: offsets are those of its code units of 16 bits,
-/// and its first fault is the first surrogate that is alone.
+/// Lays out a text in UTF-16 as `bidi_lay_out_utf8` does one in UTF-8. Offsets count its code units of 16 bits. Its
+/// first fault is the first lone surrogate.
 #[unsafe(no_mangle)]
 pub extern "C" fn bidi_lay_out_utf16(
     room: &mut BidiHandle,
@@ -176,7 +176,7 @@ pub extern "C" fn bidi_lay_out_utf16_with(
     status_and_place(done, place)
 }
 
-/// Lays out a text in UTF-16 as `bidi_lay_out_utf16` does, with U+FFFD in the place of each surrogate that is alone.
+/// Lays out a text in UTF-16 as `bidi_lay_out_utf16` does, but reads each lone surrogate as U+FFFD.
 #[unsafe(no_mangle)]
 pub extern "C" fn bidi_lay_out_utf16_lossy(
     room: &mut BidiHandle,
@@ -216,8 +216,8 @@ pub extern "C" fn bidi_lay_out_utf16_lossy_with(
     status_and_place(done, place)
 }
 
-/// Breaks the text in code units that the room holds into lines again (L1, L2), at offsets: its levels before L1, its
-/// direction and its limits are unchanged. If it fails, the room is unchanged, and `place` names the break.
+/// Breaks the text in code units of the room into lines again (L1, L2), at offsets. Its levels before L1, its direction
+/// and its limits are unchanged. If it fails, the room is unchanged, and `place` names the break.
 #[unsafe(no_mangle)]
 pub extern "C" fn bidi_encoded_set_lines(
     room: &mut BidiHandle,
@@ -230,10 +230,10 @@ pub extern "C" fn bidi_encoded_set_lines(
     status_and_place(set_lines(room, true, breaks), place)
 }
 
-/// Lays out one line alone of the text in code units that the room holds, as `bidi_line_of` does, from the offset
-/// `start` up to `end`. Writes the level of each code unit and the offsets of the shown characters, from left to right,
-/// and to `shown` how many these are. Of the two ends of the line, one that is inside a character is named by
-/// `BIDI_BREAK_INSIDE`. If it fails, nothing is written.
+/// Lays out one line alone of the text in code units of the room, as `bidi_line_of` does, from the offset `start` up to
+/// `end`. Writes the level of each code unit and the offsets of the shown characters, from left to right, and to
+/// `shown` the number of these offsets. Fails with `BIDI_BREAK_INSIDE` if an end of the line is inside a character. If
+/// it fails, nothing is written.
 #[unsafe(no_mangle)]
 pub extern "C" fn bidi_encoded_line_of(
     room: &mut BidiHandle,

@@ -24,7 +24,7 @@ use units::limits::Limits;
 
 /// Writes the number of the class of each code point to the front of `classes`, and what it does as a bracket (BD14,
 /// BD15) to the front of `brackets`: 0 if it is none, 1 if it opens, 2 if it closes. If there are no tables, or an
-/// array has fewer items than there are code points, or one of these is no scalar value, both are unchanged.
+/// array has fewer items than there are code points, or one of these isn't a scalar value, both are unchanged.
 #[unsafe(no_mangle)]
 #[tactic(auto, using(crate::proofs::Needed::no_tables_named, crate::proofs::FrontsNeeded::no_tables_no_properties))]
 pub extern "C" fn bidi_classes(
@@ -57,8 +57,8 @@ pub extern "C" fn bidi_paired_bracket(tables: &mut BidiHandle, code: u32) -> u32
     }
 }
 
-/// Writes the level of the first paragraph of a text of classes by number under a direction (P1 to P3) to `level`. If
-/// the number is no direction, or one is no class, `level` is unchanged.
+/// Writes the level of the first paragraph of a text of classes, given as numbers, under a direction (P1 to P3) to
+/// `level`. If `direction` is no direction, or one of the numbers is no class, `level` is unchanged.
 #[unsafe(no_mangle)]
 pub extern "C" fn bidi_base_level_classes(
     classes: &[u8],
@@ -74,9 +74,10 @@ pub extern "C" fn bidi_base_level_classes(
     status_and_place(put(found, level), place)
 }
 
-/// Gives separators, and white space, isolate formatting characters and what X9 removes before them or at the line's
-/// end, the level of their paragraph (L1), in one line whose levels are the front of `levels`. If that has fewer items
-/// than there are classes, or the level is none, or a number is no class, `levels` is unchanged.
+/// Resets the levels of one line by L1. Separators get the level of their paragraph. So do white space, isolate
+/// formatting characters and what X9 removes, before a separator or at the line's end. The front of `levels` has the
+/// line's levels. If it has fewer items than there are classes, or the level is out of range, or a number is no class,
+/// `levels` is unchanged.
 #[unsafe(no_mangle)]
 pub extern "C" fn bidi_reset_levels(
     classes: &[u8],
@@ -90,8 +91,8 @@ pub extern "C" fn bidi_reset_levels(
     status_and_place(reset_levels(classes, para_level, levels), place)
 }
 
-/// Writes all positions of a line from left to right (L2), by the level of each, to the front of `order`. If that has
-/// fewer items than there are levels, or a number is no level, it is unchanged.
+/// Writes all positions of a line from left to right (L2), as their levels give them, to the front of `order`. If that
+/// has fewer items than there are levels, or a number is no level, it is unchanged.
 #[unsafe(no_mangle)]
 pub extern "C" fn bidi_reorder(levels: &[u8], order: &mut [usize], place: &mut u64) -> u32
     ensures { AnswersNaming place_named (Puts (Reorders levels.now order.old) (RejectsLevels levels.now order.old)
@@ -116,9 +117,9 @@ pub extern "C" fn bidi_resolved_levels(room: &mut BidiHandle, levels: &mut [u8])
     }
 }
 
-/// Writes the levels after L1 of the text's characters to `levels`, if all fit there, where one that was removed (X9)
-/// has the level of the one before it, and at the start of a paragraph, or if L1 resets what is around it, that of the
-/// paragraph. Returns how many there are, 0 without a room.
+/// Writes the levels after L1 of all characters of the text to `levels`, if all fit there. A removed character (X9) has
+/// the level of the one before it. At the start of a paragraph, or if L1 resets what is around it, it has the level of
+/// the paragraph. Returns how many there are, 0 without a room.
 #[unsafe(no_mangle)]
 pub extern "C" fn bidi_whole_levels(room: &mut BidiHandle, levels: &mut [u8]) -> usize
     ensures room { held_at room.new ≡ held_at room.old }
@@ -149,8 +150,8 @@ fn lay_out_units(
     }
 }
 
-/// Lays out a text of units, by their numbers, in the room, as `bidi_lay_out` does one of code points: the class of
-/// each, what it does as a bracket, and by which number an opening bracket and a closing one match.
+/// Lays out a text of units, given as numbers, in the room, as `bidi_lay_out` does one of code points. Each unit has
+/// its class, what it does as a bracket, and the number by which an opening bracket and a closing one pair.
 #[unsafe(no_mangle)]
 pub extern "C" fn bidi_lay_out_units(
     room: &mut BidiHandle,

@@ -59,5 +59,5 @@ impl Handle {
     }
 }
 
-// SAFETY: it owns what it points to, and so does what it points to.
+// SAFETY: it owns its contents, and these own what they point to.
 unsafe impl Send for Handle {}

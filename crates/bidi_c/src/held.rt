@@ -51,7 +51,7 @@ impl Held {
     ghost use Rattle.bidi_c.specs.LayingOut.{AtLineOf, LaysOutClasses, LaysOutText};
     ghost use Rattle.bidi_c.specs.Sharing.{RejectsSharing};
 
-    /// Borrows the room, if it is one.
+    /// Borrows the room, if it contains one.
     pub(crate) fn room(&self) -> Option<&Room>
         ensures { MatchOption result (room_in (Some self.now) ≡ None)
             (λ room. room_in (Some self.now) ≡ Some room.now) }
@@ -62,7 +62,7 @@ impl Held {
         }
     }
 
-    /// Borrows the room, if it is one, and has offsets or has none, as asked for.
+    /// Borrows the room, if it contains one that has offsets or has none, as asked for.
     pub(crate) fn room_for(&self, encodes: bool) -> Option<&Room>
         ensures { MatchOption result (room_for encodes (Some self.now) ≡ None)
             (λ room. room_for encodes (Some self.now) ≡ Some room.now) }
@@ -73,7 +73,7 @@ impl Held {
         }
     }
 
-    /// Borrows the tables, if it is tables.
+    /// Borrows the tables, if it contains tables.
     pub(crate) fn tables(&self) -> Option<&Tables>
         ensures { MatchOption result (tables_in (Some self.now) ≡ None)
             (λ tables. tables_in (Some self.now) ≡ Some tables.now) }
@@ -85,7 +85,7 @@ impl Held {
     }
 
     /// Returns another owner of the same tables. They are freed with the last of their owners. Fails with `NoTables` if
-    /// it is something else, or with `Memory`.
+    /// it contains something else, and with `Memory`.
     pub(crate) fn share_tables(&self) -> Result<Arc<Tables, Global>, CallError>
         ensures shared { IfOk result (λ shared. tables_in (Some self.now) ≡ Some (arc_value shared)) }
         ensures reason { IfErr result (RejectsSharing (Some self.now)) }

@@ -41,8 +41,8 @@ pub(crate) fn lay_out(
     held.lay_out(by, source, direction, breaks, limits)
 }
 
-/// Lays out a text of code points in the room, by the tables and the standard limits, under the direction with this
-/// number, broken into lines (P1 to L2). No memory is taken. If it fails, the room is unchanged, and `place` names the
+/// Lays out a text of code points in the room, with the tables and the standard limits, under the direction with this
+/// number, broken into lines (P1 to L2). It takes no memory. If it fails, the room is unchanged, and `place` names the
 /// place.
 #[unsafe(no_mangle)]
 pub extern "C" fn bidi_lay_out(
@@ -107,7 +107,7 @@ fn lay_out_classes(
     }
 }
 
-/// Lays out a text of classes, by their numbers, in the room, as `bidi_lay_out` does one of code points. It has no
+/// Lays out a text of classes, given as numbers, in the room, as `bidi_lay_out` does one of code points. It has no
 /// brackets.
 #[unsafe(no_mangle)]
 pub extern "C" fn bidi_lay_out_classes(
@@ -161,8 +161,8 @@ pub(crate) fn set_lines(
     }
 }
 
-/// Breaks the text that the room holds into lines again (L1, L2): its levels before L1, its direction and its limits
-/// are unchanged. If it fails, the room is unchanged, and `place` names the break.
+/// Breaks the text of the room into lines again (L1, L2). Its levels before L1, its direction and its limits are
+/// unchanged. If it fails, the room is unchanged, and `place` names the break.
 #[unsafe(no_mangle)]
 pub extern "C" fn bidi_set_lines(room: &mut BidiHandle, breaks: &[usize], place: &mut u64) -> u32
     ensures { AnswersNaming place_named (AtRoom false (SetsLines breaks.now) (held_at room.old) (held_at room.new))
@@ -190,9 +190,9 @@ pub(crate) fn line_of(
     }
 }
 
-/// Lays out one line alone of the text that the room holds, from `start` up to `end` (L1, L2), at the cost of that
-/// line. Writes its levels and its order to the fronts of the arrays, and to `shown` how many positions the order has.
-/// What the room holds is unchanged. If it fails, nothing is written.
+/// Lays out one line alone of the text of the room, from `start` up to `end` (L1, L2), at the cost of that line. Writes
+/// its levels and its order to the fronts of the arrays, and to `shown` how many positions the order has. The room is
+/// unchanged. If it fails, nothing is written.
 #[unsafe(no_mangle)]
 pub extern "C" fn bidi_line_of(
     room: &mut BidiHandle,

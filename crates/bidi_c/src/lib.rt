@@ -1,5 +1,5 @@
-//! The engine for programs in C: tables, rooms, judges and reports behind handles, texts laid out, their layouts copied
-//! out, test files judged and reported on, and verdicts said.
+//! The engine for programs in C: handles that own tables, rooms, judges and reports, and calls that lay out texts, copy
+//! out their layouts, judge test files and report on them, and state verdicts.
 //!
 //! Each export is total for handles that are all zero or were made by these calls. docs/C.md is their manual.
 #![tactic(auto)]

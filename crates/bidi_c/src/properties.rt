@@ -1,4 +1,4 @@
-//! The properties of a code point by tables.
+//! The properties of a code point.
 ghost use Rattle.std.specs.Prelude.{◌≡◌};
 ghost use Rattle.for_c.specs.Properties.{IsBracketOf, IsClassOf, RejectsCode};
 ghost use Rattle.for_c.specs.Statuses.{Answers, Puts};
@@ -10,7 +10,7 @@ use crate::putting::put;
 use for_c::call_error::{CallError, status};
 use for_c::properties::{bracket_of, class_of};
 
-/// Writes the number of the class of a code point to `class`. If there are no tables, or the code point is no scalar
+/// Writes the number of the class of a code point to `class`. If there are no tables, or the code point isn't a scalar
 /// value, `class` is unchanged.
 #[unsafe(no_mangle)]
 #[tactic(auto, using(crate::proofs::Needed::no_tables, crate::proofs::Needed::not_found))]
@@ -26,7 +26,7 @@ pub extern "C" fn bidi_class(tables: &mut BidiHandle, code: u32, class: &mut u8)
 }
 
 /// Writes to `bracket` what a code point does as a bracket (BD14, BD15): 0 if it is none, 1 if it opens, 2 if it
-/// closes. If there are no tables, or the code point is no scalar value, `bracket` is unchanged.
+/// closes. If there are no tables, or the code point isn't a scalar value, `bracket` is unchanged.
 #[unsafe(no_mangle)]
 #[tactic(auto, using(crate::proofs::Needed::no_tables, crate::proofs::Needed::not_found))]
 pub extern "C" fn bidi_bracket(tables: &mut BidiHandle, code: u32, bracket: &mut u8) -> u32

@@ -48,7 +48,7 @@ pub extern "C" fn bidi_room_free(alloc: Global, room: &mut BidiHandle)
     room.empty(alloc);
 }
 
-/// Returns the length of the longest text that the room can hold, 0 without a room.
+/// Returns the length of the longest text that fits into the room, 0 without a room.
 #[unsafe(no_mangle)]
 pub extern "C" fn bidi_room_size(room: &mut BidiHandle) -> usize
     ensures room { held_at room.new ≡ held_at room.old }

@@ -1,4 +1,4 @@
-//! Tables read from the bytes of their files, shared, and asked.
+//! Tables read from the bytes of their files, shared, and looked up.
 ghost use Rattle.std.specs.Prelude.{◌≡◌, None, Some};
 ghost use Rattle.std.specs.Char.{IsScalar};
 ghost use Rattle.standard.specs.declared.facts.TheConstants.{BRACKETS, CLASSES, EDITION, MIRRORS};

@@ -73,7 +73,7 @@ module _ {M : Type 1} {𝓤 : Ura M} (𝓛 : Logic 𝓤) (at_mem : Memory → SP
     abbrev words : Val
     words = both (both (vptr b o) h) (vbool true)
 
-    -- all of the handle but what it holds
+    -- all of the handle but its contents
     abbrev Rest : Fml
     Rest = fsep (fsep (ghosts.dealloc_token d.handle.alloc (bare (lone R.mir)) (block_ptr b o)) (Z.own_val d.handle.alloc (h ∷ []))) (cell_at full_share Bh.mir (words ∷ []) rb ro)
 

@@ -1,4 +1,4 @@
--- A handle goes where what it holds may go.
+-- A handle may be sent to a thread if its contents may be.
 use base.Shift.{Keyless}
 use denote.Memory.{lone}
 use denote.RawPtr.{Ptr}

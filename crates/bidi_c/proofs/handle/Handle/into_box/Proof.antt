@@ -1,4 +1,4 @@
--- `into_box` makes the box again of what the handle owns.
+-- `into_box` makes a box again from what the handle owns.
 use Rattle.std.proofs.Common.{◌≡◌, List, [], ◌∷◌, ◌++◌, refl, sym, ap, ◌∙◌, subst}
 use mir.Val.{Val, vptr}
 use base.Logic.{SProp, ent, emp, id⊢}

@@ -66,7 +66,7 @@ use Rattle.bidi_c.specs.contracts.handle.Handle.of.Key.{name as #self}
 use Rattle.bidi_c.proofs.handle.Handle.of.Statement.{statement}
 use Rattle.bidi_c.proofs.handle.Handle.of.Code as code
 
--- what is held can be let go: its glue has one lifetime, that of the constants, which never ends
+-- the contents can be dropped: their drop code has one lifetime, that of the constants, which never ends
 held_glue : {M : Type 1} (𝓤 : Ura M) (𝓛 : Logic 𝓤) (𝓜 : Model 𝓤 𝓛.H) (𝓡 : Running 𝓤 𝓛.H 𝓜) → Wired 𝓡.env symbol.code → Met 𝓛 𝓜 𝓡 𝓡.env Rc held_drops
 held_glue {M} 𝓤 𝓛 𝓜 𝓡 wired =
     let En = ended_of 1 kinds.ps kinds.r in let k = method held_drops 0 (layouts [] tt) in let w : World = record { M = M; 𝓤 = 𝓤; 𝓛 = 𝓛; 𝓜 = 𝓜; 𝓡 = 𝓡 } in
