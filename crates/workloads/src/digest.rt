@@ -2,7 +2,7 @@
 
 use units::level::{Level, ParaLevel};
 
-/// Two sums over all that was added, of which the second depends on its order, and how much it was.
+/// The amount that was added, and two sums over it. The second sum depends on the order.
 #[derive(Clone, Copy)]
 pub struct Digest {
     count: u64,
@@ -11,7 +11,7 @@ pub struct Digest {
 }
 
 impl Digest {
-    /// Of nothing.
+    /// Returns the digest of nothing.
     pub fn new() -> Digest {
         Digest {
             count: 0,
@@ -48,7 +48,7 @@ impl Digest {
         *self = digest;
     }
 
-    /// Adds a level, or that there is none.
+    /// Adds a level, or its absence.
     pub fn add_level(&mut self, level: Option<Level>) {
         match level {
             Some(level) => self.add(u64::from(level.get())),
@@ -92,7 +92,7 @@ impl Digest {
         }
     }
 
-    /// How much was added, and the sums.
+    /// Returns the amount that was added, and the sums.
     pub fn parts(&self) -> (u64, u64, u64) {
         (self.count, self.first, self.second)
     }

@@ -1,4 +1,4 @@
-//! Documents printed as the command prints them: what is shown of them, or their levels.
+//! Prints documents as the command does: as they are shown, or with their levels.
 
 use crate::digest::Digest;
 use crate::inputs::Inputs;
@@ -12,10 +12,10 @@ use ucdfiles::tables::Tables;
 use units::level::Direction;
 use units::slice_source::SliceSource;
 
-/// How many bytes a document has at least.
+/// The least number of bytes of a document.
 const DOCUMENT_BYTES: usize = 30_000;
 
-/// The most bytes of which a text is printed.
+/// The most bytes of a text that are printed.
 const MOST_BYTES: usize = 16_777_216;
 
 /// Makes documents. All paragraphs of all of them differ.
@@ -63,7 +63,7 @@ impl DocumentMaker {
     }
 }
 
-/// Prints a document into `printed`, in place of what was there.
+/// Prints a document into `printed`, and replaces what was there.
 fn print(
     alloc: Global,
     tables: &Tables,
@@ -83,7 +83,7 @@ fn print(
     }
 }
 
-/// Prints the documents of these numbers.
+/// Prints the documents with these numbers.
 fn print_each(
     alloc: Global,
     tables: &Tables,

@@ -1,4 +1,4 @@
-//! Texts that nobody writes but to be awkward: each is some letters, and then the same few units over and over.
+//! Texts that are only written to cause trouble: each is some letters, and then the same few units over and over.
 
 use crate::digest::Digest;
 use crate::inputs::{Inputs, MOST_DRAWS, no_new_input};
@@ -18,7 +18,7 @@ const MOST: usize = 65_536;
 /// The number of units at the start of a text that, with its length, tell it apart from other texts.
 const START: usize = 128;
 
-/// How many texts there are, and how many units each has at least: from half of this number to all of it.
+/// How many texts there are, and how many units each has: from half of this number to all of it.
 #[derive(Clone, Copy)]
 pub struct Amount {
     pub texts: usize,
@@ -30,7 +30,7 @@ pub struct Amount {
 enum Pattern {
     /// These classes.
     Classes(&'static [Class]),
-    /// So many initiators or embeddings, then as many of what ends them.
+    /// So many initiators or embeddings, then as many of their ends.
     Nested(Class, Class, usize),
     /// So many opening brackets, then as many closing ones, of the same pair or not.
     Brackets(usize, bool),
@@ -67,7 +67,7 @@ const LETTERS: [Class; 8] = [
     Class::ON,
 ];
 
-/// A unit of this class that is no bracket.
+/// Returns a unit of this class that isn't a bracket.
 fn unit(class: Class) -> Unit {
     Unit {
         class,
@@ -83,7 +83,7 @@ fn push_times(units: &mut Vec<Unit>, unit: Unit, count: usize) -> io::Result<()>
     Ok(())
 }
 
-/// Adds so many of a unit, a letter, and so many of another unit.
+/// Adds `depth` times a unit, then a letter, and then `depth` times another unit.
 fn push_around(units: &mut Vec<Unit>, open: Unit, close: Unit, depth: usize) -> io::Result<()> {
     push_times(units, open, depth)?;
     push_times(units, unit(Class::R), 1)?;
@@ -111,7 +111,7 @@ fn push_pattern(units: &mut Vec<Unit>, pattern: Pattern) -> io::Result<()> {
     }
 }
 
-/// The unit of a bracket.
+/// Returns the unit of a bracket.
 fn of_bracket(bracket: Bracket) -> Unit {
     Unit {
         class: Class::ON,
@@ -119,7 +119,7 @@ fn of_bracket(bracket: Bracket) -> Unit {
     }
 }
 
-/// A pattern over and over, a thousand units or more.
+/// Returns a pattern repeated until it has a thousand units or more.
 fn stretch(alloc: Global, pattern: Pattern) -> io::Result<Vec<Unit>> {
     let mut units = Vec::new(alloc);
     for _ in 0..1_000 {

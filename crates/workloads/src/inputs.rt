@@ -16,7 +16,7 @@ pub struct Inputs {
 }
 
 impl Inputs {
-    /// Returns those of a job that has had none.
+    /// Returns the inputs of a job that has had none.
     pub fn new(alloc: Global) -> Inputs {
         Inputs {
             digests: HashSet::new(alloc),

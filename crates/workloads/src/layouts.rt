@@ -1,5 +1,5 @@
-//! Paragraphs laid out as a typesetter does it: characters are looked up, a paragraph is laid out without breaks, its
-//! runs are shaped by their levels, and then it is broken into lines, of which each is told run by run.
+//! Lays out paragraphs as a typesetter does: it looks up the characters, lays out a paragraph without breaks, shapes
+//! its runs by their levels, breaks it into lines, and reads each line run by run.
 use crate::digest::Digest;
 use crate::inputs::Inputs;
 use crate::script::SCRIPTS;
@@ -18,16 +18,16 @@ const LENGTHS: [usize; 16] = [
     1_000, 170, 4_000, 60, 2_300, 410, 730, 110, 9_100, 330, 1_700, 240, 540, 3_100, 85, 1_300,
 ];
 
-/// How many words of one script stand together, so that most paragraphs are of one.
+/// How many words of one script follow each other, so that most paragraphs are in one script.
 const STRETCH_WORDS: usize = 1_000;
 
-/// How many characters the longest paragraph has.
+/// The number of characters of the longest paragraph.
 const MOST_LENGTH: usize = 9_100;
 
 /// The number of characters at the start of a paragraph that, with its length, tell it apart from other paragraphs.
 const START: usize = 64;
 
-/// What is used again and again.
+/// The buffers that all paragraphs share.
 #[derive(Drop)]
 struct Typesetter {
     runs: Vec<VisualRun>,
@@ -37,7 +37,7 @@ struct Typesetter {
     paragraphs: Inputs,
 }
 
-/// So many runs, of nothing.
+/// Returns so many empty runs.
 pub fn no_runs(alloc: Global, count: usize) -> Result<Vec<VisualRun>, AllocError> {
     let run = VisualRun {
         start: 0,
@@ -48,7 +48,7 @@ pub fn no_runs(alloc: Global, count: usize) -> Result<Vec<VisualRun>, AllocError
     Vec::from_elem(alloc, run, count)
 }
 
-/// A text of so many characters and some more, of all scripts, as code points.
+/// Returns a text of so many characters and some more, of all scripts, as code points.
 fn make(alloc: Global, count: usize, seed: u64) -> io::Result<Vec<u32>> {
     let mut maker = TextMaker::new(seed, 0);
     let mut characters = Vec::with_capacity(alloc, count)?;
@@ -102,7 +102,7 @@ impl Typesetter {
         self.paragraphs.add(digest)
     }
 
-    /// Adds the levels of a line to the digest, and its runs and its order.
+    /// Adds the levels of a line, its runs and its order to the digest.
     fn tell_line(&mut self, k: usize, digest: &mut Digest) {
         let layout = self.room.layout();
         if k >= layout.line_count() {
@@ -119,7 +119,7 @@ impl Typesetter {
         digest.add_sizes(layout.line(k).order);
     }
 
-    /// Adds the level of the paragraph to the digest, and all lines.
+    /// Adds the level of the paragraph and all lines to the digest.
     fn tell(&mut self, digest: &mut Digest) {
         digest.add_para_levels(self.room.layout().para_levels());
         for k in 0..self.room.line_count() {
@@ -148,7 +148,7 @@ impl Typesetter {
     }
 }
 
-/// Lays out the paragraphs of a pass over a text. Leaves out one that may equal an earlier one.
+/// Lays out the paragraphs of a pass over a text. Omits one that may equal an earlier one.
 fn lay_out_pass(
     tables: &Tables,
     text: &[u32],
@@ -164,7 +164,7 @@ fn lay_out_pass(
     Ok(())
 }
 
-/// Lays out the paragraphs of a text: pass by pass, in each in paragraphs of another length, the first of which begins
+/// Lays out the paragraphs of a text in several passes. Each pass has paragraphs of another length, and begins
 /// elsewhere.
 fn lay_out_passes(
     tables: &Tables,
@@ -179,7 +179,7 @@ fn lay_out_passes(
     Ok(digest)
 }
 
-/// The same, of a text that has so many characters, by these tables.
+/// The same for a text with so many characters, with these tables.
 fn typeset(alloc: Global, tables: &Tables, text: &[u32], seed: u64) -> io::Result<Digest> {
     let mut typesetter = Typesetter::new(alloc, seed)?;
     lay_out_passes(tables, text, &mut typesetter)

@@ -1,5 +1,5 @@
-//! Lines in UTF-8 laid out as a terminal or an editor does it: a line is laid out by itself, shown run by run, and the
-//! cursor is taken to some of its bytes.
+//! Lays out lines in UTF-8 as a terminal or an editor does: it lays out each line alone, shows it run by run, and moves
+//! the cursor to some of its bytes.
 
 use crate::digest::Digest;
 use crate::inputs::{Inputs, MOST_DRAWS, no_new_input};
@@ -19,7 +19,7 @@ use visual::runs::VisualRun;
 /// The most bytes of a line, and the most characters and runs.
 const MOST_BYTES: usize = 16_384;
 
-/// What is used again and again.
+/// The buffers that all lines share.
 #[derive(Drop)]
 struct Editor {
     room: Room,
@@ -32,7 +32,7 @@ impl Editor {
         Editor { room, order, runs }
     }
 
-    /// Adds the level of the paragraph to the digest, and of its only line the levels, the runs and the order.
+    /// Adds the level of the paragraph to the digest, and the levels, the runs and the order of its only line.
     fn tell(&mut self, digest: &mut Digest) {
         let layout = self.room.layout();
         if layout.line_count() == 0 {
@@ -51,7 +51,7 @@ impl Editor {
         digest.add_sizes(self.order.get(..shown).unwrap_or(&[]));
     }
 
-    /// Takes the cursor to a byte, and tells the character there and its level.
+    /// Moves the cursor to a byte, and adds the index of its character and the level there to the digest.
     fn move_to(&self, at: usize, digest: &mut Digest) {
         if let Some(index) = self.room.index_of(at) {
             digest.add_size(index);
@@ -59,7 +59,7 @@ impl Editor {
         }
     }
 
-    /// Lays a line out and tells what is shown, and then what stands at some of its bytes.
+    /// Lays out a line, adds what is shown to the digest, and then moves the cursor to some of its bytes.
     fn edit(
         &mut self,
         tables: &Tables,
@@ -117,7 +117,7 @@ impl LineMaker {
     }
 }
 
-/// Room for lines.
+/// Returns a `Room` for lines.
 fn room(alloc: Global) -> io::Result<Room> {
     Room::with_room(alloc, MOST_BYTES, true).map_err(|_| io::ErrorKind::OutOfMemory.into())
 }
@@ -137,7 +137,7 @@ fn edit_each(
     Ok(digest)
 }
 
-/// The same, with lists for their orders and runs.
+/// The same, with buffers for orders and runs.
 fn edit_with(
     tables: &Tables,
     count: usize,
@@ -150,7 +150,7 @@ fn edit_with(
     edit_each(tables, count, lines, &mut editor)
 }
 
-/// Lays out so many lines one by one, by these tables.
+/// Lays out so many lines one by one, with these tables.
 fn edit_lines(
     alloc: Global,
     tables: &Tables,

@@ -1,10 +1,10 @@
-//! Jobs that users of these libraries wait for, each on texts that are made by a seed. What is printed of a job is how
-//! much it worked on and a digest of all its results, which is the same at each run with the same seed. No job gets
-//! a document, paragraph, line, file or text twice: one that equals an earlier one is drawn again or left out. The
-//! tables are always those of Unicode 15.0.0, so that a digest doesn't change with the edition that is built in.
+//! Jobs that users of these libraries wait for, each on texts that are made from a seed. A job prints how much it
+//! worked on and a digest of all its results, which is the same at each run with the same seed. No job gets a document,
+//! paragraph, line, file or text twice: one that equals an earlier one is drawn again or left out. The tables are
+//! always those of Unicode 15.0.0, so that a digest doesn't change with the edition that is built in.
 //!
-//! `workloads reorder 7` does the job of this name by the seed 7, which is a number below 2^32; the jobs are `reorder`,
-//! `levels`, `layout`, `lines`, `judge` and `hostile`. Without words it does all of them, small, by the seed 1.
+//! `workloads reorder 7` runs the job with this name from the seed 7, which must be below 2^32. The jobs are `reorder`,
+//! `levels`, `layout`, `lines`, `judge` and `hostile`. Without arguments it runs all of them, small, from the seed 1.
 #![tactic(auto)]
 
 mod digest;
@@ -23,7 +23,7 @@ use crate::size::Size;
 use printing::form::Form;
 use std::{env, io};
 
-/// The name of a job, and what it does: with a size and a seed it is done, and its results are in the digest.
+/// A job. It takes a size and a seed, and returns a digest of its results.
 #[derive(Clone, Copy)]
 enum Job {
     Reorder,
@@ -45,7 +45,7 @@ const JOBS: [Job; 6] = [
 ];
 
 impl Job {
-    /// The word that names the job.
+    /// Returns the word that names the job.
     fn name(self) -> &'static str {
         match self {
             Job::Reorder => "reorder",
@@ -57,7 +57,7 @@ impl Job {
         }
     }
 
-    /// Does the job.
+    /// Runs the job.
     fn run(self, rt: &HostRuntime, size: Size, seed: u64) -> io::Result<Digest> {
         let alloc = rt.alloc();
         match self {
@@ -76,7 +76,7 @@ impl Job {
     }
 }
 
-/// Does a job, and prints its line.
+/// Runs a job, and prints its line.
 fn report(rt: &HostRuntime, job: Job, size: Size, seed: u64) -> io::Result<()> {
     let digest = job.run(rt, size, seed)?;
     let name = job.name();
@@ -84,7 +84,7 @@ fn report(rt: &HostRuntime, job: Job, size: Size, seed: u64) -> io::Result<()> {
     println!(rt; "{name}: {count} results, {first:016x} {second:016x}")
 }
 
-/// Does all jobs, small.
+/// Runs all jobs, small.
 fn report_all(rt: &HostRuntime) -> io::Result<()> {
     for job in JOBS {
         report(rt, job, Size::Small, 1)?;
@@ -92,7 +92,7 @@ fn report_all(rt: &HostRuntime) -> io::Result<()> {
     Ok(())
 }
 
-/// The job that a word names.
+/// Returns the job that a word names.
 fn job_of(word: &str) -> io::Result<Job> {
     for job in JOBS {
         if job.name() == word {
@@ -102,7 +102,7 @@ fn job_of(word: &str) -> io::Result<Job> {
     Err(io::ErrorKind::InvalidInput.into())
 }
 
-/// Does the job of this name by a seed.
+/// Runs the job with this name from a seed.
 fn report_named(rt: &HostRuntime, name: &str, seed: &str) -> io::Result<()> {
     let job = job_of(name)?;
     let Ok(seed) = seed.parse::<u32>() else {
@@ -111,7 +111,7 @@ fn report_named(rt: &HostRuntime, name: &str, seed: &str) -> io::Result<()> {
     report(rt, job, Size::Full, u64::from(seed))
 }
 
-/// The words behind the program's own name.
+/// Returns the arguments after the program's own name.
 fn words_behind_name(rt: &HostRuntime) -> io::Result<Vec<String>> {
     let mut words = Vec::new(rt.alloc());
     for word in env::args(rt)?.skip(1) {

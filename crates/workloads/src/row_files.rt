@@ -1,5 +1,5 @@
-//! Test files as makers of engines use them: rows of hard texts are written with what the rules give, and the files are
-//! judged, or reported on, some of them by other limits, so that rows are wrong.
+//! Test files as authors of engines use them: rows of hard texts are written with what the rules give. Then the files
+//! are judged, or reported on with other limits, so that some rows are wrong.
 
 use crate::digest::Digest;
 use crate::inputs::{Inputs, MOST_DRAWS, no_new_input};
@@ -21,7 +21,7 @@ use units::level::Direction;
 use units::limits::Limits;
 use units::slice_source::SliceSource;
 
-/// How many texts a file has.
+/// The number of texts of a file.
 const TEXTS: usize = 400;
 
 /// The forms of hard texts. The last one is of characters only, since classes carry no brackets.
@@ -36,12 +36,12 @@ const FORMS: [Form; 6] = [
 
 const DIRECTIONS: [Direction; 3] = [Direction::Auto, Direction::Ltr, Direction::Rtl];
 
-/// The memory that was refused, or what else went wrong, as a fault of a stream.
+/// Returns the error for memory that was refused, or for what else went wrong, as a fault of a stream.
 fn refused() -> io::Error {
     io::ErrorKind::OutOfMemory.into()
 }
 
-/// The letters of a form, of a kind.
+/// Returns the letters of a form, of a kind.
 fn letters_of(alloc: Global, kind: Kind<'_>, form: Form) -> io::Result<Vec<Letter>> {
     let letters = match kind {
         Kind::Classes => class_letters(alloc, form.classes()),
@@ -58,7 +58,7 @@ fn form_of(number: usize, kind: Kind<'_>) -> Form {
     }
 }
 
-/// Writes a file of this kind of texts of this form, in place of what was there.
+/// Writes a file of this kind with texts of this form, and replaces what was there.
 fn write_file(
     alloc: Global,
     kind: Kind<'_>,
@@ -95,7 +95,7 @@ fn write_new_file(
     Err(no_new_input())
 }
 
-/// Judges a file that comes in pieces, and adds the line of the verdict.
+/// Judges a file in pieces, and adds the line of the verdict.
 fn judge(alloc: Global, kind: Kind<'_>, file: &[u8], told: &mut Vec<u8>) -> io::Result<()> {
     let judge = match kind {
         Kind::Classes => Judge::for_classes(alloc),
@@ -108,7 +108,7 @@ fn judge(alloc: Global, kind: Kind<'_>, file: &[u8], told: &mut Vec<u8>) -> io::
     print_verdict(told, &judge.finish())
 }
 
-/// Reports on a file by other limits, and adds the report.
+/// Reports on a file with other limits, and adds the report.
 fn report_on(alloc: Global, kind: Kind<'_>, file: &[u8], told: &mut Vec<u8>) -> io::Result<()> {
     let limits = Limits::new(6, 3).map_err(|_| refused())?;
     let report = Report::new(alloc, kind, Terms::strict(limits)).map_err(|_| refused())?;
@@ -146,7 +146,7 @@ fn work_on(
     Ok(())
 }
 
-/// Works on so many files.
+/// Judges or reports on so many files.
 pub fn judge_files(alloc: Global, count: usize, seed: u64) -> io::Result<Digest> {
     let tables = standard_15::tables();
     let mut file = Vec::new(alloc);

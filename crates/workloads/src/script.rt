@@ -13,7 +13,7 @@ pub enum Script {
     Embedded,
 }
 
-/// All of them.
+/// All scripts.
 pub const SCRIPTS: [Script; 8] = [
     Script::English,
     Script::Hebrew,
@@ -126,7 +126,7 @@ pub const NUMBERS: [&str; 16] = [
 ];
 
 impl Script {
-    /// Its words.
+    /// Returns its words.
     pub fn words(self) -> &'static [&'static str; 16] {
         match self {
             Script::English => &ENGLISH,

@@ -5,14 +5,14 @@ use crate::hostile::Amount;
 /// How much a job does.
 #[derive(Clone, Copy)]
 pub enum Size {
-    /// In a moment.
+    /// It ends in a moment.
     Small,
-    /// In seconds.
+    /// It takes seconds.
     Full,
 }
 
 impl Size {
-    /// So many, where it is full.
+    /// Returns `full` if the job is full, else `small`.
     fn of(self, small: usize, full: usize) -> usize {
         match self {
             Size::Small => small,
@@ -30,7 +30,7 @@ impl Size {
         self.of(2, 400)
     }
 
-    /// How many characters the text has of which paragraphs are laid out.
+    /// How many characters the text has whose paragraphs are laid out.
     pub fn characters(self) -> usize {
         self.of(12_000, 3_000_000)
     }

@@ -1,4 +1,4 @@
-//! Texts made by a seed.
+//! Makes texts from a seed.
 ghost use Rattle.std.specs.Prelude.{◌<◌};
 
 use crate::script::{ARABIC, ENGLISH, NUMBERS, Script};
@@ -12,7 +12,7 @@ pub struct TextMaker {
     rng: Pcg32,
 }
 
-/// What stands around a word.
+/// The characters around a word.
 #[derive(Clone, Copy)]
 struct Around {
     before: &'static str,
@@ -26,14 +26,14 @@ const GAPS: [&str; 16] = [
 impl TextMaker {
     ghost use Rattle.std.specs.Prelude.{◌<◌};
 
-    /// Draws by this seed, which is one of many streams.
+    /// Makes a generator from this seed; `stream` selects one of many independent sequences.
     pub fn new(seed: u64, stream: usize) -> TextMaker {
         TextMaker {
             rng: Pcg32::new(seed, stream as u64),
         }
     }
 
-    /// A number below this one and below 65,536; 0 where that leaves none.
+    /// Returns a number below `bound` and below 65,536, 0 if there is none.
     pub fn below(&mut self, bound: usize) -> usize
         ensures { result < 65536 }
     {
@@ -41,12 +41,12 @@ impl TextMaker {
         ((word >> 8) % bound.max(1)).min(65_535)
     }
 
-    /// One of 16.
+    /// Returns one of 16 words.
     fn choose(&mut self, words: &[&'static str; 16]) -> &'static str {
         words[self.rng.next_word() as usize % 16]
     }
 
-    /// What stands around a word of another direction.
+    /// Returns the characters around a word of another direction.
     fn around(&mut self, script: Script) -> Around {
         let (before, behind) = match (script, self.below(8)) {
             (Script::Isolated, 0..=3) => ("\u{2068}", "\u{2069}"),
@@ -74,7 +74,7 @@ impl TextMaker {
         Ok(())
     }
 
-    /// Of how many words one is of another script.
+    /// Returns `n` if one of `n` words is of another script.
     fn others(script: Script) -> usize {
         match script {
             Script::English => 64,
@@ -85,7 +85,7 @@ impl TextMaker {
         }
     }
 
-    /// Adds a word, and what stands between it and the next one.
+    /// Adds a word, and the gap between it and the next one.
     fn push_word(&mut self, script: Script, text: &mut String) -> io::Result<()> {
         if self.below(TextMaker::others(script)) == 0 {
             self.push_other(script, text)?;
