@@ -17,11 +17,11 @@ use Rattle.decoding.specs.Spelling.{IsSpelled}
 use Rattle.decoding.proofs.LossyChunks.{lossy_step, replaced_some}
 use Rattle.decoding.proofs.Utf8Tests.{first_fault}
 
--- the bytes are those of the first character and the others
+-- the bytes are those of the first character and the rest
 pub bytes_split : (bs : List ℕ) (c n : ℕ) → IsSpelled bs 0 (c, n) → bs ≡ encode_utf8 c ++ drop n bs
 bytes_split bs c n is = sym (take-append-drop n bs) ∙ ap (λ (front : List ℕ). front ++ drop n bs) is.spelled
 
--- of bytes that are well formed
+-- of well-formed bytes
 pub utf8_first : (bs : List ℕ) (c n : ℕ) → IsUtf8 bs → IsSpelled bs 0 (c, n) → utf8_text bs ≡ in_utf8 c ∷ utf8_text (drop n bs)
 utf8_first bs c n well is = ap (map in_utf8) (chars_past_char bs (drop n bs) c well (bytes_split bs c n is))
 
@@ -36,7 +36,7 @@ up_to_whole bs (suc n) t = rw t refl
 up_to_next : (bs : List ℕ) (n : ℕ) → is_utf8 (take (suc n) bs) ≡ false → valid_len_up_to bs (suc n) ≡ valid_len_up_to bs n
 up_to_next bs n f = rw f refl
 
--- bytes behind those of a character
+-- the bytes after those of a character
 module _ (c : ℕ) (scalar : IsScalar c) where
   same_test : (ys : List ℕ) → is_utf8 (encode_utf8 c ++ ys) ≡ is_utf8 ys
   same_test ys = elim (cases_Bool (is_utf8 ys)) [
@@ -45,7 +45,7 @@ module _ (c : ℕ) (scalar : IsScalar c) where
         (λ t. absurd (true≢false (sym (is_utf8-from_IsUtf8 ys (IsUtf8-past_char (encode_utf8 c ++ ys) ys c (IsUtf8-from_is_utf8 (encode_utf8 c ++ ys) t) refl)) ∙ f))) ∙ sym f
   ]
 
-  -- as far as a front reaches behind the character
+  -- a front that ends after the character is well formed if and only if its rest is
   test_at : (rest : List ℕ) (n : ℕ) → is_utf8 (take (length (encode_utf8 c) + n) (encode_utf8 c ++ rest)) ≡ is_utf8 (take n rest)
   test_at rest n = ap is_utf8 (take-append-add (encode_utf8 c) rest n) ∙ same_test (take n rest)
 
@@ -92,13 +92,13 @@ module _ (c : ℕ) (scalar : IsScalar c) where
       ∙ ap (λ (n : ℕ). drop n bs) {x = w + v + utf8_invalid_len (drop v rest)} {y = w + (v + utf8_invalid_len (drop v rest))} (omega arith)
       ∙ drop-append-add (encode_utf8 c) rest (v + utf8_invalid_len (drop v rest))
 
--- a text is its first chunk and the text of the rest, also where there is none
+-- a text is its first chunk and the text of the rest, even if there is none
 step_of_any : (bs : List ℕ) → first_chunk bs ++ utf8_lossy_text (after_first_chunk bs) ≡ utf8_lossy_text bs
 unfolding chunks utf8_valid_len utf8_error_len chars
 step_of_any [] = refl
 step_of_any (b ∷ bs) = sym (lossy_step (b ∷ bs) (omega arith))
 
--- of bytes that need not be well formed
+-- of bytes that may be ill formed
 pub lossy_first : (bs : List ℕ) (c n : ℕ) → IsSpelled bs 0 (c, n) → utf8_lossy_text bs ≡ record { code = c; width = n } ∷ utf8_lossy_text (drop n bs)
 lossy_first bs c n is =
     let rest = drop n bs in
@@ -127,7 +127,7 @@ lossy_fault bs n some none is =
 pub some_width : (bs : List ℕ) (c n : ℕ) → IsSpelled bs 0 (c, n) → 0 < n
 some_width bs c n is = omega (arith, is.behind, length-encode c, (len_utf8_bounds c).0)
 
--- bytes that begin no character are not well formed, and the maximal subpart at their front ends where a test stops
+-- bytes that begin no character are not well formed, and the maximal subpart at their front ends where the test stops
 pub no_text : (bs : List ℕ) → 0 < length bs → StartsWithNoChar bs → IsUtf8 bs → ⊥
 no_text bs some none = (first_fault bs 0 some IsUtf8-nil none).0
 
@@ -137,7 +137,7 @@ fault_at_front bs valid len some none is told = told ∙ ap (λ (n : ℕ). utf8_
 pub some_fault : (bs : List ℕ) (n : ℕ) → 0 < length bs → n ≡ utf8_invalid_len bs → 0 < n
 some_fault bs n some is = omega (arith, utf8_invalid_len_pos bs some, is)
 
--- code units of 16 bits behind the first character are well formed, where all are
+-- code units of 16 bits after the first character are well formed if all are
 pub utf16_rest : (units rest : List ℕ) (found : Option ℕ) → utf16_chars units ≡ found ∷ utf16_chars rest → IsUtf16 units → IsUtf16 rest
 utf16_rest units rest found is well k lt none =
     well (suc k) (omega (arith, ap length is, lt)) (ap (λ (cs : List (Option ℕ)). slice_index_or cs (suc k) None) is ∙ none)

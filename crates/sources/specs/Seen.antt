@@ -1,4 +1,4 @@
--- A source behind references, as lists.
+-- A source as lists, read through its references.
 use Rattle.sources.specs.Sources.{SourceOf, Codes, Classes, Units, Utf8, Utf16}
 use Rattle.sources.specs.declared.source.Source.{Source}
 use Rattle.sources.specs.declared.source.Source.TheVariants.{Codes as GivenCodes, Classes as GivenClasses, Units as GivenUnits, Utf8 as GivenUtf8, Utf16 as GivenUtf16}

@@ -15,8 +15,8 @@ use Rattle.sources.specs.Kinds.{AllAre, IsFirstOther}
 use Rattle.sources.specs.NumberedUnits.{AreNumbered, IsFirstUnnumbered, numbered_units}
 use Rattle.sources.specs.declared.numbered_units.NumberedUnit.{NumberedUnit}
 
--- a text as its units: code points, classes by their numbers, units by theirs, bytes of UTF-8, or code units of UTF-16, each
--- of the last two with what becomes of code units that spell no character
+-- a text as its units: code points, classes as numbers, units as numbers, bytes of UTF-8, or code units of UTF-16; the
+-- last two say what becomes of code units that spell no character
 pub data SourceOf : Type 0 where
   Codes : List ℕ → SourceOf
   Classes : List ℕ → SourceOf
@@ -32,7 +32,7 @@ size_of (Units numbered) = length numbered
 size_of (Utf8 bytes faults) = length bytes
 size_of (Utf16 units faults) = length units
 
--- its units are code units, of which a character can take several
+-- its units are code units; a character can take several of these
 abbrev pub IsEncoded : SourceOf → Type 0
 IsEncoded (Codes numbers) = ⊥
 IsEncoded (Classes numbers) = ⊥
@@ -59,20 +59,20 @@ characters_of (Classes numbers) = length numbers
 characters_of (Units numbered) = length numbered
 characters_of source = length (text_in source)
 
--- the class and the bracket of each of its characters; a class that is given by its number is no bracket
+-- the class and the bracket of each of its characters; a class that is given by its number has no bracket
 abbrev pub units_of : TablesOf → SourceOf → List BidiUnit
 units_of tables (Classes numbers) = units_numbered numbers
 units_of tables (Units numbered) = numbered_units numbered
 units_of tables source = units_by tables (codes_in source)
 
--- the offset at which the character with the index k begins, or for their number that of the text's end
+-- the offset at which the character with the index k begins, or the text's end if k is the number of characters
 abbrev pub source_offset : SourceOf → ℕ → ℕ
 source_offset (Codes numbers) k = k
 source_offset (Classes numbers) k = k
 source_offset (Units numbered) k = k
 source_offset source k = offset_of (text_in source) k
 
--- each of its units is, or is part of, a character; what is read as U+FFFD is
+-- each of its units is part of a character; U+FFFD for a replaced fault is one
 abbrev pub IsWellFormed : SourceOf → Type 0
 IsWellFormed (Codes numbers) = AllAre IsScalar numbers
 IsWellFormed (Classes numbers) = AllAre IsClassNumber numbers

@@ -4,7 +4,7 @@ use Rattle.units.specs.declared.bracket.Unit.{Unit as BidiUnit}
 use Rattle.ucdfiles.specs.Tables.{TablesOf}
 use Rattle.sources.specs.Sources.{SourceOf, IsWellFormed, size_of, units_of}
 
--- a text has no units by the tables
+-- a text has no units
 abbrev pub IsEmpty : TablesOf → SourceOf → Type 0
 IsEmpty tables source = units_of tables source ≡ []
 

@@ -38,7 +38,7 @@ pub fn class_numbered(number: u8) -> Option<Class>
     })
 }
 
-/// Returns the unit of the class with this number, if there is one; it is no bracket.
+/// Returns the unit of the class with this number, if there is one. The unit isn't a bracket.
 pub(crate) fn unit_of(number: u8) -> Option<Unit>
     ensures { MatchOption result (IsClassNumber number → ⊥)
         (λ unit. IsClassNumber number × (unit ≡ unit_numbered number)) }
@@ -50,7 +50,7 @@ pub(crate) fn unit_of(number: u8) -> Option<Unit>
     })
 }
 
-/// Fails with the index of the first number that is none of a class.
+/// Fails with the index of the first number that isn't that of a class.
 pub fn check_classes(numbers: &[u8]) -> Result<(), usize>
     ensures fault { IfErr result (IsFirstOther IsClassNumber numbers.now) }
     ensures classes { OnOk result (AllAre IsClassNumber numbers.now) }

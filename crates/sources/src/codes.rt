@@ -7,8 +7,8 @@ ghost use Rattle.sources.specs.Kinds.{AllAre, IsFirstOther};
 use ucdfiles::tables::Tables;
 use units::bracket::Unit;
 
-/// Returns whether all these numbers are scalar values. It looks at all of them whatever it finds, so that several are
-/// looked at at once.
+/// Returns whether all these numbers are scalar values. It reads all of them whatever it finds, so that the processor
+/// can test several at once.
 fn are_scalars(codes: &[u32]) -> bool
     ensures { result ≡ true → AllAre IsScalar codes.now }
 {
@@ -19,7 +19,7 @@ fn are_scalars(codes: &[u32]) -> bool
     all
 }
 
-/// Fails with the index of the first code point that is no scalar value.
+/// Fails with the index of the first code point that isn't a scalar value.
 pub fn check_codes(codes: &[u32]) -> Result<(), usize>
     ensures fault { IfErr result (IsFirstOther IsScalar codes.now) }
     ensures scalars { OnOk result (AllAre IsScalar codes.now) }
@@ -35,7 +35,7 @@ pub fn check_codes(codes: &[u32]) -> Result<(), usize>
     Ok(())
 }
 
-/// Writes the units of code points, all of them scalar values, to the front of the column.
+/// Writes the units of code points to the front of the column. All of them must be scalar values.
 pub fn fill_codes(units: &mut [Unit], tables: &Tables, codes: &[u32])
     requires fits { length codes.now ≤ length units.old }
     requires scalars { AllAre IsScalar codes.now }

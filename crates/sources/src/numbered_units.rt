@@ -1,4 +1,4 @@
-//! Units by numbers, of callers that have tables of their own.
+//! Units as numbers, for callers that have tables of their own.
 ghost use Rattle.std.specs.Prelude.{◌≡◌, ◌≤◌, length, take, MatchOption, OnOk, IfErr};
 ghost use Rattle.sources.specs.NumberedUnits.{AreNumbered, IsFirstUnnumbered, IsNumbered, bracket_numbered};
 ghost use Rattle.sources.specs.NumberedUnits.{numbered_unit, numbered_units};
@@ -6,7 +6,7 @@ ghost use Rattle.sources.specs.NumberedUnits.{numbered_unit, numbered_units};
 use crate::class_numbers::class_numbered;
 use units::bracket::{Bracket, Key, Unit};
 
-/// A unit by numbers.
+/// A unit as numbers.
 #[repr(C)]
 #[derive(Clone, Copy, Debug, PartialEq, Eq)]
 pub struct NumberedUnit {
@@ -14,7 +14,7 @@ pub struct NumberedUnit {
     pub class: u8,
     /// 0 if it is no bracket, 1 if it is an opening one, 2 if it is a closing one.
     pub bracket: u8,
-    /// By this number an opening bracket and a closing one match: they pair only if theirs are equal (BD16).
+    /// An opening bracket and a closing one pair only if their numbers here are equal (BD16).
     pub key: u32,
 }
 
@@ -40,7 +40,7 @@ pub(crate) fn unit_of_numbers(numbers: NumberedUnit) -> Option<Unit>
     Some(Unit { class, bracket })
 }
 
-/// Fails with the index of the first unit that has a number of no class or of no kind of bracket.
+/// Fails with the index of the first unit with a number of no class or no kind of bracket.
 pub fn check_units(numbered: &[NumberedUnit]) -> Result<(), usize>
     ensures fault { IfErr result (IsFirstUnnumbered numbered.now) }
     ensures units { OnOk result (AreNumbered numbered.now) }

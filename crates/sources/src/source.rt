@@ -9,22 +9,21 @@ use std::marker::Model;
 use units::level::Direction;
 use units::limits::Limits;
 
-/// A text as its caller has it. Its units are code points, classes, units by numbers or code units, and positions in it are counted in
-/// these.
+/// A text as its caller has it. Its units are code points, classes, units as numbers or code units. Positions in it
+/// count these.
 #[derive(Clone, Copy)]
 pub enum Source<'t> {
-    /// Code points. One that is no scalar value is a fault.
+    /// Code points. One that isn't a scalar value is a fault.
     Codes(&'t [u32]),
-    /// Classes by their numbers, 0 to 22, in the order L, R, AL, EN, ES, ET, AN, CS, NSM, BN, B, S, WS, ON, LRE, LRO,
-    /// RLE, RLO, PDF, LRI, RLI, FSI, PDI. Each is a unit that is no bracket; a greater number is a fault.
+    /// Classes as numbers, 0 to 22, in the order L, R, AL, EN, ES, ET, AN, CS, NSM, BN, B, S, WS, ON, LRE, LRO, RLE,
+    /// RLO, PDF, LRI, RLI, FSI, PDI. Each is a unit without a bracket. A greater number is a fault.
     Classes(&'t [u8]),
-    /// Units by the numbers of their classes and brackets. One with a number that is greater than any of these is a
-    /// fault.
+    /// Units as the numbers of their classes and brackets. A number that is greater than all of these is a fault.
     Units(&'t [NumberedUnit]),
-    /// Bytes of UTF-8. If faults are replaced, each maximal subpart of what is no UTF-8 is read as U+FFFD: of the bytes
-    /// there, all that could begin a character, or else one.
+    /// Bytes of UTF-8. If faults are replaced, each maximal subpart of ill-formed UTF-8 is read as U+FFFD: all bytes
+    /// there that could begin a character, or else one byte.
     Utf8(&'t [u8], Faults),
-    /// Code units of UTF-16. If faults are replaced, each surrogate that is alone is read as U+FFFD.
+    /// Code units of UTF-16. If faults are replaced, each lone surrogate is read as U+FFFD.
     Utf16(&'t [u16], Faults),
 }
 
@@ -50,8 +49,8 @@ pub struct Ask<'t> {
     pub source: Source<'t>,
     /// The direction of its paragraphs.
     pub direction: Direction,
-    /// Where new lines begin: rising offsets in the units of the source, each of them where a character begins, none of
-    /// them 0.
+    /// Where new lines begin: rising offsets in the units of the source. A character must begin at each of them, and
+    /// none may be 0.
     pub breaks: &'t [usize],
     /// How deep explicit levels go (BD2), and how many brackets can be open at once (BD16).
     pub limits: Limits,

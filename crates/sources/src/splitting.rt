@@ -34,7 +34,7 @@ fn check_utf8(bytes: &[u8]) -> Result<(), usize>
     }
 }
 
-/// Tests whether code units are UTF-16. Fails with the offset of the first surrogate that is alone.
+/// Tests whether code units are UTF-16. Fails with the offset of the first lone surrogate.
 fn check_utf16(text: &[u16]) -> Result<(), usize>
     ensures fault { IfErr result (IsFirstLone text.now) }
     ensures well_formed { OnOk result (IsUtf16 text.now) }
@@ -61,7 +61,7 @@ fn first_of_utf8(bytes: &[u8]) -> (char, usize)
     known_char_at(bytes, 0)
 }
 
-/// Returns how many bytes the maximal subpart has at the front of bytes that begin no character.
+/// Returns the length of the maximal subpart at the front of bytes that begin no character.
 fn fault_width(bytes: &[u8]) -> usize
     requires some { 0 < length bytes.now }
     requires none { StartsWithNoChar bytes.now }
@@ -75,8 +75,8 @@ fn fault_width(bytes: &[u8]) -> usize
     }
 }
 
-/// Returns the first character of a text in UTF-8 that need not be well formed, which is U+FFFD for a maximal subpart
-/// of what is not, and how many bytes it is read from.
+/// Returns the first character of a text in UTF-8 that may be ill formed, and how many bytes it is read from. A maximal
+/// subpart of ill-formed bytes is read as U+FFFD.
 fn first_of_lossy(bytes: &[u8]) -> (char, usize)
     requires { 0 < length bytes.now }
     ensures first { utf8_lossy_text bytes.now
@@ -90,8 +90,8 @@ fn first_of_lossy(bytes: &[u8]) -> (char, usize)
     }
 }
 
-/// Returns the first character of a text in UTF-16, which is U+FFFD for a surrogate that is alone, and how many code
-/// units it is read from.
+/// Returns the first character of a text in UTF-16, and how many code units it is read from. A lone surrogate is read
+/// as U+FFFD.
 fn first_of_utf16(text: &[u16]) -> (char, usize)
     requires { 0 < length text.now }
     ensures first { utf16_text text.now ≡ in_utf16 result.0 ∷ utf16_text (drop result.1 text.now) }
@@ -192,8 +192,8 @@ impl<'t> Source<'t> {
         }
     }
 
-    /// Returns the unit of the first character of a text that is well formed, and the text after it; none of an empty
-    /// text.
+    /// Returns the unit of the first character of a well-formed text, and the text after it. Returns `None` if the text
+    /// is empty.
     pub fn split_first(self, tables: &Tables) -> Option<(Unit, Source<'t>)>
         requires { IsWellFormed (source_seen self) }
         ensures { MatchOption result (IsEmpty tables.now (source_seen self.entry))

@@ -3,7 +3,7 @@ use Rattle.decoding.specs.Encodings.{IsPaired}
 use Rattle.decoding.proofs.Utf16Texts.{IsAt}
 use Rattle.sources.proofs.splitting.check_utf16.Given as goal
 
--- some characters are passed, and none of them is a surrogate that is alone
+-- some characters have been read, and none of them is a lone surrogate
 abbrev pub invariant-loop-at : goal.invariant-loop-at
 invariant-loop-at l = (count : ℕ) × IsAt l.text count l.at × ((k : ℕ) → k < count → IsPaired l.text k)
 
