@@ -1,4 +1,4 @@
-//! What rooms are filled with: tables, and units that are no bracket.
+//! What rooms are filled with: tables, and units that aren't brackets.
 use std::alloc::Global;
 use ucdfiles::bracket_table::BracketTable;
 use ucdfiles::class_table::ClassTable;
@@ -10,7 +10,7 @@ use units::bracket::{Bracket, Unit};
 use units::class::Class;
 use units::slice_source::SliceSource;
 
-/// The tables of the small files.
+/// Returns the tables of the small files.
 pub fn tables(alloc: Global) -> Result<Tables, TableFault> {
     Ok(Tables::new(
         ClassTable::read(alloc, &mut SliceSource::new(CLASSES))?,
@@ -19,7 +19,7 @@ pub fn tables(alloc: Global) -> Result<Tables, TableFault> {
     ))
 }
 
-/// A unit of this class that is no bracket.
+/// Returns a unit of this class that isn't a bracket.
 pub fn unit(class: Class) -> Unit {
     Unit {
         class,

@@ -1,7 +1,7 @@
-//! Texts that fill a room of 1,048,576 units, and as many calls in it, each on one unit. They would not end within the
-//! minute that a test has where a call walked what an earlier one left, walked the content of each initiator anew, or
-//! walked back from each pair of brackets to what is strong before it (N0). To walk the content of each pair anew is no
-//! more than 63 steps for a position of any text, since no more pairs are open at once in a sequence (BD16).
+//! Texts that fill a room of 1,048,576 units, and as many calls in it, each on one unit. A test has one minute. That is
+//! not enough if a call reads what an earlier one left, if it reads the content of each initiator again, or if it reads
+//! back from each pair of brackets to the strong class before it (N0). Reading the content of each pair again takes at
+//! most 63 steps for each position of a text, since no more pairs are open at once in a sequence (BD16).
 ghost use Rattle.std.specs.Prelude.{◌≡◌, ◌<◌};
 
 use crate::given::{tables, unit};
@@ -37,7 +37,7 @@ fn rises_by_one(rt: &impl Abort, order: &[usize]) {
     }
 }
 
-/// Expects one line of so many positions in rising order, that of `raised` at level 1, and all others at 0.
+/// Expects one line of `count` positions in rising order, that of `raised` at level 1, and all others at 0.
 fn is_rising(rt: &impl Abort, layout: &Layout, count: usize, raised: Option<usize>) {
     assert_eq!(rt; layout.line_count(), 1);
     assert_eq!(rt; layout.levels().len(), count);
@@ -67,7 +67,7 @@ fn rises_counting<K: Ledger>(
     Ok(())
 }
 
-/// The same, by a count of steps of its own.
+/// The same, with its own count of steps.
 fn rises(
     rt: &impl Abort,
     room: &mut Scratch,
@@ -77,7 +77,7 @@ fn rises(
     rises_counting::<Brand>(rt, room, text, raised, Blank::new(1))
 }
 
-/// Pairs of these two that fill the room.
+/// Returns pairs of these two units that fill the room.
 fn pairs(alloc: Global, opening: Unit, closing: Unit) -> Result<Vec<Unit>, Memory> {
     let mut text = vec![in alloc; opening; ROOM]?;
     for unit in text.iter_mut().skip(1).step_by(2) {
@@ -92,14 +92,14 @@ fn initiators_fill(rt: &impl Abort, alloc: Global, room: &mut Scratch) -> Result
     rises(rt, room, &initiators, None)
 }
 
-/// Pairs of parentheses that fill the room.
+/// Returns pairs of parentheses that fill the room.
 fn parentheses(alloc: Global) -> Result<Vec<Unit>, Fail> {
     let tables = tables(alloc)?;
     let text = pairs(alloc, tables.unit('('), tables.unit(')'))?;
     Ok(text)
 }
 
-/// BD16, N0: lays out brackets, alone and behind both directions.
+/// BD16, N0: lays out brackets, first alone and then after a letter of each direction.
 fn brackets_rise(rt: &impl Abort, room: &mut Scratch, brackets: &mut [Unit]) -> Result<(), Fail> {
     rises(rt, room, brackets, None)?;
     assert!(rt; brackets.len() > 1);
@@ -114,7 +114,7 @@ fn brackets_fill(rt: &impl Abort, alloc: Global, room: &mut Scratch) -> Result<(
     brackets_rise(rt, room, &mut brackets)
 }
 
-/// Fills the room with each of these texts, and then with as many calls.
+/// Fills the room with each of these texts, and then makes as many calls as it has units.
 fn texts_fill(rt: &impl Abort, alloc: Global, room: &mut Scratch) -> Result<(), Fail> {
     initiators_fill(rt, alloc, room)?;
     brackets_fill(rt, alloc, room)?;
@@ -127,7 +127,7 @@ fn each_text_may_fill_the_room(rt: HostRuntime) -> Result<(), Fail> {
     texts_fill(&rt, rt.alloc(), &mut room)
 }
 
-/// As many calls as the room has units, each on this one, at level 1 or 0.
+/// Makes as many calls as the room has units, each on this unit, which gets level 1 or 0.
 fn each_in_a_call(
     rt: &impl Abort,
     room: &mut Scratch,
