@@ -11,14 +11,14 @@ use Rattle.explicit.specs.FirstParagraph.{first_length}
 use Rattle.explicit.proofs.LevelsFound.OneCutting.{paragraphs_of_split}
 use Rattle.room.specs.BaseLevels.{base_level, first_paragraph}
 
--- what comes after the first paragraph, by its first unit
+-- what follows the first paragraph, depending on its first unit
 pub after_separator : (unit : BidiUnit) (units : List BidiUnit) → is_separator unit.class ≡ true → drop (first_length (unit ∷ units)) (unit ∷ units) ≡ units
 after_separator unit units ends = rw ends refl
 
 pub after_other : (unit : BidiUnit) (units : List BidiUnit) → is_separator unit.class ≡ false → drop (first_length (unit ∷ units)) (unit ∷ units) ≡ drop (first_length units) units
 after_other unit units inside = rw inside refl
 
--- a text is its first paragraph and those of what comes after it
+-- a text is its first paragraph and the paragraphs of what follows
 module _ (units rest : List BidiUnit) (some : 0 < length units) (is : rest ≡ drop (first_length units) units) where
   next_paragraph : paragraphs_of units ≡ first_paragraph units ∷ paragraphs_of rest
   next_paragraph = paragraphs_of_split units some ∙ ap (λ (us : List BidiUnit). first_paragraph units ∷ paragraphs_of us) (sym is)
@@ -42,7 +42,7 @@ module _ (units rest : List BidiUnit) (some : 0 < length units) (is : rest ≡ d
       ∙ ap (λ (l : ℕ). take k levels ++ l ∷ others) so
       ∙ ap (λ (ls : List ℕ). take k levels ++ ls) (sym (next_level direction)) ∙ now
 
--- as long as a level is to be written there is a paragraph left
+-- if a level remains to be written, a paragraph remains too
 pub paragraph_left : (all rest : List BidiUnit) (direction : Direction) (levels : List ℕ) (k : ℕ) → k < length levels → length levels ≡ length (paragraphs_of all)
     → take k levels ++ para_levels_of rest direction ≡ para_levels_of all direction → 0 < length rest
 paragraph_left all [] direction levels k place long so =

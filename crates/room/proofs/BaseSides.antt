@@ -1,4 +1,4 @@
--- The side of the first strong class of a text's first paragraph, as a walk finds it that ends there.
+-- The side of the first strong class of a text's first paragraph, as a pass finds it that ends there.
 use Rattle.std.proofs.Common.{◌≡◌, ℕ, zero, suc, ◌+◌, ◌<◌, ◌==◌, ◌&&◌, if◌then◌else◌, true, false, List, length, None, [], ◌∷◌, inl, inr, refl, sym, ap, ◌∙◌, arith, take, drop}
 use Rattle.std.proofs.lemmas.Bool.{cases_Bool}
 use Rattle.std.proofs.lemmas.List.{drop_all, drop_more}
@@ -14,7 +14,7 @@ use Rattle.explicit.specs.declared.side.Side.TheVariants.{Unknown}
 use Rattle.room.specs.BaseLevels.{depth_after, first_side}
 use Rattle.room.proofs.BaseWalk.{IsWalked, side_behind, walked_all, walked_more, walked_none}
 
--- the side of the first strong class outside of isolates, up to a separator, where so many are open before
+-- the side of the first strong class outside of isolates, up to a separator, if `depth` isolates are open before
 abbrev pub side_from : List BidiUnit → ℕ → Side
 side_from [] depth = Unknown
 side_from (unit ∷ units) depth =
@@ -22,12 +22,12 @@ side_from (unit ∷ units) depth =
     else (if (depth == 0) && is_strong unit.class then strong_side unit.class
     else side_from units (depth_after unit.class depth))
 
--- the side that is known behind all of these classes
+-- the side that is known after all of these classes
 abbrev side_behind_all : List Class → ℕ → Side → Side
 side_behind_all [] depth side = side
 side_behind_all (class ∷ cs) depth side = side_behind_all cs (depth_after class depth) (side_behind class depth side)
 
--- from the classes on that were walked over it is the side of the first strong class
+-- a pass over the remaining classes gives the side of the first strong class
 others_walked : (cs : List Class) (n k depth : ℕ) (side : Side) → k + n ≡ length cs → IsWalked cs k depth side
     → side_behind_all (drop k cs) depth side ≡ side_at cs (first_strong cs None)
 others_walked cs zero k depth side all walked =
@@ -39,7 +39,7 @@ others_walked cs (suc n) k depth side all walked =
     let next : drop k cs ≡ class_at cs k ∷ drop (k + 1) cs = drop_more cs k L inside in
     rw next (others_walked cs n (k + 1) _ _ (omega arith) (walked_more cs k side inside depth walked))
 
--- a side that is known stays
+-- a known side doesn't change
 noted_stays : (first class : Class) → noted (strong_side first) class ≡ strong_side first
 noted_stays first class = elim (cases_Bool (is_right_to_left first)) [ inl t ↦ rw t refl | inr f ↦ rw f refl ]
 
@@ -58,7 +58,7 @@ nothing_noted : (class : Class) (depth : ℕ) → is_separator class ≡ true �
 nothing_noted B depth ends = elim (cases_Bool (depth == 0)) [ inl none ↦ rw none refl | inr some ↦ rw some refl ]
 nothing_noted class depth ends = absurd (cc)
 
--- a walk over the first paragraph knows the side that one finds which ends early
+-- a pass over the whole first paragraph gives the same side as one that ends early
 first_class : (unit : BidiUnit) (units : List BidiUnit) (depth : ℕ) → is_separator unit.class ≡ false
     → side_behind_all (classes_of (take (first_length (unit ∷ units)) (unit ∷ units))) depth Unknown
     ≡ side_behind_all (classes_of (take (first_length units) units)) (depth_after unit.class depth) (side_behind unit.class depth Unknown)
@@ -83,7 +83,7 @@ first_walked (unit ∷ units) depth =
       ]
     ]
 
--- it is found by that walk
+-- that pass gives the first side
 pub side_found : (units : List BidiUnit) → first_side units ≡ side_from units 0
 side_found units =
     let cs : List Class = classes_of (take (first_length units) units) in

@@ -1,4 +1,4 @@
--- A walk over a paragraph that counts its open isolates and notes the first strong class outside of them.
+-- A pass over a paragraph that counts its open isolates and notes the first strong class outside of them.
 use Rattle.std.proofs.Common.{◌≡◌, ℕ, zero, suc, ◌+◌, ◌-◌, ◌<◌, ◌==◌, ◌&&◌, if◌then◌else◌, true, false, List, map, length, get_or, set, Option, None, inl, inr, refl, sym, ap, ◌∙◌, arith}
 use Rattle.std.proofs.lemmas.Bool.{cases_Bool, eqb-true, true≢false, false_from_ne_true}
 use Rattle.std.proofs.lemmas.List.{length-map, length-set}
@@ -12,11 +12,11 @@ use Rattle.explicit.proofs.Matched.Filling.{IsFilling, filling_matched, filling_
 use Rattle.explicit.proofs.StrongSides.Sides.{AreNoted, noted_all_outside, noted_none, noted_opening, noted_strong, noted_weak, pdi_is_weak, strong_is_other}
 use Rattle.room.specs.BaseLevels.{depth_after}
 
--- P2: the side that is known behind a class: a strong one is noted where no isolate is open
+-- P2: the side that is known after a class: a strong class is noted if no isolate is open
 abbrev pub side_behind : Class → ℕ → Side → Side
 side_behind class depth side = if (depth == 0) && is_strong class then noted side class else side
 
--- behind the first k classes so many isolates are open, and this is the side that is known
+-- after the first k classes `depth` isolates are open, and `side` is the known side
 pub record IsWalked (cs : List Class) (k depth : ℕ) (side : Side) : Type 0 where
   pub partners : List (Option ℕ)
   pub openers : List ℕ
@@ -152,6 +152,6 @@ module _ (cs : List Class) (k : ℕ) (side : Side) (inside : k < length cs) wher
     ]
   ]
 
--- at the paragraph's end the side is found
+-- at the paragraph's end the side is that of the first strong class
 pub walked_all : (cs : List Class) (depth : ℕ) (side : Side) → IsWalked cs (length cs) depth side → side ≡ side_at cs (first_strong cs None)
 walked_all cs depth side walked = noted_all_outside cs walked.sides side walked.noted_so

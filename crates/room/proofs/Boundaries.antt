@@ -9,14 +9,14 @@ use Rattle.room.specs.Rooms.{RoomOf, characters_in, offset_in}
 use Rattle.room.proofs.LevelWalk.{Rise}
 
 module _ (room : RoomOf) (rise : Rise room) where
-  -- they rise, or are of one character
+  -- offsets rise, or are those of one character
   pub not_below : (j k : ℕ) → j ≤ k → k ≤ characters_in room → offset_in room j ≤ offset_in room k
   not_below j k le inside = elim (cases_lt j k) [
     | inl below ↦ let up : offset_in room j < offset_in room k = rise j k below inside in omega (arith, up)
     | inr above ↦ let same : offset_in room j ≡ offset_in room k = ap (offset_in room) {x = j} {y = k} (omega (arith, above, le)) in omega (arith, same)
   ]
 
-  -- a character with a lesser offset is an earlier one
+  -- a character with a smaller offset is an earlier one
   pub before_it : (j k : ℕ) → j ≤ characters_in room → offset_in room j < offset_in room k → j < k
   before_it j k inside less = elim (cases_lt j k) [
     | inl below ↦ below
@@ -31,7 +31,7 @@ module _ (room : RoomOf) (rise : Rise room) where
       let up : offset_in room (first + n) < offset_in room (first + suc n) = rise (first + n) (first + suc n) (omega arith) inside in
       omega (arith, before, up)
 
-  -- an offset within a character begins none
+  -- no character begins at an offset within another one
   within_none : (at k : ℕ) → IsAt room at k → (offset_in room k ≡ at → ⊥) → IsBoundary (offset_in room) (characters_in room) at → ⊥
   within_none at k is other boundary =
       let begins = boundary.begins in
@@ -46,14 +46,14 @@ module _ (room : RoomOf) (rise : Rise room) where
             omega (arith, begins, before, up)
       ]
 
-  -- nor does one behind the text
+  -- no character begins after the text
   behind_none : (at : ℕ) → size_in room ≤ at → (size_in room ≡ at → ⊥) → IsBoundary (offset_in room) (characters_in room) at → ⊥
   behind_none at past other boundary =
       let begins = boundary.begins in
       let up : offset_in room boundary.index ≤ size_in room = not_below boundary.index (characters_in room) boundary.inside (omega arith) in
       other (omega (arith, begins, up, past))
 
-  -- the index that is looked at, or the number of characters, is the only one that could begin there
+  -- only the character with this index, or the text's end, could begin there
   pub no_boundary : (at : ℕ) (found : Option ℕ) (index : ℕ) → MatchOption found (size_in room ≤ at) (IsAt room at) → index ≡ unwrap_or found (characters_in room)
       → (offset_in room index ≡ at → ⊥) → IsBoundary (offset_in room) (characters_in room) at → ⊥
   no_boundary at None index past is other = behind_none at past (λ e. other (ap (offset_in room) is ∙ e))

@@ -30,7 +30,7 @@ use Rattle.sources.specs.Sources.{SourceOf, Classes, Codes, Units, Utf16, Utf8, 
 use Rattle.room.specs.Rooms.{RoomOf, characters_in, offset_in}
 use Rattle.room.specs.ShownUnits.{HoldsSource, ReadsCharacters, first_code, utf16_code_at, utf8_code_at}
 
--- a text begins with a character, and goes on with the text of the code units after it
+-- a text begins with a character; the text of the remaining code units follows
 pub record Begins (read : List ℕ → List Spelled) (units : List ℕ) : Type 0 where
   pub first : Spelled
   pub splits : read units ≡ first ∷ read (drop first.width units)
@@ -56,7 +56,7 @@ module _ (read : List ℕ → List Spelled) (IsRead : List ℕ → Type 0) (none
       let d : Spelled = record { code = 0; width = 0 } in
       ap first_code (text_from k units is (omega (arith, lt)) ∙ drop-cons (read units) k d lt) ∙ sym (get_or-map (λ (s : Spelled). s.code) (read units) k d 0 lt)
 
--- each character of a text has a unit
+-- a text has a unit for each character
 count_units : (tables : TablesOf) (source : SourceOf) → length (units_of tables source) ≡ characters_of source
 count_units tables (Codes numbers) = length-map numbers (unit_by tables)
 count_units tables (Classes numbers) = length-map numbers unit_numbered
@@ -64,7 +64,7 @@ count_units tables (Units numbered) = length-map numbered numbered_unit
 count_units tables (Utf8 bytes faults) = length-map (codes_of (text_in (Utf8 bytes faults))) (unit_by tables) ∙ length-map (text_in (Utf8 bytes faults)) (λ (s : Spelled). s.code)
 count_units tables (Utf16 units faults) = length-map (codes_of (utf16_text units)) (unit_by tables) ∙ length-map (utf16_text units) (λ (s : Spelled). s.code)
 
--- a room that holds a text has as many characters, and they begin where those of the text do
+-- a room with this text has as many characters, and they begin at the same offsets
 record HasOffsetsOf (source : SourceOf) (room : RoomOf) : Type 0 where
   count : characters_in room ≡ characters_of source
   offsets : (k : ℕ) → k ≤ characters_of source → offset_in room k ≡ source_offset source k
@@ -139,7 +139,7 @@ begins_utf8 bs some =
       | inr above ↦ begins_fault bs some (omega (arith, above))
     ]
 
--- the rest of bytes, as it is sliced
+-- a suffix of bytes, as it is sliced
 rest_of : (bs : List ℕ) (at : ℕ) → take (length bs - at) (drop at bs) ≡ drop at bs
 rest_of bs at = take_all (length bs - at) (drop at bs) (omega (arith, length-drop at bs))
 
@@ -153,7 +153,7 @@ code_of_fault bs at lt none =
     let left = drop at bs in
     sym (ap first_code (lossy_fault left (utf8_invalid_len left) (omega (arith, lt, length-drop at bs)) (subst StartsWithNoChar (rest_of bs at) none) refl))
 
--- a text that is well formed is read so too
+-- a well-formed text is read the same if faults are replaced
 no_bytes : utf8_lossy_text [] ≡ utf8_text []
 unfolding chunks utf8_valid_len utf8_error_len chars
 no_bytes = refl
@@ -219,7 +219,7 @@ pair_or_not u v = elim (cases_lt u 0xD800) [
   ]
 ]
 
--- a code unit that is in no pair is read as a character of one
+-- a code unit outside of a pair is read as a code point below 65,536
 small : (b : Bool) (u : ℕ) → u < 65536 → unwrap_or (if b then None else Some u) 0xFFFD < 65536
 small true u lt = omega arith
 small false u lt = lt

@@ -1,4 +1,4 @@
--- What is known of the columns to which a text in code units was decoded.
+-- What is known of the columns after a text in code units was decoded into them.
 use Rattle.std.proofs.Common.{◌≡◌, ◌∙◌, ◌<◌, ◌≤◌, ◌+◌, ◌-◌, ℕ, List, ap, arith, length, subst, sym, take}
 use Rattle.std.specs.Prelude.{slice_index}
 use Rattle.std.proofs.lemmas.List.{get_or-take, length-take-le}

@@ -8,7 +8,7 @@ use Rattle.room.specs.Rooms.{RoomOf, characters_in, offset_by, offset_in}
 abbrev pub Rise : RoomOf → Type 0
 Rise room = (j k : ℕ) → j < k → k ≤ characters_in room → offset_in room j < offset_in room k
 
--- where offsets are positions, each character has its own
+-- if offsets are positions, each character has its own
 pub at_position : (room : RoomOf) → room.text.offsets ≡ None → (at k : ℕ) → IsAt room at k → at ≡ k
 at_position room plain at k is =
     let from : k ≤ at = subst (λ (o : Option (List ℕ)). offset_by o k ≤ at) plain is.from in
@@ -16,7 +16,7 @@ at_position room plain at k is =
     omega (arith, from, before)
 
 module _ (room : RoomOf) (rise : Rise room) where
-  -- they rise, or are of one character
+  -- offsets rise, or are those of one character
   no_later : (at j k : ℕ) → IsAt room at j → IsAt room at k → j < k → ⊥
   no_later at j k a b lt = elim (cases_lt (j + 1) k) [
     | inl below ↦ let up : offset_in room (j + 1) < offset_in room k = rise (j + 1) k below (omega (arith, b.inside)) in omega (arith, a.before, b.from, up)

@@ -1,4 +1,4 @@
--- What is shared by calls.
+-- Lemmas that several proofs use.
 pub mod Encoded
 pub mod LineOrders
 pub mod Refilled

@@ -44,18 +44,18 @@ unfolding layout_of
 layout_ordered limits text direction breaks k lt =
     of_cuts _ (classes_of text) breaks k (length-map text (λ (u : BidiUnit). u.class) ∙ sym (length-levels limits text direction breaks)) lt
 
--- so of a layout that is the defined one
+-- the same for a layout that equals the defined one
 pub in_order : (layout : TextLayout) (limits : LimitsOf) (text : List BidiUnit) (direction : Direction) (breaks : List ℕ)
     → layout ≡ layout_of limits text direction breaks → LinesHaveOrder layout
 in_order layout limits text direction breaks is = subst LinesHaveOrder (sym is) (layout_ordered limits text direction breaks)
 
--- of one that a call made which refuses only what is too long
+-- the same for the layout of a call that only fails if the text is too long
 pub in_order_done : {E : Type 0} (done : Result (Unit {0}) E) (layout : TextLayout) (limits : LimitsOf) (text : List BidiUnit) (direction : Direction) (breaks : List ℕ) (room n : ℕ)
     → IsErr done ↔ (room < n) → n ≤ room → OnOk done (layout ≡ layout_of limits text direction breaks) → LinesHaveOrder layout
 in_order_done (Ok all) layout limits text direction breaks room n long fits is = in_order layout limits text direction breaks is
 in_order_done (Err fault) layout limits text direction breaks room n long fits is = absurd (omega (arith, long.0 refl, fits))
 
--- and so has the line that was laid out
+-- the same for the line that was laid out
 pub line_in_order : (levels levels_read : List (Option ℕ)) (start end : ℕ) (order : List ℕ) → start ≤ end → levels_read ≡ levels → HasOrder levels (record { start = start; end = end; order = order }) → IsLineOrder levels_read start end order
 line_in_order levels levels_read start end order forward read is =
     subst (λ (vs : List (Option ℕ)). IsLineOrder vs start end order) (sym read) (subst (IsLineOrder levels start end) (sym is.ordered) (line_order-is levels start end forward))

@@ -64,7 +64,7 @@ keeps_zero (c ∷ cs) h =
     let r = and_parts (are_flat cs) (has_none (may_rise 0) cs) (keeps_zero cs t.1) in
     both (are_flat (c ∷ cs)) (has_none (may_rise 0) (c ∷ cs)) (both (is_flat c) (are_flat cs) s.0 r.0) (both (not (may_rise 0 c)) (has_none (may_rise 0) cs) s.1 r.1)
 
--- all pieces of such a text are such
+-- all classes of each of these paragraphs stay at level 0
 abbrev pub AllStayLeft : List (List BidiUnit) → Type 0
 AllStayLeft [] = Unit {0}
 AllStayLeft (us ∷ pieces) = (all_stay_left (classes_of us) ≡ true) × AllStayLeft pieces

@@ -1,4 +1,4 @@
--- Columns that are written whole, and what follows of a result.
+-- Columns that are written whole, and what follows from a result.
 use Rattle.std.proofs.Common.{◌≡◌, List, length, sym, ◌∙◌, arith}
 use Rattle.std.specs.Prelude.{Result, Ok, Err, OnOk}
 use Rattle.std.specs.Box.{boxed_slice_items, boxed_slice_with_items}
@@ -11,7 +11,7 @@ refilled column xs len =
     let same : length xs ≡ column.items.len = len ∙ sym column.items.ok.0 in
     take-append-le column.items.len xs _ (omega (arith, same)) ∙ take_all column.items.len xs (omega (arith, same))
 
--- what follows of a result that is a success
+-- what follows from a success
 pub on_ok : {T E P Q : Type 0} (r : Result T E) → (P → Q) → OnOk r P → OnOk r Q
 on_ok (Ok x) then h = then h
 on_ok (Err e) then h = h

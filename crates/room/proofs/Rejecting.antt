@@ -1,4 +1,4 @@
--- Breaks that are rejected, where characters begin at the same offsets.
+-- Breaks that are rejected, if characters begin at the same offsets.
 use Rattle.std.proofs.Common.{◌≡◌, ◌∙◌, ◌≤◌, ℕ, List, sym}
 use Rattle.std.specs.Prelude.{slice_index}
 use Rattle.sources.specs.Asks.{AskOf}
@@ -30,7 +30,7 @@ module _ (f g : ℕ → ℕ) (n : ℕ) (same : (k : ℕ) → k ≤ n → f k ≡
     },
   )
 
--- a text whose characters are well formed is rejected as its breaks are
+-- a text whose characters are well formed is rejected for its breaks
 pub rejects_text : (ask : AskOf) (room : RoomOf) (fault : LayoutFault) → Fits ask.source room → IsWellFormed ask.source
     → RejectsBreaks (source_offset ask.source) (characters_of ask.source) (size_of ask.source) ask.breaks fault → Rejects ask room fault
 rejects_text ask room NoOffsets fits is h = absurd h

@@ -33,12 +33,12 @@ written_run room runs run out out_then count told len is put before le =
     put (omega (arith, le, len)) ∙ ap (λ (xs : List VisualRun). xs ++ told ∷ []) (before (omega (arith, le, len)))
     ∙ ap (λ (x : VisualRun). map (run_in room) runs ++ x ∷ []) is ∙ sym (map-append (run_in room) runs (run ∷ []))
 
--- the line has the number k, and lies in a paragraph of its level
+-- the line has the number k, and is in a paragraph with its level
 pub record IsLineOf (room : RoomOf) (k : ℕ) (line : OrderedLine) : Type 0 where
   pub is : IsOrderedLine room.layout k line.para_level line
   pub para : HasParaLevelOf room line.start line.para_level
 
--- a line of the layout that lies at a position in a paragraph of this level
+-- a line of the layout whose start is in a paragraph with this level
 pub line_of_layout : (room : RoomOf) (k start : ℕ) (para : ParaLevel) (line : OrderedLine) → IsOrderedLine room.layout k para line → start ≡ line.start → HasParaLevelOf room start para → IsLineOf room k line
 line_of_layout room k start para line is begins level = record {
   is = subst (λ (p : ParaLevel). IsOrderedLine room.layout k p line) (sym is.para) is;

@@ -1,4 +1,4 @@
--- What a room shows whose scratch was written.
+-- What a room shows after its scratch was written.
 use Rattle.std.proofs.Common.{◌≡◌, ◌∙◌, ◌+◌, ℕ, Bool, List, ap, length, map, sym, take, true, false}
 use Rattle.std.specs.Prelude.{slice_index}
 use Rattle.std.specs.Box.{boxed_slice_items}

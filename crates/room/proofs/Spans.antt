@@ -13,7 +13,7 @@ use Rattle.room.specs.Rooms.{RoomOf, characters_in, offset_in}
 use Rattle.room.proofs.Boundaries.{before_it, not_below, spread_out}
 use Rattle.room.proofs.LevelWalk.{Rise}
 
--- lists that are equal behind a place are equal behind a later one
+-- lists that are equal after an index are equal after a later one
 later : {A : Type 0} (n m : ℕ) (xs ys : List A) → n ≤ m → drop n xs ≡ drop n ys → drop m xs ≡ drop m ys
 later n m xs ys le same =
     let far : m ≡ n + (m - n) = omega (arith, le) in
@@ -96,7 +96,7 @@ module _ (room : RoomOf) (rise : Rise room) (start end first last : ℕ) (span :
       order_behind = drop-append-drop shown order1 turned (end - start) (omega (arith, w.few, narrow)) turned_len ∙ later (last - first) (end - start) order1 order narrow w.order_behind;
     }
 
-  -- a line of its characters that is refused is one of units that is
+  -- if the line of its characters is rejected, so is the line of its units
   pub refused : (places : ℕ) (fault : SpanFault) → length room.text.units ≡ characters_in room → end - start ≤ places → RefusesSpan room.text.units first last fault → RejectsLineIn room start end places (fault_of_span fault)
   refused places NotForward all fits h = absurd (omega (arith, h, span.forward))
   refused places BeyondText all fits h = absurd (omega (arith, h.1, all, span.inside))

@@ -7,14 +7,14 @@ use Rattle.room.specs.Rooms.{RoomOf, characters_in, offset_in}
 use Rattle.room.proofs.Boundaries.{not_below, spread_out}
 use Rattle.room.proofs.LevelWalk.{Rise}
 
--- the levels of characters from this one on are spread, and the items before it are as they were
+-- the levels of characters from this one on are spread, and the items before it are unchanged
 pub record AreSpread (room : RoomOf) (first from : ℕ) (old now : List (Option ℕ)) : Type 0 where
   pub len : length now ≡ length old
   pub kept : (i : ℕ) → offset_in room first + i < offset_in room from → slice_index_or now i None ≡ slice_index_or old i None
   pub spread : (i j : ℕ) → i < length old → from ≤ j → IsAt room (offset_in room first + i) j → slice_index_or now i None ≡ slice_index_or old (j - first) None
 
 module _ (room : RoomOf) (rise : Rise room) (first k : ℕ) (begun : first ≤ k) (inside : k < characters_in room) where
-  -- the level of a character is at an item before its units, or the first of them
+  -- the level of a character is at the item of its first unit, or before it
   pub item_before : offset_in room first + (k - first) ≤ offset_in room k
   item_before =
       let n : first + (k - first) ≡ k = omega (arith, begun) in

@@ -21,15 +21,15 @@ AreMarkedFrom own from marks = (k : ℕ) → from ≤ k → k < length own → s
 abbrev pub AreWholeUpTo : RoomOf → ℕ → List ℕ → Type 0
 AreWholeUpTo room n levels = (k : ℕ) → k < n → slice_index levels k ≡ whole_level room (slice_index levels (k - 1)) k
 
--- what a read past the end gives
+-- the result of a read past the end
 abbrev pub no_unit : BidiUnit
 no_unit = record { class = L; bracket = No }
 
--- L1: at the end only white space comes
+-- L1: at the end only white space follows
 pub trails_end : (own : List Class) (n : ℕ) → length own ≡ n → true ≡ trails own n
 trails_end own n len = sym (ap (λ (m : ℕ). resets_at own n m) {x = length own - n} {y = 0} (omega (arith, len)))
 
--- L1: from the position before on it does as the class there says
+-- L1: whether only white space follows from a position on depends on its class and on the next position
 pub trails_before : (us : List BidiUnit) (k : ℕ) (trailing : Bool) → k < length us → trailing ≡ trails (classes_of us) (k + 1)
     → resets_before (get_or us k no_unit).class trailing ≡ trails (classes_of us) k
 trails_before us k trailing lt next =
@@ -51,7 +51,7 @@ marked_more own k trailing mark marks lt is does are = λ q from low. elim (case
       (get_or-set_same marks k mark 0 lt ∙ is ∙ ap (λ (b : Bool). if b then 1 else 0) does)
 ]
 
--- what a mark says
+-- what a mark means
 pub mark_says : (b : Bool) (mark : ℕ) → mark ≡ (if b then 1 else 0) → (mark == 1) ≡ b
 mark_says true mark is = ap (λ (m : ℕ). m == 1) is
 mark_says false mark is = ap (λ (m : ℕ). m == 1) is

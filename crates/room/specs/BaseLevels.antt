@@ -25,7 +25,7 @@ base_level units direction = para_level_of (classes_of (first_paragraph units)) 
 abbrev pub first_side : List BidiUnit → Side
 first_side units = let cs : List Class = classes_of (first_paragraph units) in side_at cs (first_strong cs None)
 
--- BD9: how many isolates are open after a class, where so many are before it; a PDI closes none where none is open
+-- BD9: how many isolates are open after a class, if `depth` are open before it; a PDI closes one, if one is open
 abbrev pub depth_after : Class → ℕ → ℕ
 depth_after class depth =
     if is_isolate_initiator class then depth + 1 else (if is_pdi class then depth - 1 else depth)
@@ -42,8 +42,8 @@ pub record IsNextText (tables : TablesOf) (source rest : SourceOf) : Type 0 wher
   pub after : IsAfterParagraph tables source rest
   pub shorter : size_of rest < size_of source
 
--- P1 to P3: the levels of the paragraphs of a well-formed text are counted, and written to the front whole or not at all;
--- of another one the first fault is told, and nothing is written
+-- P1 to P3: the levels of the paragraphs of a well-formed text are counted, and written to the front whole or not at
+-- all; for another text the result is its first fault, and nothing is written
 pub record WritesBaseLevels (tables : TablesOf) (source : SourceOf) (direction : Direction) (old new : List ℕ) (counted : Result ℕ ℕ) : Type 0 where
   pub well_formed : IfOk counted (λ _. IsWellFormed source)
   pub written : IfOk counted (λ count. WritesWhole (para_levels_of (units_of tables source) direction) count old new)

@@ -1,5 +1,5 @@
--- Breaks at offsets, and how they are rejected. Characters are given by how many they are and where each begins: for their
--- number the offset is that of the text's end.
+-- Breaks at offsets, and how they are rejected. Characters are given as their number and the offset at which each
+-- begins; the offset after the last one is the text's end.
 use Rattle.std.specs.Prelude.{ℕ, ◌≡◌, ◌<◌, ◌≤◌, List, length, slice_index}
 use Rattle.lines.specs.LineBreaks.{AreBreaks, IsFirstBreakFault}
 use Rattle.room.specs.declared.fault.LayoutFault.{LayoutFault}
@@ -17,8 +17,8 @@ pub record IsFirstInside (offset : ℕ → ℕ) (count : ℕ) (breaks : List ℕ
   pub between : IsBoundary offset count (slice_index breaks index) → ⊥
   pub earlier : (i : ℕ) → i < index → IsBoundary offset count (slice_index breaks i)
 
--- breaks of a text of so many units are rejected for this reason: the first that is out of range or not rising; only where
--- there is none, the first that is inside a character
+-- breaks of a text of so many units are rejected for this reason: the first one that is out of range or not rising;
+-- only if there is none, the first one that is inside a character
 abbrev pub RejectsBreaks : (ℕ → ℕ) → ℕ → ℕ → List ℕ → LayoutFault → Type 0
 RejectsBreaks offset count size breaks (Break fault) = IsFirstBreakFault breaks size fault
 RejectsBreaks offset count size breaks (BreakInside index) = AreBreaks breaks size × IsFirstInside offset count breaks index

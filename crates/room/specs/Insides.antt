@@ -1,4 +1,4 @@
--- What the columns of a room say.
+-- What the columns of a room contain.
 use Rattle.std.specs.Prelude.{ℕ, Bool, true, false, ◌≡◌, ◌+◌, ◌≤◌, Option, Some, None, List, length, slice_index, take}
 use Rattle.std.specs.Box.{boxed_slice_items}
 use Rattle.lines.specs.Scratches.{room_of, layout_in, HoldsText, IsFilled}
@@ -7,7 +7,7 @@ use Rattle.room.specs.OrderedLines.{LinesHaveOrder}
 use Rattle.room.specs.Rooms.{RoomOf}
 use Rattle.room.specs.declared.room.Room.TheInside.{Inside}
 
--- the offsets at which characters begin, where these are no positions
+-- the offsets at which characters begin, if these aren't positions
 abbrev pub offsets_if : Bool → List ℕ → Option (List ℕ)
 offsets_if true starts = Some starts
 offsets_if false starts = None
@@ -35,7 +35,7 @@ pub record HaveCapacity (capacity units spare_units starts spare indices : ℕ) 
   pub for_spare : spare ≡ capacity + 1
   pub for_indices : indices ≡ capacity
 
--- the scratch holds the text with its layout, and each column is long enough
+-- the scratch contains the text with its layout, and each column is long enough
 pub record IsRoom (a : Inside) : Type 0 where
   pub filled : IsFilled a.scratch
   pub fits : length (boxed_slice_items a.units) ≡ room_of a.scratch

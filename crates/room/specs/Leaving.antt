@@ -1,4 +1,4 @@
--- What a call leaves that is to lay out a text, or to break one into lines again.
+-- The room after a call that lays out a text, or that breaks one into lines again.
 use Rattle.std.specs.Prelude.{ℕ, true, false, ◌≡◌, ◌<◌, ◌≤◌, ◌⊎◌, Result, List, IfErr, OnErr, OnOk}
 use Rattle.ucdfiles.specs.Tables.{TablesOf}
 use Rattle.lines.specs.LineBreaks.{AreBreaks}
@@ -10,23 +10,24 @@ use Rattle.sources.specs.Sources.{SourceOf, IsEncoded, IsFirstFault, IsWellForme
 use Rattle.room.specs.declared.fault.LayoutFault.{LayoutFault}
 use Rattle.room.specs.declared.fault.LayoutFault.TheVariants.{NoOffsets, TooLong, IllFormed}
 
--- a room has offsets where the source needs them
+-- a room has offsets if the source needs them
 abbrev pub HasOffsetsFor : SourceOf → RoomOf → Type 0
 HasOffsetsFor source room = IsEncoded source → room.encodes ≡ true
 
--- it has, and room for each unit of the source
+-- it has, and has capacity for each unit of the source
 pub record Fits (source : SourceOf) (room : RoomOf) : Type 0 where
   pub kind : HasOffsetsFor source room
   pub size : size_of source ≤ room.capacity
 
--- what is asked of a room is taken: the text fits and is well formed, and the breaks rise within it
+-- the room accepts what it is asked for: the text fits and is well formed, and the breaks rise within it
 pub record Takes (ask : AskOf) (room : RoomOf) : Type 0 where
   pub fits : Fits ask.source room
   pub well_formed : IsWellFormed ask.source
   pub inside : AreBreaks ask.breaks (size_of ask.source)
 
--- it is rejected for this reason: its kind; else its length; else, of all but code units, the range and the order of the
--- breaks and then the first fault of the text, and of code units the first fault of the text and then the breaks
+-- it is rejected for this reason. First its kind is tested, then its length. Code units are tested for the first fault
+-- of the text, and then for the breaks. Other texts are tested for the range and the order of the breaks, and then for
+-- the first fault of the text
 abbrev pub Rejects : AskOf → RoomOf → LayoutFault → Type 0
 Rejects ask room NoOffsets = IsEncoded ask.source × (room.encodes ≡ false)
 Rejects ask room TooLong = HasOffsetsFor ask.source room × (room.capacity < size_of ask.source)
@@ -43,8 +44,9 @@ pub record IsAsked (ask : AskOf) (tables : TablesOf) (text : TextOf) : Type 0 wh
   pub limits : text.limits ≡ ask.limits
   pub offsets : (k : ℕ) → k ≤ characters_of ask.source → offset_by text.offsets k ≡ source_offset ask.source k
 
--- a room before and after a call that is to lay out a text, or to break one into lines again: it is as large; if the call
--- succeeds, it holds such a text with its layout, broken at the breaks; else it is what it was, for a reason
+-- a room before and after a call that lays out a text, or that breaks one into lines again. Its capacity is unchanged.
+-- If the call succeeds, it contains such a text with its layout, broken at the breaks. Else it is unchanged, for a
+-- reason
 pub record LeavesText (IsTaken : Type 0) (IsRejected : LayoutFault → Type 0) (IsText : TextOf → Type 0) (breaks : List ℕ) (old new : RoomOf) (done : Result (Unit {0}) LayoutFault) : Type 0 where
   pub capacity : new.capacity ≡ old.capacity
   pub encodes : new.encodes ≡ old.encodes
@@ -54,14 +56,14 @@ pub record LeavesText (IsTaken : Type 0) (IsRejected : LayoutFault → Type 0) (
   pub text : OnOk done (IsText new.text)
   pub broken : OnOk done (IsBrokenAt breaks new)
 
--- of a call that is to lay out a text as it is asked for
+-- of a call that lays out a text as it is asked for
 abbrev pub Leaves : AskOf → TablesOf → RoomOf → RoomOf → Result (Unit {0}) LayoutFault → Type 0
 Leaves ask tables old new done = LeavesText (Takes ask old) (Rejects ask old) (IsAsked ask tables) ask.breaks old new done
 
--- breaks of the text that a room holds are rejected for this reason
+-- breaks of the room's text are rejected for this reason
 abbrev pub RejectsLines : RoomOf → List ℕ → LayoutFault → Type 0
 RejectsLines room breaks fault = RejectsBreaks (offset_in room) (characters_in room) (size_in room) breaks fault
 
--- of a call that is to break the text that it holds into lines again
+-- of a call that breaks the text of the room into lines again
 abbrev pub SetsLines : List ℕ → RoomOf → RoomOf → Result (Unit {0}) LayoutFault → Type 0
 SetsLines breaks old new done = LeavesText (AreBreaks breaks (size_in old)) (RejectsLines old breaks) (λ text. text ≡ old.text) breaks old new done

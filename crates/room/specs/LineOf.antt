@@ -22,8 +22,8 @@ pub record IsSpan (room : RoomOf) (start end first last : ℕ) : Type 0 where
   pub begins : offset_in room first ≡ start
   pub ends : offset_in room last ≡ end
 
--- one line of characters, from the first up to the last, is written to the fronts of two lists, whatever breaks make it
--- one, and what comes after it is unchanged
+-- one line of characters, from the first up to the last, is written to the fronts of two lists, whichever breaks give
+-- this line; what comes after it is unchanged
 pub record WritesCharacters (room : RoomOf) (first last : ℕ) (levels levels2 : List (Option ℕ)) (order order2 : List ℕ) (shown : ℕ) : Type 0 where
   pub taken : IsLineIn room.text.units (breaks_around first last) first last
   pub line : (breaks : List ℕ) → IsLineIn room.text.units breaks first last →
@@ -32,13 +32,13 @@ pub record WritesCharacters (room : RoomOf) (first last : ℕ) (levels levels2 :
   pub levels_behind : drop (last - first) levels2 ≡ drop (last - first) levels
   pub order_behind : drop (last - first) order2 ≡ drop (last - first) order
 
--- L1, L2: in this layout each unit from the start on has the level of its character, and the characters from the first up
--- to the last begin in this order
+-- L1, L2: in this layout each unit from the start on has the level of its character, and the characters from the first
+-- up to the last begin in this order
 pub record IsLineInUnits (room : RoomOf) (layout : TextLayout) (start end first last : ℕ) (levels : List (Option ℕ)) (order : List ℕ) : Type 0 where
   pub leveled : (i k : ℕ) → i < end - start → IsAt room (start + i) k → slice_index_or levels i None ≡ slice_index_or layout.levels k None
   pub ordered : order ≡ map (offset_in room) (line_order layout.levels first last)
 
--- one line of the text, from one offset up to another, is written so, whatever breaks make it one
+-- one line of the text, from one offset up to another, is written so, whichever breaks give this line
 pub record WritesLineOf (room : RoomOf) (start end : ℕ) (levels levels2 : List (Option ℕ)) (order order2 : List ℕ) (shown : ℕ) : Type 0 where
   pub first : ℕ
   pub last : ℕ
@@ -69,8 +69,8 @@ RejectsSpan room start end EndsInside =
 RejectsSpan room start end CrossesParagraph = CrossesIn room start end
 RejectsSpan room start end TooSmall = ⊥
 
--- a line for which there are so many places is rejected for this reason: they are too few; if they are enough, there is no
--- such line
+-- a line for which there are so many places is rejected for this reason: they are too few; if they are enough, there is
+-- no such line
 abbrev pub RejectsLineIn : RoomOf → ℕ → ℕ → ℕ → LineFault → Type 0
 RejectsLineIn room start end places TooSmall = places < end - start
 RejectsLineIn room start end places NotForward = RejectsSpan room start end NotForward

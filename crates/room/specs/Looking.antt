@@ -1,4 +1,4 @@
--- What a layout says of a text in the units of its source.
+-- What a layout says about a text in the units of its source.
 use Rattle.std.specs.Prelude.{ℕ, ◌≤◌, ◌<◌, ◌+◌, ◌≡◌, ◌⊎◌, Option, None, List, length, map, slice_index_or}
 use Rattle.units.specs.Layout.{LineLayout}
 use Rattle.units.specs.declared.level.ParaLevel.{ParaLevel}

@@ -9,6 +9,6 @@ pub record HasOrder (levels : List (Option ℕ)) (line : LineLayout) : Type 0 wh
   pub begins : line.start < length levels
   pub ordered : line.order ≡ line_order levels line.start line.end
 
--- L2: each line of the layout has
+-- L2: the same for each line of the layout
 abbrev pub LinesHaveOrder : TextLayout → Type 0
 LinesHaveOrder layout = (k : ℕ) → k < length layout.lines → HasOrder layout.levels (line_at layout k)

@@ -5,12 +5,12 @@ use Rattle.room.specs.Looking.{IsAt, in_units}
 use Rattle.room.specs.Rooms.{RoomOf}
 use Rattle.room.specs.Written.{Writes}
 
--- what stands for the place of a unit that is not shown
+-- the number for a unit that is not shown
 abbrev pub nowhere : ℕ
 nowhere = 2 ^ 64 - 1
 
--- L2: the unit at the offset is shown at this place of the order, which is that of its character and one of the first n;
--- or its character is at none of these
+-- L2: the unit at the offset is shown at this place of the order, which is the place of its character and one of the
+-- first n; or its character is at none of these
 abbrev pub IsPlace : RoomOf → List ℕ → ℕ → ℕ → ℕ → Type 0
 IsPlace room order n at place =
     ((place < n) × IsAt room at (slice_index order place))

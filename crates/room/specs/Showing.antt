@@ -8,16 +8,16 @@ use Rattle.ucdfiles.specs.Tables.{TablesOf, glyph_by}
 use Rattle.room.specs.Rooms.{RoomOf}
 use Rattle.room.specs.Written.{Writes}
 
--- L4: a character of this level is shown by its mirror image, where the level is odd and it has one
+-- L4: the character that is shown for a character with this level: its mirror image, if the level is odd and it has one
 abbrev pub shown_char : TablesOf → Option ℕ → ℕ → ℕ
 shown_char tables level c = if is_odd_level level then unwrap_or (glyph_by tables.mirrors c) c else c
 
--- L4: what is shown for a code point of this level; a number that is no scalar value is shown as it is
+-- L4: what is shown for a code point with this level; a number that isn't a scalar value is shown unchanged
 pub record IsShown (tables : TablesOf) (level : Option ℕ) (code shown : ℕ) : Type 0 where
   pub character : IsScalar code → shown ≡ shown_char tables level code
   pub other : (IsScalar code → ⊥) → shown ≡ code
 
--- L4: of each place of the order the code point there is shown
+-- L4: at each place of the order its code point is shown
 abbrev pub AreShown : TablesOf → RoomOf → List ℕ → List ℕ → List ℕ → Type 0
 AreShown tables room codes order shown =
     (i : ℕ) → i < length shown → IsShown tables (slice_index_or room.layout.levels (slice_index order i) None) (slice_index codes (slice_index order i)) (slice_index shown i)

@@ -47,7 +47,7 @@ pub record ArePut {A : Type 0} (items : List A) (count : ℕ) (out : List A) : T
   pub counted : count ≡ length items
   pub written : count ≤ length out → take count out ≡ items
 
--- the room holds this text, as it was asked for, and the text is well formed
+-- the room contains this text, as it was asked for, and the text is well formed
 pub record HoldsSource (source : SourceOf) (room : RoomOf) : Type 0 where
   pub ask : AskOf
   pub tables : TablesOf

@@ -1,4 +1,4 @@
--- The levels of all characters, those included that X9 removes.
+-- The levels of all characters, including those that X9 removes.
 use Rattle.std.specs.Prelude.{ℕ, Bool, ◌≡◌, ◌<◌, ◌-◌, ◌==◌, ◌||◌, if◌then◌else◌, None, List, length, slice_index, slice_index_or}
 use Rattle.std.specs.Option.{unwrap_or}
 use Rattle.units.specs.Classes.{class_at, classes_of, is_separator}
@@ -23,18 +23,18 @@ abbrev pub para_level_in : RoomOf → ℕ → ℕ
 para_level_in room k =
     para_level_at (classes_of room.text.units) (para_levels_of room.text.units room.text.direction) k
 
--- X9, L1: the level that a removed character is given: its paragraph's where the paragraph begins and at the end of a
--- stretch of text, else that of the character before it
+-- X9, L1: the level that a removed character is given: its paragraph's level if the paragraph begins there or `trails`
+-- holds there, else the level of the character before it
 abbrev pub removed_level : RoomOf → ℕ → ℕ → ℕ
 removed_level room before k =
     let own : List Class = classes_of room.text.units in
     if begins_paragraph own k || trails own k then para_level_in room k else before
 
--- the level of a character after L1, where it has one, else the one that it is given
+-- the level of a character after L1, if it has one, else the level that it is given
 abbrev pub whole_level : RoomOf → ℕ → ℕ → ℕ
 whole_level room before k = unwrap_or (slice_index_or room.layout.levels k None) (removed_level room before k)
 
--- these are the levels of all characters, each its own or, from the one before it, the one that it is given
+-- these are the levels of all characters; a removed one takes its level from the one before it
 abbrev pub AreWholeLevels : RoomOf → List ℕ → Type 0
 AreWholeLevels room levels =
     (k : ℕ) → k < characters_in room → slice_index levels k ≡ whole_level room (slice_index levels (k - 1)) k

@@ -1,7 +1,7 @@
--- What is written out.
+-- What is written to the front of a list.
 use Rattle.std.specs.Prelude.{ℕ, ◌≡◌, ◌≤◌, ◌<◌, List, length, take, drop}
 
--- n items are counted, and written to the front if all fit there, else none; those that are written are right, and those
+-- n items are counted, and written to the front if all fit there, else none; the written ones are right, and those
 -- after them are unchanged
 pub record Writes {A : Type 0} (n : ℕ) (AreRight : List A → Type 0) (counted : ℕ) (old new : List A) : Type 0 where
   pub count : counted ≡ n

@@ -1,5 +1,5 @@
-//! The direction of a text that is not laid out: the levels of its paragraphs, and whether all its levels are 0.
-//! Nothing is allocated.
+//! The direction of a text that is not laid out: the levels of its paragraphs, and whether all its levels are 0. It
+//! takes no memory.
 ghost use Rattle.std.specs.Prelude.{◌≡◌, ◌<◌, ◌≤◌, ◌+◌, true, List, length, IfErr, IfOk, MatchOption, OnOk};
 ghost use Rattle.units.specs.Classes.{classes_of};
 ghost use Rattle.units.specs.Isolates.{level_of_para};
@@ -25,7 +25,7 @@ use units::class::Class;
 use units::level::{Direction, ParaLevel};
 use units::steps::Steps;
 
-/// BD9: how many isolates are open after a class, where so many are before it.
+/// BD9: returns how many isolates are open after a class, if `depth` are open before it.
 fn depth_after(class: Class, depth: usize) -> usize
     requires { depth < usize.MAX }
     ensures { result ≡ depth_after class depth }
@@ -39,8 +39,8 @@ fn depth_after(class: Class, depth: usize) -> usize
     }
 }
 
-/// P1, P2: the side of the first strong class of a text's first paragraph outside of all isolates. Reads no further
-/// than that class or the paragraph, so it takes at most one step for each unit of the text.
+/// P1, P2: returns the side of the first strong class of a text's first paragraph outside of all isolates. Reads no
+/// further than that class or the paragraph, so it takes at most one step for each unit of the text.
 #[tactic(auto, using(crate::proofs::BaseSides::side_found))]
 fn first_side<L: Ledger>(tables: &Tables, source: Source<'_>, steps: &mut Steps<L>) -> Side
     requires { IsWellFormed (source_seen source) }
@@ -64,7 +64,7 @@ fn first_side<L: Ledger>(tables: &Tables, source: Source<'_>, steps: &mut Steps<
     Side::Unknown
 }
 
-/// P1: what comes after the first paragraph of a text.
+/// P1: returns what follows the first paragraph of a text.
 #[tactic(auto, using(crate::proofs::BaseParagraphs::after_separator, crate::proofs::BaseParagraphs::after_other))]
 fn after_paragraph<'t>(tables: &Tables, source: Source<'t>) -> Source<'t>
     requires { IsWellFormed (source_seen source) }
@@ -80,7 +80,7 @@ fn after_paragraph<'t>(tables: &Tables, source: Source<'t>) -> Source<'t>
     rest
 }
 
-/// P1: what comes after the first paragraph of a text, if there is one.
+/// P1: returns what follows the first paragraph of a text, if there is one.
 #[tactic(auto, using(crate::proofs::BaseParagraphs::after_separator, crate::proofs::BaseParagraphs::after_other))]
 fn next_text<'t>(tables: &Tables, source: Source<'t>) -> Option<Source<'t>>
     requires { IsWellFormed (source_seen source) }
@@ -109,7 +109,7 @@ pub fn first_level<L: Ledger>(
     level_under(direction, first_side(tables, source, steps))
 }
 
-/// Returns that level, by a count of steps that ends with the call.
+/// Returns that level. Counts the steps of this call.
 fn level_counting<L: Ledger>(
     tables: &Tables,
     source: Source<'_>,
@@ -133,7 +133,7 @@ fn level_of_first(tables: &Tables, source: Source<'_>, direction: Direction) -> 
     level_counting::<Brand>(tables, source, direction, Blank::new(1))
 }
 
-/// P1: how many paragraphs a text has.
+/// P1: returns how many paragraphs a text has.
 fn paragraph_count(tables: &Tables, source: Source<'_>) -> usize
     requires { IsWellFormed (source_seen source) }
     ensures { result ≡ length (paragraphs_of (units_of tables.now (source_seen source.entry))) }
@@ -161,8 +161,8 @@ fn fill_base_levels(tables: &Tables, source: Source<'_>, direction: Direction, l
     }
 }
 
-/// Writes the levels of the paragraphs of a well-formed text to the front of `levels`, if all fit there; returns how
-/// many they are.
+/// Writes the levels of the paragraphs of a well-formed text to the front of `levels`, if all fit there. Returns how
+/// many there are.
 fn write_base_levels(
     tables: &Tables,
     source: Source<'_>,
@@ -180,8 +180,8 @@ fn write_base_levels(
     count
 }
 
-/// A class that leaves a paragraph of level 0, and each position in it, at that level: neither R, AL or AN nor an
-/// initiator of an embedding, an override or an isolate.
+/// Returns whether a class leaves a paragraph of level 0, and each position in it, at that level: it is neither R, AL
+/// or AN nor an initiator of an embedding, an override or an isolate.
 fn stays_left(class: Class) -> bool
     ensures { result ≡ stays_left class }
 {
@@ -200,7 +200,7 @@ fn stays_left(class: Class) -> bool
     )
 }
 
-/// Whether the classes of a text leave all levels at 0.
+/// Returns whether the classes of a text leave all levels at 0.
 fn all_stay_left(tables: &Tables, source: Source<'_>) -> bool
     requires { IsWellFormed (source_seen source) }
     ensures { result ≡ all_stay_left (classes_of (units_of tables.now (source_seen source.entry))) }
@@ -261,8 +261,8 @@ pub fn is_left_to_right(tables: &Tables, source: Source<'_>) -> Result<bool, usi
     Ok(all_stay_left(tables, source))
 }
 
-/// Where a text has only classes that stay at level 0, the level of each position that remains is 0, if the direction
-/// is found or asked to be left-to-right.
+/// States that each position of a text with only classes that stay at level 0 has the level 0, unless X9 removes it.
+/// The direction must be `Auto` or `Ltr`.
 pub fn levels_are_zero()
     ensures { (limits : LimitsOf) (text : List BidiUnit) → all_stay_left (classes_of text) ≡ true
         → AreLevelsZero limits text }

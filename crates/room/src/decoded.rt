@@ -13,8 +13,8 @@ use sources::source::Source;
 use ucdfiles::tables::Tables;
 use units::bracket::Unit;
 
-/// Writes the units and the offsets of a text in code units, and after the offsets that of its end. Returns how many
-/// characters there are, or fails with the offset of the first fault.
+/// Writes the units and the offsets of a text in code units, and after the offsets that of the text's end. Returns how
+/// many characters there are. Fails with the offset of the first fault.
 pub(crate) fn decode(
     source: Source<'_>,
     tables: &Tables,

@@ -11,8 +11,8 @@ pub enum LayoutFault {
     /// The text has more units than the room can hold.
     #[error("more units than the room can hold")]
     TooLong,
-    /// The unit at this offset is no part of a character, is no class, or has a number of no class or bracket; all
-    /// before it are well formed.
+    /// The unit at this offset isn't part of a character, isn't a class, or has a number of no class or bracket. All
+    /// units before it are well formed.
     #[error("the unit at offset {0} is no part of a character")]
     IllFormed(usize),
     /// A break is out of range, or not above the one before.

@@ -1,4 +1,4 @@
-//! Breaks at offsets, made breaks at characters.
+//! Turns breaks at offsets into breaks at characters.
 ghost use Rattle.std.specs.Prelude.{◌≡◌, ◌<◌, ◌≤◌, ◌-◌, length, slice_index, take, IfErr, OnOk};
 ghost use Rattle.lines.specs.LineBreaks.{AreBreaks};
 ghost use Rattle.decoding.specs.Starts.{AreFound, AreOffsets};

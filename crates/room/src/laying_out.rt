@@ -1,4 +1,4 @@
-//! Units laid out in a scratch that has capacity for them.
+//! Lays out units in a scratch that has capacity for them.
 ghost use Rattle.std.specs.Prelude.{◌≡◌, ◌≤◌, [], length};
 ghost use Rattle.units.specs.Layout.{layout_of};
 ghost use Rattle.units.specs.Limits.{standard};
@@ -14,7 +14,7 @@ use units::bracket::Unit;
 use units::level::Direction;
 use units::limits::Limits;
 
-/// Lays out a text by these limits.
+/// Lays out a text with these limits.
 pub(crate) fn lay_out_units(
     scratch: &mut Scratch,
     text: &[Unit],
@@ -33,7 +33,7 @@ pub(crate) fn lay_out_units(
     let _done = lay_out_into_with(scratch, text, direction, breaks, limits);
 }
 
-/// Breaks the text that the scratch holds into lines again.
+/// Breaks the text of the scratch into lines again.
 pub(crate) fn set_lines_of_units(scratch: &mut Scratch, text: &[Unit], breaks: &Breaks)
     requires len { breaks.now.len ≡ length text.now }
     requires holds { HoldsSomeLayoutOf text.now scratch.old }

@@ -1,5 +1,5 @@
-//! Texts laid out: the one type that owns the scratch, the units of a text and the offsets of its characters; and what
-//! is known of a text without a layout.
+//! Texts laid out: one type that owns the scratch, the units of a text and the offsets of its characters; and what is
+//! known of a text without a layout.
 #![tactic(auto)]
 
 pub mod base_levels;

@@ -1,4 +1,4 @@
-//! One line alone of the text that a room holds, in the units of its source.
+//! One line alone of the text of a room, in the units of its source.
 ghost use Rattle.std.specs.Prelude.{◌≡◌};
 ghost use Rattle.room.specs.LineOf.{fault_of_span};
 
@@ -7,7 +7,7 @@ use crate::room::Room;
 use lines::alone::SpanFault;
 use units::level::Level;
 
-/// Why no line goes from one offset of a text up to another; if there are several reasons, it is the first.
+/// Why there is no line from one offset of a text up to another; if there are several reasons, the first one.
 #[derive(Clone, Copy, Debug, PartialEq, Eq)]
 pub enum LineFault {
     /// The lists have fewer items than the line has units.
@@ -24,7 +24,7 @@ pub enum LineFault {
     CrossesParagraph,
 }
 
-/// The fault of a line whose characters have this one.
+/// Returns the fault of a line whose characters have this fault.
 fn fault_of_span(fault: SpanFault) -> LineFault
     ensures { result ≡ fault_of_span fault }
 {
@@ -44,7 +44,7 @@ impl Room {
     ghost use Rattle.room.specs.Looking.{IsAt};
     ghost use Rattle.room.specs.Rooms.{characters_in, offset_in};
 
-    /// The index of the character that begins at an offset, or the number of characters if the text ends there.
+    /// Returns the index of the character that begins at an offset, or the number of characters if the text ends there.
     fn boundary_at(&self, at: usize) -> Option<usize>
         ensures { MatchOption result (IsBoundary (offset_in self.now) (characters_in self.now) at → ⊥)
             (λ index. (index ≤ characters_in self.now) × (offset_in self.now index ≡ at)) }
@@ -59,7 +59,8 @@ impl Room {
         }
     }
 
-    /// The characters of a line from one offset up to another: the index of the first, and the one after the last.
+    /// Returns the characters of a line from one offset up to another: the index of the first, and the one after the
+    /// last.
     fn span_of(&self, start: usize, end: usize) -> Result<(usize, usize), LineFault>
         ensures { MatchResult result (λ span. IsSpan self.now start end span.0 span.1)
             (RejectsSpan self.now start end) }
@@ -80,7 +81,7 @@ impl Room {
         Ok((first, last))
     }
 
-    /// Turns characters to the offsets at which they begin.
+    /// Replaces characters by the offsets at which they begin.
     fn turn_to_offsets(&self, order: &mut [usize])
         requires { All (λ k. k < characters_in self.now) order.old }
         ensures { order.new ≡ map (offset_in self.now) order.old }
@@ -90,8 +91,8 @@ impl Room {
         }
     }
 
-    /// Gives each unit the level of its character, from the last unit to the first; the levels of the characters from
-    /// the first up to the last are at the front.
+    /// Gives each unit the level of its character, from the last unit to the first. The levels of the characters from
+    /// `first` up to `last` must be at the front.
     fn spread_levels(&self, first: usize, last: usize, levels: &mut [Option<Level>])
         requires forward { first ≤ last }
         requires inside { last ≤ characters_in self.now }
@@ -110,13 +111,13 @@ impl Room {
         }
     }
 
-    /// Lays out one line alone of the text that the room holds, from the offset `start` up to `end` (L1, L2), at the
-    /// cost of that line, wherever other lines of the text end. What the room holds is unchanged.
+    /// Lays out one line alone of the text of the room, from the offset `start` up to `end` (L1, L2). Its cost is that
+    /// of this line, wherever other lines of the text end. The room is unchanged.
     ///
     /// Writes the level of each unit of the line to the front of `levels`, and the offsets of its shown characters,
-    /// from left to right, to the front of `order`; returns how many these are. Both lists need an item for each unit
-    /// of the line: fails with `TooSmall` if one has fewer, and else with the first reason why there is no such line.
-    /// The lists are unchanged then.
+    /// from left to right, to the front of `order`. Returns how many offsets there are. Both lists need an item for
+    /// each unit of the line. Fails with `TooSmall` if one has fewer, and else with the first reason why there is no
+    /// such line; then the lists are unchanged.
     pub fn line_of(
         &mut self,
         start: usize,

@@ -1,4 +1,4 @@
-//! What a layout says of a text, in the units of its source.
+//! What a layout says about a text, in the units of its source.
 use crate::room::Room;
 use units::level::{Level, ParaLevel};
 
@@ -62,8 +62,8 @@ impl Room {
         count
     }
 
-    /// Returns the level of a unit of the source, which is that of its character after L1: none if that was removed
-    /// (X9), and none from the text's end on.
+    /// Returns the level after L1 of the character of a unit of the source. Returns `None` if the character was removed
+    /// (X9), and from the text's end on.
     pub fn level_at(&self, at: usize) -> Option<Level>
         ensures { IsLevelAt self.now at result }
     {
@@ -72,8 +72,8 @@ impl Room {
         layout.levels()[k]
     }
 
-    /// Returns the level of the paragraph (P2, P3) in which a unit of the source lies, found by a search through the
-    /// ends of the paragraphs; none from the text's end on.
+    /// Returns the level of the paragraph (P2, P3) of a unit of the source. Searches the ends of the paragraphs for it.
+    /// Returns `None` from the text's end on.
     pub fn para_level_at(&self, at: usize) -> Option<ParaLevel>
         ensures { MatchOption result (size_in self.now ≤ at) (HasParaLevelIn self.now at) }
     {

@@ -3,7 +3,7 @@ ghost use Rattle.std.specs.Prelude.{ℕ, ◌≡◌, ◌≤◌, ◌<◌, ◌⊎�
 
 use crate::room::Room;
 
-/// Stands for the place of a unit that is not shown.
+/// The place of a unit that is not shown.
 pub const NOWHERE: usize = usize::MAX;
 
 /// Writes a value to the items from `start` up to `end`, as far as there are any.
@@ -25,7 +25,7 @@ impl Room {
     ghost use Rattle.room.specs.Places.{ArePlaces, WritesPlaces};
     ghost use Rattle.room.specs.Rooms.{characters_in};
 
-    /// Writes the place of each unit from the offset `start` on, so many as `out` has items, in the order of a line.
+    /// Writes the place in a line's order of each unit from the offset `start` on, as many as `out` has items.
     #[tactic(auto, using(crate::proofs::Placing::one_more))]
     fn fill_places(&self, order: &[usize], start: usize, out: &mut [usize])
         requires { All (λ k. k < characters_in self.now) order.now }

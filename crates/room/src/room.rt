@@ -1,4 +1,4 @@
-//! Room for texts and their layouts.
+//! Rooms for texts and their layouts.
 ghost use Rattle.std.specs.Prelude.{◌≡◌, if◌then◌else◌, length, IfOk};
 ghost use Rattle.std.specs.Box.{boxed_slice_items};
 
@@ -27,11 +27,12 @@ use units::class::Class;
 use units::level::{Direction, Level, ParaLevel};
 use units::limits::Limits;
 
-/// A room for texts and their layouts, to be used again and again. It holds a text and its layout at all times, at
+/// A room for texts and their layouts, to be used again and again. It contains a text and its layout at all times, at
 /// first those of an empty text. Its columns don't grow.
 ///
-/// A room without offsets holds texts of code points, classes and units, one with offsets holds all texts. Offsets, breaks and
-/// lengths are counted in the units of the text's source: code points, classes, bytes of UTF-8 or code units of UTF-16.
+/// A room without offsets is for texts of code points, classes and units. A room with offsets is for all texts.
+/// Offsets, breaks and lengths count the units of the text's source: code points, classes, bytes of UTF-8 or code units
+/// of UTF-16.
 #[derive(Drop)]
 pub struct Room {
     pub(crate) scratch: Scratch,
@@ -58,7 +59,7 @@ impl Model for Room {
     ghost invariant = { IsRoom };
 }
 
-/// A column of units.
+/// Returns a column of units.
 fn unit_column(alloc: Global, n: usize) -> Result<BoxedSlice<Unit>, AllocError>
     ensures { IfOk result (λ units. length (boxed_slice_items units) ≡ n) }
 {
@@ -69,14 +70,14 @@ fn unit_column(alloc: Global, n: usize) -> Result<BoxedSlice<Unit>, AllocError>
     Ok(Vec::from_elem(alloc, none, n)?.into_boxed_slice())
 }
 
-/// A column of offsets.
+/// Returns a column of offsets.
 fn offset_column(alloc: Global, n: usize) -> Result<BoxedSlice<u32>, AllocError>
     ensures { IfOk result (λ starts. length (boxed_slice_items starts) ≡ n) }
 {
     Ok(Vec::from_elem(alloc, 0, n)?.into_boxed_slice())
 }
 
-/// Returns how many items a column has that only a room with offsets needs.
+/// Returns the number of items of a column that only a room with offsets needs.
 fn items_if(encodes: bool, n: usize) -> usize
     ensures { result ≡ (if encodes then n else 0) }
 {
@@ -100,11 +101,11 @@ impl Room {
     ghost use Rattle.sources.specs.Seen.{source_seen};
     ghost use Rattle.sources.specs.Sources.{Codes, Classes, IsEncoded, Units};
 
-    /// Makes a room for texts of up to `n` units, at most 16,777,216, code units only if it is to have offsets. It
-    /// holds the layout of an empty text.
+    /// Makes a room for texts of up to `n` units, at most 16,777,216, with the layout of an empty text. If `encodes`,
+    /// it has offsets, and texts may be in code units.
     ///
-    /// It takes 84 bytes for each unit, and 112 with offsets. Fails with `TooBig` exactly if `n` is greater than that,
-    /// else with `Memory` if there is not enough.
+    /// It takes 84 bytes for each unit, and 112 with offsets. Fails with `TooBig` if and only if `n` is greater than
+    /// that, else with `Memory` if there is not enough.
     pub fn with_room(alloc: Global, n: usize, encodes: bool) -> Result<Room, RoomFault>
         ensures made { IfOk result (λ room. room ≡ new_room n encodes) }
         ensures too_big { (result ≡ Err RoomFault.TooBig) ↔ (longest_text < n) }
@@ -115,7 +116,7 @@ impl Room {
         Room::reserve(alloc, n, encodes).map_err(|_| RoomFault::Memory)
     }
 
-    /// Makes a room as `with_room` does, if `n` is known not to be too great.
+    /// Makes a room as `with_room` does. `n` must not be too great.
     pub fn reserve(alloc: Global, n: usize, encodes: bool) -> Result<Room, AllocError>
         requires { n ≤ longest_text }
         ensures { IfOk result (λ room. room ≡ new_room n encodes) }
@@ -143,14 +144,14 @@ impl Room {
         })
     }
 
-    /// Returns how many units the longest text has that the room can hold.
+    /// Returns the number of units of the longest text that fits into the room.
     pub fn capacity(&self) -> usize
         ensures { result ≡ self.now.capacity }
     {
         self.scratch.room()
     }
 
-    /// Returns whether it has offsets, so that it can hold texts in code units.
+    /// Returns whether it has offsets, so that its texts can be in code units.
     pub fn encodes(&self) -> bool
         ensures { result ≡ self.now.encodes }
     {
@@ -191,7 +192,7 @@ impl Room {
         Ok(())
     }
 
-    /// Lays out a text of these classes, by their numbers, as `lay_out` does. It needs no tables.
+    /// Lays out a text of classes, given as numbers, as `lay_out` does. It needs no tables.
     pub fn lay_out_classes(
         &mut self,
         numbers: &[u8],
@@ -222,7 +223,7 @@ impl Room {
         Ok(())
     }
 
-    /// Lays out a text of these units, by their numbers, as `lay_out` does. It needs no tables.
+    /// Lays out a text of units, given as numbers, as `lay_out` does. It needs no tables.
     pub fn lay_out_numbered(
         &mut self,
         numbered: &[NumberedUnit],
@@ -291,12 +292,12 @@ impl Room {
         Ok(())
     }
 
-    /// Lays out a text by the tables (P1 to L2). No memory is taken.
+    /// Lays out a text with the tables (P1 to L2). It takes no memory.
     ///
-    /// Fails with `NoOffsets` if the text is one in code units and the room has no offsets; else with `TooLong` if it
-    /// has more units than the room can hold. Of all but code units the breaks are tested next, for `Break`, and
-    /// then the text, for `IllFormed`. Of code units the text is tested next, then the breaks for `Break`, and last for
-    /// `BreakInside`. If it fails, the room is unchanged.
+    /// Fails with `NoOffsets` if the text is in code units and the room has no offsets; else with `TooLong` if the text
+    /// has more units than the room has capacity for. A text in code units then fails with `IllFormed`, else with
+    /// `Break`, else with `BreakInside`. Another text fails with `Break`, else with `IllFormed`. If it fails, the room
+    /// is unchanged.
     // Inlined, a call on a short text takes fewer instructions.
     #[inline(always)]
     pub fn lay_out(&mut self, tables: &Tables, ask: &Ask<'_>) -> Result<(), LayoutFault>
@@ -318,11 +319,11 @@ impl Room {
         }
     }
 
-    /// Breaks the text that it holds into lines again (L1, L2), for callers that lay out a text, shape its runs, and
-    /// know only then where its lines end. The breaks are rising offsets in the units of the text's source, each of
-    /// them where a character begins, none of them 0. The text's direction and limits stay. No memory is taken.
+    /// Breaks the text of the room into lines again (L1, L2). Some callers lay out a text, shape its runs, and know
+    /// only then where its lines end. The breaks must be rising offsets in the units of the text's source. A character
+    /// must begin at each of them, and none may be 0. The text's direction and limits don't change. It takes no memory.
     ///
-    /// Fails with `Break`, else with `BreakInside`, for the first such break, and then the room is unchanged.
+    /// Fails with `Break`, else with `BreakInside`, for the first such break; then the room is unchanged.
     pub fn set_lines(&mut self, breaks: &[usize]) -> Result<(), LayoutFault>
         ensures { SetsLines breaks.now self.old self.new result }
     {
@@ -343,8 +344,8 @@ impl Room {
         Ok(())
     }
 
-    /// Lays out one line alone of the text that it holds, of the characters from `first` up to `last`, as
-    /// `Scratch::line_alone` does, in positions of characters. What the room holds is unchanged.
+    /// Lays out one line alone of the text of the room, from the character `first` up to `last`, as
+    /// `Scratch::line_alone` does, in positions of characters. The room is unchanged.
     pub(crate) fn line_of_characters(
         &mut self,
         first: usize,
@@ -391,8 +392,8 @@ impl Room {
         &self.units[..self.characters()]
     }
 
-    /// Returns the level of the paragraph (P2, P3) in which the character with the index `k` lies, found by a search
-    /// through the ends of the paragraphs.
+    /// Returns the level of the paragraph (P2, P3) of the character with the index `k`. Searches the ends of the
+    /// paragraphs for it.
     pub fn para_level_of(&self, k: usize) -> ParaLevel
         requires { k < characters_in self.now }
         ensures { HasParaLevelOf self.now k result }
@@ -421,7 +422,7 @@ impl Room {
         !self.spelled
     }
 
-    /// Tells callers what holds for each room: the offsets of its characters rise, from 0 on.
+    /// States for callers that the offsets of a room's characters rise, from 0 on.
     pub fn offsets_rise(&self)
         ensures first { offset_in self.now 0 ≡ 0 }
         ensures rising { (j k : ℕ) → j < k → k ≤ characters_in self.now → offset_in self.now j < offset_in self.now k }
@@ -429,22 +430,22 @@ impl Room {
         let _ = &self.scratch;
     }
 
-    /// Tells callers what holds for each room: it can hold the text that it holds.
+    /// States for callers that a room has capacity for its text.
     pub fn text_fits(&self)
         ensures { size_in self.now ≤ self.now.capacity }
     {
         let _ = &self.scratch;
     }
 
-    /// Tells callers what holds for each room: its text has a unit for each character.
+    /// States for callers that the text of a room has a unit for each character.
     pub fn units_are_characters(&self)
         ensures { length self.now.text.units ≡ characters_in self.now }
     {
         let _ = &self.scratch;
     }
 
-    /// Returns the offset at which the character with the index `k` begins, or for their number that of the text's end,
-    /// in the units of the source.
+    /// Returns the offset at which the character with the index `k` begins, in the units of the source. Returns the
+    /// text's end if `k` is the number of characters.
     pub fn offset_of(&self, k: usize) -> usize
         requires { k ≤ characters_in self.now }
         ensures { result ≡ offset_in self.now k }
@@ -456,7 +457,7 @@ impl Room {
         }
     }
 
-    /// Returns the index of the character that the unit of the source at an offset belongs to, none from the text's end
+    /// Returns the index of the character of the unit at an offset of the source. Returns `None` from the text's end
     /// on.
     pub fn index_of(&self, at: usize) -> Option<usize>
         ensures { MatchOption result (offset_in self.now (characters_in self.now) ≤ at) (IsAt self.now at) }

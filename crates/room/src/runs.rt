@@ -65,8 +65,8 @@ impl Room {
     }
 
     /// Writes the visual runs of the line with the number `k`, counted from 0, from left to right to the front of
-    /// `out`, if all fit there. Returns how many there are. Each unit of the line is in one of them, those of removed
-    /// characters too (`visual::line_runs`).
+    /// `out`, if all fit there. Returns how many there are. Each unit of the line is in one of them, including those of
+    /// removed characters (`visual::line_runs`).
     pub fn runs(&self, k: usize, out: &mut [VisualRun]) -> usize
         requires { k < length self.now.layout.lines }
         ensures { WritesRuns self.now k result out.old out.new }

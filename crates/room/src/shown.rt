@@ -7,7 +7,7 @@ use crate::room::Room;
 use ucdfiles::tables::Tables;
 use units::level::Level;
 
-/// Whether a level is odd; a character that X9 removed has none.
+/// Returns whether a level is odd. A character that X9 removed has none.
 fn is_odd(level: Option<Level>) -> bool
     ensures { result ≡ is_odd_level level }
 {
@@ -17,7 +17,7 @@ fn is_odd(level: Option<Level>) -> bool
     }
 }
 
-/// A character of this level as it is shown.
+/// Returns a character with this level as it is shown.
 pub(crate) fn shown_char(tables: &Tables, level: Option<Level>, c: char) -> char
     ensures { result ≡ shown_char tables.now level c }
 {
@@ -28,7 +28,7 @@ pub(crate) fn shown_char(tables: &Tables, level: Option<Level>, c: char) -> char
     }
 }
 
-/// A code point of this level as it is shown; a number that is no scalar value stays.
+/// Returns a code point with this level as it is shown. A number that isn't a scalar value is unchanged.
 fn shown_code(tables: &Tables, level: Option<Level>, code: u32) -> u32
     ensures { IsShown tables.now level code result }
 {
@@ -61,10 +61,10 @@ impl Room {
     }
 
     /// Writes the characters of the line with the number `k`, counted from 0, as they are shown, from left to right
-    /// (L2, L4), to the front of `out`, if all fit there; else nothing is written. Returns how many they are.
+    /// (L2, L4), to the front of `out`, if all fit there; else nothing is written. Returns how many there are.
     ///
-    /// `codes` are the code points of the whole text that the room holds. Each number is looked at alone: one that is
-    /// no scalar value is shown as it is.
+    /// `codes` are the code points of the whole text of the room. A number that isn't a scalar value is shown
+    /// unchanged.
     pub fn shown(&self, tables: &Tables, codes: &[u32], k: usize, out: &mut [u32]) -> usize
         requires line { k < length self.now.layout.lines }
         requires codes { length codes.now ≡ characters_in self.now }

@@ -137,12 +137,12 @@ impl Room {
     }
 
     /// Writes the characters of the line with the number `k`, counted from 0, as they are shown, from left to right
-    /// (L2, L4), in UTF-8 to the front of `out`, if all fit there; else nothing is written. Returns how many bytes there
-    /// are.
+    /// (L2, L4), in UTF-8 to the front of `out`, if all fit there; else nothing is written. Returns how many bytes
+    /// there are.
     ///
-    /// `bytes` is the text in UTF-8 that the room holds. A part of it that was read as U+FFFD is shown as U+FFFD. Of
-    /// another text of as many bytes, it writes the characters that begin at the room's offsets, and U+FFFD for each
-    /// offset at which none does.
+    /// `bytes` is the text of the room in UTF-8. A part of it that was read as U+FFFD is shown as U+FFFD. For another
+    /// text with as many bytes, it writes the characters that begin at the room's offsets, and U+FFFD for each offset
+    /// at which none begins.
     pub fn shown_utf8(&self, tables: &Tables, bytes: &[u8], k: usize, out: &mut [u8]) -> usize
         requires line { k < length self.now.layout.lines }
         requires size { length bytes.now ≡ size_in self.now }
@@ -161,11 +161,11 @@ impl Room {
     }
 
     /// Writes the characters of the line with the number `k`, counted from 0, as they are shown, from left to right
-    /// (L2, L4), in UTF-16 to the front of `out`, if all fit there; else nothing is written. Returns how many code units
-    /// there are.
+    /// (L2, L4), in UTF-16 to the front of `out`, if all fit there; else nothing is written. Returns how many code
+    /// units there are.
     ///
-    /// `text` is the text in UTF-16 that the room holds. A surrogate that is alone is shown as U+FFFD. Of another text
-    /// of as many code units, it writes the characters that begin at the room's offsets.
+    /// `text` is the text of the room in UTF-16. A lone surrogate is shown as U+FFFD. For another text with as many
+    /// code units, it writes the characters that begin at the room's offsets.
     pub fn shown_utf16(&self, tables: &Tables, text: &[u16], k: usize, out: &mut [u16]) -> usize
         requires line { k < length self.now.layout.lines }
         requires size { length text.now ≡ size_in self.now }

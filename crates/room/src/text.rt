@@ -1,4 +1,4 @@
-//! A text and its layout in one value, for callers that lay out a text at a time. Who lays out many texts makes one
+//! A text and its layout in one value, for callers that lay out one text at a time. To lay out many texts, use one
 //! `crate::room::Room` for all of them.
 ghost use Rattle.std.specs.Prelude.{◌≡◌, ◌≤◌, length, None, false, IfOk};
 ghost use Rattle.std.specs.Char.{IsScalar};
@@ -80,7 +80,7 @@ fn codes_of(alloc: Global, chars: &[char]) -> Result<Vec<u32>, AllocError>
     Ok(codes)
 }
 
-/// Tells callers what holds for a room without offsets: they are positions.
+/// States for callers that the offsets of a room without offsets are positions.
 fn counts_positions(room: &Room)
     requires { room.now.encodes ≡ false }
     ensures { room.now.text.offsets ≡ None }
@@ -88,7 +88,7 @@ fn counts_positions(room: &Room)
     let _ = &room.scratch;
 }
 
-/// Makes a room that holds the layout of code points, broken at these positions.
+/// Makes a room with the layout of code points, broken at these positions.
 fn room_with(
     alloc: Global,
     tables: &Tables,
@@ -148,8 +148,8 @@ impl<'t> Text<'t> {
         })
     }
 
-    /// Lays out a text by the tables under a direction (P1 to L2), broken into lines at the breaks: rising positions
-    /// of its characters, none of them 0. Without breaks each paragraph is a line.
+    /// Lays out a text with the tables under a direction (P1 to L2), broken into lines at the breaks. The breaks must
+    /// be rising positions of its characters, and none may be 0. Without breaks each paragraph is a line.
     ///
     /// Fails with `TooLong` if it has more characters than any text may have, else with `Break` for the first bad
     /// break, else with `Memory` if there is not enough.

@@ -1,4 +1,4 @@
-//! The levels of all characters, those included that X9 removes, for callers that give each character a level.
+//! The levels of all characters, including those that X9 removes, for callers that give each character a level.
 ghost use Rattle.std.specs.Prelude.{◌≡◌, ◌<◌, length};
 ghost use Rattle.units.specs.Classes.{classes_of};
 ghost use Rattle.room.specs.WholeLevels.{begins_paragraph};
@@ -8,7 +8,7 @@ use lines::resets::resets_spaces_before;
 use units::bracket::Unit;
 use units::level::Level;
 
-/// Whether a paragraph begins at a position (P1).
+/// Returns whether a paragraph begins at a position (P1).
 fn begins_paragraph(units: &[Unit], p: usize) -> bool
     requires { p < length units.now }
     ensures { result ≡ begins_paragraph (classes_of units.now) p }
@@ -22,7 +22,7 @@ impl Room {
     ghost use Rattle.room.specs.Rooms.{characters_in};
     ghost use Rattle.room.specs.WholeLevels.{AreMarked, AreWholeLevels, WritesWholeLevels, removed_level, trails, whole_level};
 
-    /// Writes 1 for each character from which on only white space comes (L1), 0 for the others.
+    /// Writes 1 for each character if only white space follows from it on (L1), else 0.
     fn mark_trailing(&self, out: &mut [u8])
         requires { length out.old ≡ characters_in self.now }
         ensures len { length out.new ≡ length out.old }
@@ -36,7 +36,7 @@ impl Room {
         }
     }
 
-    /// Returns the level that a removed character is given (X9), where the one before it has the level `before`.
+    /// Returns the level that a removed character is given (X9), if the character before it has the level `before`.
     fn removed_level(&self, k: usize, trailing: bool, before: u8) -> u8
         requires inside { k < characters_in self.now }
         requires trailing { trailing ≡ trails (classes_of self.now.text.units) k }
@@ -49,7 +49,7 @@ impl Room {
         }
     }
 
-    /// Returns the level of a character after L1, if it has one, else the one that it is given.
+    /// Returns the level of a character after L1, if it has one, else the level that it is given.
     fn whole_level(&self, k: usize, level: Option<Level>, trailing: bool, before: u8) -> u8
         requires inside { k < characters_in self.now }
         requires level { level ≡ slice_index_or self.now.layout.levels k None }
@@ -83,8 +83,8 @@ impl Room {
     /// written. Returns how many characters there are.
     ///
     /// A character that X9 removes is given the level of the character before it. It is given the level of its
-    /// paragraph if it begins the paragraph, or if only white space, isolate formatting characters and others that X9
-    /// removes come between it and the next separator or the text's end.
+    /// paragraph if it begins the paragraph. It also is if only white space, isolate formatting characters and others
+    /// that X9 removes come between it and the next separator or the text's end.
     pub fn whole_levels(&self, out: &mut [u8]) -> usize
         ensures { WritesWholeLevels self.now result out.old out.new }
     {

@@ -5,8 +5,8 @@ use Rattle.sources.specs.Sources.{IsWellFormed, size_of, units_of}
 use Rattle.room.proofs.BaseSides.{side_from}
 use Rattle.room.proofs.base_levels.first_side.Given as goal
 
--- no separator and no strong class outside of isolates is before the rest; no more isolates are open than there are units
--- before it, and no more steps were taken
+-- no separator and no strong class outside of isolates is before the rest; no more isolates are open than there are
+-- units before it, and no more steps were taken
 abbrev pub invariant-loop-unit : goal.invariant-loop-unit
 invariant-loop-unit g l = record {
   well_formed : IsWellFormed (source_seen l.rest);

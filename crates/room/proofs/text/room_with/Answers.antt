@@ -7,12 +7,12 @@ use Rattle.units.specs.declared.level.Direction.{Direction}
 use Rattle.room.specs.Rooms.{RoomOf, TextOf, IsBrokenAt, offset_by}
 use Rattle.room.proofs.text.room_with.Goals as goal
 
--- breaks at positions are those at the offsets of a text without offsets
+-- in a text without offsets, breaks at positions are breaks at offsets
 same_breaks : (offsets : Option (List ℕ)) (indices breaks : List ℕ) → offsets ≡ None → map (offset_by offsets) indices ≡ breaks → indices ≡ breaks
 same_breaks offsets indices breaks none begin =
     sym (map-id indices) ∙ sym (ap (λ (o : Option (List ℕ)). map (offset_by o) indices) none) ∙ begin
 
--- layouts of one text are one
+-- two layouts of one text are equal
 alike : (text : TextOf) (limits : LimitsOf) (units : List BidiUnit) (direction : Direction) (indices breaks : List ℕ)
     → text.limits ≡ limits → text.units ≡ units → text.direction ≡ direction → indices ≡ breaks
     → layout_of text.limits text.units text.direction indices ≡ layout_of limits units direction breaks
@@ -22,7 +22,7 @@ alike text limits units direction indices breaks same_limits same_units same_dir
     ∙ ap (λ (d : Direction). layout_of limits units d indices) same_direction
     ∙ ap (λ (bs : List ℕ). layout_of limits units direction bs) same
 
--- a room without offsets holds the layout of its text, broken at the breaks
+-- a room without offsets contains the layout of its text, broken at the breaks
 laid_out : (room : RoomOf) (breaks : List ℕ) (limits : LimitsOf) (units : List BidiUnit) (direction : Direction)
     → IsBrokenAt breaks room → room.text.offsets ≡ None → room.text.limits ≡ limits → room.text.units ≡ units → room.text.direction ≡ direction
     → room.layout ≡ layout_of limits units direction breaks

@@ -4,7 +4,7 @@ use Rattle.room.specs.WholeLevels.{trails}
 use Rattle.room.proofs.WholeLevels.{AreMarkedFrom}
 use Rattle.room.proofs.room.Room.mark_trailing.Given as goal
 
--- the characters from k on are marked, and so it goes on
+-- the characters from k on are marked, and `trailing` says whether only white space follows from k on
 abbrev pub invariant-loop-k : goal.invariant-loop-k
 invariant-loop-k l = record {
   len : length l.out ≡ length l.fn.out;

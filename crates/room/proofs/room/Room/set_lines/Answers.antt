@@ -18,7 +18,7 @@ use Rattle.room.proofs.Refused.{IsAsLong, is_room_still}
 use Rattle.room.proofs.Rejecting.{rejects_alike}
 use Rattle.room.proofs.room.Room.set_lines.Goals as goal
 
--- the text of these columns, where it has so many characters
+-- the text of these columns, if it has so many characters
 abbrev text_of : Inside → ℕ → TextOf
 text_of self k =
     record {
