@@ -1,4 +1,4 @@
--- What a cut of the cutter does to what a judge stands for.
+-- The effect of a cut of the line splitter on the bytes that a judge has judged.
 use Rattle.std.proofs.Common.{◌≡◌, ◌≢◌, ℕ, ◌<◌, ◌≤◌, Option, None, Some, List, [], ◌∷◌, ◌++◌, length, take, refl, sym, ap, subst, ◌∙◌, arith, append_assoc, append-nil, length-append, inl, inr, is_some, true, drop}
 use Rattle.std.specs.Prelude.{Result, Ok, Err, OnOk}
 use Rattle.std.specs.Result.{result_err}
@@ -56,7 +56,7 @@ module _ (limits : LimitsOf) (kind : Kind) (s : Carried) (lines : List (List ℕ
       let l = lines_with-long has_bytes (λ line above. some_bytes line (omega (arith, above))) b lines more over in
       verdict-by limits kind (b ++ more) _ l.3 ∙ verdict-fault limits kind s lines l.0 h _ (over_long kind l.0 l.2 s (line_number (length lines))) l.1
 
-  -- a line that has ended, by whether it has a fault
+  -- a line that has ended, with or without a fault
   ends-line : (fault : Option Verdict) (new : Cutting) (t : Carried) (b line : List ℕ) → StandsFor new b → CutsInto b (lines ++ line ∷ []) []
       → no_at kind s (line_number (length lines)) line ≡ fault → (fault ≡ None → t ≡ after_line kind line s) → JudgesBy limits kind fault new t b
   ends-line None new t b line stands cut e after = record {
@@ -75,7 +75,7 @@ same_count a c x e = omega (arith, ap length e, length-append a (x ∷ []), leng
 
 -- bytes that are cut into these lines and this rest
 module _ (b : List ℕ) (lines : List (List ℕ)) (rest : List ℕ) (cut : CutsInto b lines rest) where
-  -- where no line has begun, these are all
+  -- if no line has begun, these are all lines
   pub lines-ended : Finishes b None → lines_of b ≡ lines
   lines-ended f = elim f [
     | inl all ↦ lines_of-ended b all.0 all.1 ∙ sym (ended_lines-CutsInto b all.0 [] all.1) ∙ ended_lines-CutsInto b lines rest cut
@@ -90,7 +90,7 @@ module _ (b : List ℕ) (lines : List (List ℕ)) (rest : List ℕ) (cut : CutsI
         f.1.2 ∙ ap (λ (ls : List (List ℕ)). line_number (length ls)) same,
       )
 
-  -- what the cutter used of a piece, by what it answered
+  -- what the line splitter used of a piece, for each result
   pub cut-more : (piece : List ℕ) (used : ℕ) → AnswersPiece b piece used More → (left : List ℕ) × CutsInto (b ++ take used piece) lines left
   cut-more piece used a =
       let all : take used piece ≡ piece = take_all used piece (omega (arith, a.1)) in
@@ -124,7 +124,7 @@ module _ (limits : LimitsOf) (kind : Kind) (old new : Cutting) (s t : Carried) (
       let l = cut-long b o.lines o.rest o.cut piece used number within through a in
       decided-long limits kind s o.lines o.behind (b ++ take used piece) l.0 more ∙ ap (λ n. Malformed n LineTooLong) (sym l.1)
 
--- what is decided stays so
+-- a decided verdict doesn't change
 pub judges-decided : (limits : LimitsOf) (kind : Kind) (v : Verdict) (old new : Cutting) (s t : Carried) (b xs : List ℕ) → JudgesBy limits kind (Some v) old s b → JudgesBy limits kind (Some v) new t (b ++ xs)
 judges-decided limits kind v old new s t b xs j more = ap (verdict_of limits kind) (append_assoc b xs more) ∙ j (xs ++ more)
 
@@ -139,7 +139,7 @@ last-fault limits kind s lines last b h whole None e =
 last-fault limits kind s lines last b h whole (Some v) e = sym (whole ∙ verdict-fault limits kind s lines last h v e [])
 
 module _ (limits : LimitsOf) (kind : Kind) (c : Cutting) (s : Carried) (b : List ℕ) (o : IsOpen limits kind c s b) where
-  -- no line that has begun
+  -- no line has begun
   pub verdict-ended : Finishes b None → Yes s.rows s.cases ≡ verdict_of limits kind b
   verdict-ended f = sym (verdict-by limits kind b o.lines (lines-ended b o.lines o.rest o.cut f) ∙ verdict-yes limits kind s o.lines o.behind)
 
@@ -151,16 +151,16 @@ module _ (limits : LimitsOf) (kind : Kind) (c : Cutting) (s : Carried) (b : List
       let whole : verdict_of limits kind b ≡ verdict_on limits (findings_by kind (o.lines ++ last.now ∷ [])) = verdict-by limits kind b _ l.0 in
       last-fault limits kind s o.lines last.now b o.behind whole fault at
 
-  -- the line that has begun decides, if one has
+  -- the line that has begun decides, if there is one
   pub verdict-last : (last : Option (ℕ × Bor (List ℕ))) → Finishes b last → verdict_behind kind s last ≡ verdict_of limits kind b
   verdict-last None f = verdict-ended f
   verdict-last (Some last) f = last-by last.0 last.1 f (no_at kind s last.0 last.1.now) refl
 
--- what is decided, if anything is, and the bytes, of a judge of this kind
+-- the decided verdict, if any, and the bytes of a judge of this kind
 kind-is : (limits : LimitsOf) (kind : Kind) (j : Judging) (b : List ℕ) → Judges limits kind j b → JudgesBy limits j.kind j.decided j.cutting j.carried b
 kind-is limits kind j b judges = grind arith
 
--- the verdict that a judge gives at the end
+-- the verdict of a judge at the end
 pub finishes : (j : Judging) (last : Option (ℕ × Bor (List ℕ))) → j.decided ≡ None → ((b : List ℕ) → StandsFor j.cutting b → Finishes b last)
     → (limits : LimitsOf) (kind : Kind) (b : List ℕ) → Judges limits kind j b → verdict_behind j.kind j.carried last ≡ verdict_of limits kind b
 finishes j last undecided f limits kind b judges = grind (arith, kind-is, verdict-last)
@@ -170,7 +170,7 @@ finishes-decided j v e limits kind b judges =
     let P : Option Verdict → Type 0 = λ d. JudgesBy limits kind d j.cutting j.carried b in
     verdict-decided limits kind v j.cutting j.carried b (subst P e judges.is)
 
--- what holds where there is no error holds if there is none
+-- what holds unless there is an error holds if there is none
 pub if-no-error : {T E : Type 0} (P : Type 0) (r : Result T E) → result_err r ≡ None → OnOk r P → P
 if-no-error P (Ok x) none holds = holds
 if-no-error P (Err e) none holds = absurd cc
@@ -181,7 +181,7 @@ module _ (j : Judging) (new : Cutting) (t : Carried) (decided : Option Verdict) 
     (answers : (b : List ℕ) → StandsFor j.cutting b → AnswersPiece b rest used taken)
     (stands : (b : List ℕ) → StandsFor j.cutting b → StandsFor new (b ++ take used rest))
     (fault : decided ≡ no_by j.kind j.carried taken) (after : decided ≡ None → t ≡ after_cut j.kind taken j.carried) where
-  -- a judge that has decided nothing, after what the cutter used
+  -- a judge without a decided verdict, after what the line splitter used
   pub feeds-on : (limits : LimitsOf) (kind : Kind) (b : List ℕ) → Judges limits kind j b → Judges limits kind (record { kind = j.kind; cutting = new; carried = t; decided = decided }) (b ++ take used rest)
   feeds-on limits kind b judges =
       let P : Option Verdict → Type 0 = λ d. JudgesBy limits j.kind d j.cutting j.carried b in
@@ -203,7 +203,7 @@ some-stays : (limits : LimitsOf) (kind : Kind) (d : Option Verdict) (c : Cutting
 some-stays limits kind None c s b xs e j = absurd (false≢true e)
 some-stays limits kind (Some v) c s b xs e j = judges-decided limits kind v c c s s b xs j
 
--- bytes behind what decided change nothing
+-- bytes after a decided verdict change nothing
 pub feeds-some : (limits : LimitsOf) (kind : Kind) (j : Judging) (b piece : List ℕ) (at : ℕ) → is_some j.decided ≡ true → Judges limits kind j (b ++ take at piece) → Judges limits kind j (b ++ piece)
 feeds-some limits kind j b piece at e judges =
     let whole : (b ++ take at piece) ++ drop at piece ≡ b ++ piece = append_assoc b (take at piece) (drop at piece) ∙ ap (λ z. b ++ z) (take-append-drop at piece) in

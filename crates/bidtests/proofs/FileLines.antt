@@ -1,4 +1,4 @@
--- What a line of a file comes to, by its place.
+-- The finding of a line of a file, by its index.
 use Rattle.std.proofs.Common.{◌≡◌, ℕ, zero, suc, ◌<◌, Option, None, Some, List, [], ◌∷◌, ◌++◌, length, take, map, reverse, refl, sym, ap, ◌∙◌, arith, append_assoc, append-nil}
 use Rattle.std.specs.Prelude.{nat_lt, slice_index_or}
 use Rattle.std.specs.List.{slice_get}
@@ -20,12 +20,12 @@ use Rattle.bidtests.specs.Headline.{line_comes_to}
 use Rattle.bidtests.proofs.LineByLine.{length-findings}
 use Rattle.bidtests.proofs.Ordered.{IsOrdered, one-direction, if-either, classes-ordered}
 
--- the lines before, the nearest of them first, and those before these
+-- the lines before, the nearest first, and those before these
 earlier-lines : (line : ClassesLine) (lines earlier : List ClassesLine) → reverse lines ++ (line ∷ earlier) ≡ reverse (line ∷ lines) ++ earlier
 earlier-lines line lines earlier =
     sym (ap (λ (l : List ClassesLine). l ++ earlier) (reverse-append (line ∷ []) lines) ∙ append_assoc (reverse lines) (line ∷ []) earlier)
 
--- what a line of a classes file comes to behind those before it, the nearest of them first
+-- the finding of a line of a classes file after those before it, the nearest first
 abbrev behind : List ClassesLine → List ℕ → Finding
 behind earlier line = comes_to (levels_in_force earlier) (order_in_force earlier) (classes_line line)
 

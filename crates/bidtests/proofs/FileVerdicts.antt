@@ -1,4 +1,4 @@
--- The verdict on the bytes of a file, in the words of the headline.
+-- The verdict on the bytes of a file, in the terms of the headline.
 use Rattle.std.proofs.Common.{arith, ◌≡◌, ◌↔◌, ℕ, List, sym}
 use Rattle.units.specs.Limits.{LimitsOf}
 use Rattle.units.specs.Text.{lines_of}

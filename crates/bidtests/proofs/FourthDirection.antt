@@ -1,4 +1,4 @@
--- What rows that can't ask for AutoRtl come to, they come to among rows that can.
+-- Findings with three directions are the same with four, up to a malformed bit set or direction field.
 use Rattle.std.proofs.Common.{◌≡◌, ℕ, ◌≤◌, Option, None, Some, List, [], ◌∷◌, map, inl, inr, refl, arith}
 use Rattle.std.specs.Prelude.{◌⊎◌}
 use Rattle.std.proofs.lemmas.Bool.{cases_eq, and_parts, leb-true}
@@ -19,7 +19,7 @@ use Rattle.ucdfiles.specs.Tables.{unit_by}
 use Rattle.bidtests.specs.ThreeDirections.{one_digit, zero_to_two, three_classes_line, three_characters_line, three_verdict_of}
 use Rattle.bidtests.proofs.SameUpTo.{AreSameUpTo, verdict-same}
 
--- one is none, or both are the same
+-- the first is none, or both are the same
 abbrev IsSameOrNone : {A : Type 0} → Option A → Option A → Type 0
 IsSameOrNone few all = (few ≡ None) ⊎ (few ≡ all)
 
@@ -123,7 +123,8 @@ module _ (unit_of : ℕ → BidiUnit) where
   rows-alike [] = tt
   rows-alike (line ∷ lines) = elim (row-alike line) [ inl broken ↦ inl broken | inr same ↦ inr (same, rows-alike lines) ]
 
--- the verdict of a file, unless that is that a bit set or a direction field is malformed
+-- allowing a fourth direction doesn't change the verdict on a file, unless the verdict without it is that a bit set or
+-- a direction field is malformed
 pub verdict-alike : (limits : LimitsOf) (kind : Kind) (bytes : List ℕ) → ((line : ℕ) → three_verdict_of limits kind bytes ≡ Malformed line BitSet → ⊥) → ((line : ℕ) → three_verdict_of limits kind bytes ≡ Malformed line DirectionField → ⊥)
     → verdict_of limits kind bytes ≡ three_verdict_of limits kind bytes
 unfolding classes_verdict characters_verdict

@@ -1,4 +1,4 @@
--- The verdict of a file is found line by line.
+-- The verdict on a file follows line by line.
 use Rattle.std.proofs.Common.{◌≡◌, ℕ, ◌+◌, min, Option, None, Some, List, [], ◌∷◌, ◌++◌, map, reverse, length, refl, sym, ap, ◌∙◌, arith, append_assoc, append-nil, count_by, sum_by, cond}
 use Rattle.std.proofs.lemmas.List.{map-append, reverse-append, length-map}
 use Rattle.std.proofs.lemmas.List.Sums.{sum_by-append}
@@ -32,7 +32,7 @@ first_no-append : (limits : LimitsOf) (k : ℕ) (a b : List Finding) → first_n
 first_no-append limits k [] b = ap (λ n. first_no limits n b) (omega arith)
 first_no-append limits k (f ∷ a) b = grind (arith, option_or-assoc, first_no-append limits (k + 1) a b)
 
--- a line behind others, and what stands behind it
+-- the findings of the lines before a line, of the line, and of the rest
 classes_findings-line : (lines : List (List ℕ)) (line : List ℕ) (others : List (List ℕ)) → (rest : List Finding)
     × (classes_findings (lines ++ line ∷ others) ≡ classes_findings lines ++ comes_to (levels_in_force (reverse (map classes_line lines))) (order_in_force (reverse (map classes_line lines))) (classes_line line) ∷ rest)
 classes_findings-line lines line others =
@@ -54,7 +54,7 @@ said-is : (s : Carried) (lines : List (List ℕ)) (line : List ℕ) → s.levels
     → comes_to (levels_in_force (reverse (map classes_line lines))) (order_in_force (reverse (map classes_line lines))) (classes_line line) ≡ comes_to s.levels s.order (classes_line line)
 said-is s lines line l o = rw (l, o) refl
 
--- what a line of either kind of file comes to stands behind what the lines before it come to
+-- in either kind of file, the finding of a line comes after the findings of the lines before it
 pub findings-line : (kind : Kind) (s : Carried) (lines : List (List ℕ)) (line : List ℕ) (others : List (List ℕ)) → AreInForce kind s.levels s.order lines
     → (rest : List Finding) × (findings_by kind (lines ++ line ∷ others) ≡ findings_by kind lines ++ comes_to_behind kind s line ∷ rest)
 findings-line Classes s lines line others h =
@@ -73,7 +73,7 @@ pub length-findings : (kind : Kind) (lines : List (List ℕ)) → length (findin
 length-findings Classes lines = length-classes_findings lines
 length-findings (Characters tables) lines = length-map lines (characters_line (unit_by tables.now))
 
--- the lists in force behind one line more
+-- the lists in force after one more line
 levels-behind : (said : ClassesLine) (says : List ClassesLine) (levels : Option (List (Option ℕ))) → levels ≡ levels_in_force says → levels_behind said levels ≡ levels_in_force (said ∷ says)
 levels-behind Nothing says levels e = e
 levels-behind (LevelsAre now) says levels e = refl
@@ -93,7 +93,7 @@ pub in-force : (kind : Kind) (s : Carried) (lines : List (List ℕ)) (line : Lis
 in-force Classes s lines line h = grind (arith, map-append, reverse-append, levels-behind, order-behind)
 in-force (Characters tables) s lines line h = tt
 
--- the counts are those before the line, with its own
+-- the counts are those before the line, with those of the line
 rows-after : (kind : Kind) (line : List ℕ) (s : Carried) → (after_line kind line s).rows ≡ rows_behind (comes_to_behind kind s line) s.rows
 rows-after Classes line s = refl
 rows-after (Characters tables) line s = refl
@@ -124,13 +124,13 @@ cases-behind limits number Silent cases fs e c = sym (capped cases (sum_by cases
 cases-behind limits number (Row claim) cases fs e c = cases-push cases fs (Row claim) (length claim.directions) refl c
 cases-behind limits number (Faulty cause) cases fs e c = absurd (cc)
 
--- a line changes no limits
+-- a line doesn't change the limits
 limits-after : (kind : Kind) (line : List ℕ) (s : Carried) → (after_line kind line s).limits ≡ s.limits
 limits-after Classes line s = refl
 limits-after (Characters tables) line s = refl
 
 module _ (limits : LimitsOf) (kind : Kind) (s : Carried) (lines : List (List ℕ)) (line : List ℕ) (h : IsBehind limits kind s lines) where
-  -- what the line comes to behind these
+  -- the finding of the line after these
   abbrev found : Finding
   found = comes_to_behind kind s line
 
@@ -139,7 +139,7 @@ module _ (limits : LimitsOf) (kind : Kind) (s : Carried) (lines : List (List ℕ
       ≡ option_or (no_of s.limits (line_number (length lines)) found) (first_no limits (length lines + 1) rest)
   fault-at rest = grind (arith, first_no-append, length-findings)
 
-  -- the first fault decides, whatever stands behind it
+  -- the first fault decides, whatever follows it
   pub verdict-fault : (v : Verdict) → no_of s.limits (line_number (length lines)) (comes_to_behind kind s line) ≡ Some v
       → (others : List (List ℕ)) → verdict_on limits (findings_by kind (lines ++ line ∷ others)) ≡ v
   unfolding verdict_on
@@ -162,7 +162,7 @@ module _ (limits : LimitsOf) (kind : Kind) (s : Carried) (lines : List (List ℕ
         cases = cases-after kind line s ∙ cases-behind s.limits number found s.cases (findings_by kind lines) e h.cases ∙ ap cases_in (sym all);
       }
 
--- with no fault the numbers are those held
+-- without a fault the counts are those of the state
 pub verdict-yes : (limits : LimitsOf) (kind : Kind) (s : Carried) (lines : List (List ℕ)) → IsBehind limits kind s lines
     → verdict_on limits (findings_by kind lines) ≡ Yes s.rows s.cases
 unfolding verdict_on

@@ -1,4 +1,4 @@
--- What a judge carries is what its reader of lines holds, with the counts.
+-- The state that a judge carries consists of the contents of its reader of lines and the counts.
 use Rattle.std.proofs.Common.{◌≡◌, ℕ, List, refl}
 use Rattle.units.specs.Limits.{LimitsOf}
 use Rattle.bidtests.specs.declared.kind.Kind.{Kind}
@@ -6,7 +6,7 @@ use Rattle.bidtests.specs.declared.kind.Kind.TheVariants.{Classes, Characters}
 use Rattle.bidtests.specs.Carried.{Carried, comes_to_behind}
 use Rattle.bidtests.specs.LineReadings.{LineReading, levels_in, order_in, finding_behind}
 
--- what is carried by what a reader holds
+-- the state with these contents of the reader
 abbrev pub carried_by : LimitsOf → ℕ → ℕ → LineReading → Carried
 carried_by limits rows cases reading = record { limits = limits; levels = levels_in reading; order = order_in reading; rows = rows; cases = cases }
 

@@ -1,4 +1,4 @@
--- What a line says or comes to, by how its content begins.
+-- The meaning or the finding of a line, by the beginning of its content.
 use Rattle.std.proofs.Common.{◌≡◌, ◌≢◌, ℕ, ◌<◌, ◌≤◌, ◌==◌, Bool, true, false, List, [], ◌∷◌, length, get_or, refl, ap, ◌∙◌, arith}
 use Rattle.std.proofs.lemmas.Bool.{ne_eqb, le-ltb}
 use Rattle.units.specs.Text.{longest_line, content_of, fields_of}

@@ -1,4 +1,4 @@
--- The directions that a row names stand in order.
+-- The directions that a row names are in order.
 use Rattle.std.proofs.Common.{◌≡◌, ℕ, zero, suc, ◌<◌, Bool, true, false, Option, None, Some, List, [], ◌∷◌, length, ap, subst, ◌∙◌, arith, get_or}
 use Rattle.std.specs.Prelude.{⊤, if◌then◌else◌, IfSome, nat_eq, nat_lt, ◌==◌, codes, drop}
 use Rattle.std.specs.List.{slice_get, Contains, AllPairs, starts_with}
@@ -13,7 +13,7 @@ use Rattle.bidtests.specs.Verdicts.{Finding, Silent, Row, Faulty}
 use Rattle.bidtests.specs.ClassesFile.{ClassesLine, Nothing, LevelsAre, OrderIs, RowOf, Broken, directions_in_order, directions_of, directions_by, names_direction, bit_set, levels_directive, order_directive, directive, level_item, order_item, classes_row_as_read, classes_row_of_items, unit_item, classes_row, classes_content, classes_line, row_under, comes_to}
 use Rattle.bidtests.specs.Headline.{ComesBefore}
 
--- how many directions stand before one
+-- the number of directions before a direction
 abbrev turn : Direction → ℕ
 turn Auto = 0
 turn Ltr = 1
@@ -27,14 +27,14 @@ turn-at (suc (suc zero)) d e = ap turn (same_Some _ _ e)
 turn-at (suc (suc (suc zero))) d e = ap turn (same_Some _ _ e)
 turn-at (suc (suc (suc (suc i)))) d e = absurd (cc)
 
--- no direction comes before itself, nor two before one another
+-- no direction comes before itself, and no two come before each other
 pub never-behind : (d e : Direction) → ComesBefore d e → ComesBefore e d → ⊥
 never-behind d e b c = absurd (omega (arith, b.2, c.2, turn-at b.0 d b.3, turn-at b.1 e b.4, turn-at c.0 e c.3, turn-at c.1 d c.4))
 
 in_order : AllPairs ComesBefore directions_in_order
 in_order i j d lt within = (i, j, lt, slice_get-get_or directions_in_order i d (omega arith), slice_get-get_or directions_in_order j d within)
 
--- of the directions of a list in order the earlier one comes before the later one
+-- in a list of directions in order, the earlier one comes before the later one
 pub earlier-before : (ds : List Direction) → AllPairs ComesBefore ds → (i j : ℕ) (d e : Direction) → i < j → slice_get ds i ≡ Some d → slice_get ds j ≡ Some e → ComesBefore d e
 earlier-before ds ordered i j d e lt at also =
     let pair = ordered i j d lt (slice_get_within ds j e also) in
@@ -43,7 +43,7 @@ earlier-before ds ordered i j d e lt at also =
     let P : Direction → Type 0 = λ x. ComesBefore x (get_or ds j d) in
     subst (λ y. ComesBefore d y) second (subst P first pair)
 
--- an item of a list stands at an index, and the other way round
+-- an item of a list has an index, and an item with an index is in the list
 pub contained-at : (ds : List Direction) (d : Direction) → Contains ds d → (i : ℕ) × (slice_get ds i ≡ Some d)
 contained-at ds d h = (h.0, slice_get-get_or ds h.0 d h.1 ∙ ap (λ x. Some x) h.2)
 

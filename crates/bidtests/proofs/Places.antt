@@ -1,4 +1,4 @@
--- Where the lists of a claim and of a layout differ, and at which place the claim is wrong.
+-- Differences between the expected lists and those of a layout, and the first wrong place of a case.
 use Rattle.std.proofs.Common.{◌≡◌, ◌≢◌, ℕ, zero, suc, ◌+◌, ◌<◌, Bool, true, false, Option, None, Some, List, [], ◌∷◌, refl, sym, ap, arith}
 use Rattle.std.specs.Prelude.{if◌then◌else◌, nat_eq, IfSome, MatchBool}
 use Rattle.std.specs.List.{slice_get}
@@ -18,7 +18,7 @@ use Rattle.bidtests.specs.Headline.{layout_under, IsParaRight, IsCaseRight, IsFi
 pub same-claim : (a b : Claim) → Row a ≡ Row b → a ≡ b
 same-claim a b e = cc
 
--- the lists are one, or n is their first difference, counted from `at`
+-- the lists are equal, or n is their first difference, counted from `at`
 abbrev Compared : {A : Type 0} → List A → List A → ℕ → Option ℕ → Type 0
 Compared xs ys at None = xs ≡ ys
 Compared xs ys at (Some n) = (i : ℕ) × (n ≡ at + i) × IsFirstDifference xs ys i
@@ -91,7 +91,7 @@ module _ (limits : LimitsOf) (claim : Claim) (d : Direction) where
   para_level-right : MatchBool (agrees claim.para_level (first_of (layout_under limits claim d).paras)) (IsParaRight limits claim d) (¬ IsParaRight limits claim d)
   para_level-right = grind (arith, first_is, para_level-is)
 
-  -- what the search says
+  -- the result of the search
   pub case-is : CaseIs limits claim d (wrong_place_under limits claim d)
   case-is =
       let layout = layout_under limits claim d in
@@ -106,7 +106,7 @@ module _ (limits : LimitsOf) (claim : Claim) (d : Direction) where
   right-wrong (Levels i) r w = no_difference claim.levels (layout_under limits claim d).levels i r.levels w.1
   right-wrong (Order i) r w = no_difference claim.order (all_orders (layout_under limits claim d)) i r.order w.2
 
-  -- there is one first wrong place
+  -- only one place is the first wrong one
   pub place-unique : (p q : Place) → IsWrongAt limits claim d p → IsWrongAt limits claim d q → p ≡ q
   place-unique ParaLevel ParaLevel w v = refl
   place-unique ParaLevel (Levels j) w v = absurd (w v.0)

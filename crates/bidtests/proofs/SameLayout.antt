@@ -14,14 +14,14 @@ use Rattle.bidtests.specs.LaidOut.{IsLaidOut}
 use Rattle.bidtests.specs.Verdicts.{Claim, wrong_case}
 use Rattle.bidtests.specs.Comparisons.{HasNoWrongPlace}
 
--- paragraphs of the same levels are resolved alike
+-- paragraphs with the same levels are resolved alike
 resolved-alike : (limits : LimitsOf) (paras : List (List BidiUnit)) (d e : Direction)
     → map (λ us. para_level_of (classes_of us) d) paras ≡ map (λ us. para_level_of (classes_of us) e) paras
     → flat_map (λ us. resolved_levels limits us (para_level_of (classes_of us) d)) paras ≡ flat_map (λ us. resolved_levels limits us (para_level_of (classes_of us) e)) paras
 resolved-alike limits [] d e same = refl
 resolved-alike limits (us ∷ paras) d e same = grind (arith, resolved-alike limits paras d e)
 
--- a text is laid out alike under directions that give its paragraphs the same levels
+-- directions that give the paragraphs of a text the same levels give it the same layout
 pub laid-out-alike : (limits : LimitsOf) (text : List BidiUnit) (d e : Direction) (breaks : List ℕ) → para_levels_of text d ≡ para_levels_of text e → layout_of limits text d breaks ≡ layout_of limits text e breaks
 unfolding layout_of
 laid-out-alike limits text d e breaks same = grind (arith, resolved-alike)
@@ -31,7 +31,7 @@ one-level f g [] level one all = cc
 one-level f g (x ∷ []) level one all = let same : g x ≡ level = all x in cc
 one-level f g (x ∷ y ∷ xs) level one all = absurd cc
 
--- a text of one paragraph is laid out alike under the direction that gives each paragraph the level that it has
+-- a direction that gives every paragraph the level of a text's only paragraph gives the text the same layout
 pub one-laid-out-alike : (limits : LimitsOf) (text : List BidiUnit) (d e : Direction) (breaks : List ℕ) (level : ℕ) → para_levels_of text d ≡ level ∷ []
     → ((classes : List Class) → para_level_of classes e ≡ level) → layout_of limits text d breaks ≡ layout_of limits text e breaks
 one-laid-out-alike limits text d e breaks level one all =
@@ -40,7 +40,7 @@ one-laid-out-alike limits text d e breaks level one all =
 head-same : {x y : ℕ} → x ∷ [] ≡ y ∷ [] → x ≡ y
 head-same same = cc
 
--- a text is laid out alike under a direction that gives its only paragraph, whatever its classes are, the level that it has
+-- the same, stated with the list of the paragraph's levels
 pub alike-by-level : (limits : LimitsOf) (text : List BidiUnit) (d e : Direction) (levels : List ℕ) → levels ≡ para_levels_of text d
     → ((classes : List Class) → levels ≡ para_level_of classes e ∷ []) → layout_of limits text d [] ≡ layout_of limits text e []
 alike-by-level limits text d e levels are same =
@@ -48,7 +48,7 @@ alike-by-level limits text d e levels are same =
     let all : (classes : List Class) → para_level_of classes e ≡ para_level_of [] e = λ classes. head-same (sym (same classes) ∙ same []) in
     one-laid-out-alike limits text d e [] (para_level_of [] e) one all
 
--- a claim that is right under one direction is so under another that gives its text's only paragraph the same level
+-- if a row is right under one direction, it is right under another that gives its text's only paragraph the same level
 pub also-right : (limits : LimitsOf) (claim : Claim) (d : Direction) (found : Option Direction) (levels : List ℕ) → levels ≡ para_levels_of claim.text d
     → IfSome found (λ e. (classes : List Class) → levels ≡ para_level_of classes e ∷ []) → HasNoWrongPlace limits claim d → IfSome found (HasNoWrongPlace limits claim)
 also-right limits claim d None levels are same right = tt
@@ -56,13 +56,13 @@ also-right limits claim d (Some e) levels are same right =
     let alike = alike-by-level limits claim.text d e levels are same in
     rw (← alike) right
 
--- the layout that a scratch holds is also that under such a direction, if one is found
+-- the layout in a scratch is also the one under such a direction, if there is one
 pub also-laid-out : (limits : LimitsOf) (text : List BidiUnit) (scratch : Scratch) (d : Direction) (found : Option Direction) (levels : List ℕ) → levels ≡ para_levels_of text d
     → IfSome found (λ e. (classes : List Class) → levels ≡ para_level_of classes e ∷ []) → IsLaidOut limits text scratch d → IfSome found (IsLaidOut limits text scratch)
 also-laid-out limits text scratch d None levels are same laid = tt
 also-laid-out limits text scratch d (Some e) levels are same laid = record { filled = laid.filled; layout = laid.layout ∙ alike-by-level limits text d e levels are same }
 
--- a direction under which the claim is right is passed over
+-- a direction under which the row is right is skipped
 pub passed-over : (limits : LimitsOf) (claim : Claim) (ds : List Direction) (i : ℕ) (d : Direction) → i < length ds → HasNoWrongPlace limits claim (get_or ds i d) → wrong_case limits claim (drop i ds) ≡ wrong_case limits claim (drop (i + 1) ds)
 passed-over limits claim ds i d lt right =
     rw (add-one, drop-cons ds i d lt) (rw right refl)

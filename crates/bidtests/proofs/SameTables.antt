@@ -1,4 +1,4 @@
--- What a judge has come to depends on the tables of its file's kind, not on where they stand.
+-- The state of a judge depends on the tables of its file's kind, not on where the tables are.
 use Rattle.std.proofs.Common.{arith, ◌≡◌, ℕ, Option, None, Some, List, ◌++◌, map, refl, sym, ap, ◌∙◌}
 use Rattle.units.specs.LineCutting.{Cutting}
 use Rattle.units.specs.Limits.{LimitsOf}
@@ -49,16 +49,16 @@ module _ (limits : LimitsOf) (kind other : Kind) (same : tables_of other ≡ tab
   judges-as (Some verdict) cutting s b h = λ more.
       verdict-with limits other (b ++ more) ∙ ap (λ t. verdict_with limits t (b ++ more)) same ∙ sym (verdict-with limits kind (b ++ more)) ∙ h more
 
--- a judge of a file of one kind has come so far for each kind with the same tables
+-- the state of a judge of one kind is that for each kind with the same tables
 pub holds-for : (limits : LimitsOf) (kind : Kind) (state : StateOf) (b : List ℕ) → JudgesBy limits kind state.decided state.cutting state.carried b
     → HoldsFor limits (tables_of kind) state b
 holds-for limits kind state b h = λ other same. judges-as limits kind other same state.decided state.cutting state.carried b h
 
--- what a judge of this kind has come to
+-- the state of a judge of this kind
 pub state-of : (limits : LimitsOf) (kind own : Kind) (state : StateOf) (b : List ℕ) → Judges limits kind (judging own state) b → HoldsFor limits (tables_of own) state b
 state-of limits kind own state b judges = grind (arith, holds-for)
 
--- a judge of this kind that has come so far
+-- a judge of this kind with this state
 pub judges-of : (limits : LimitsOf) (kind own : Kind) (state : StateOf) (b : List ℕ) → own ≡ kind → HoldsFor limits (tables_of own) state b → Judges limits kind (judging own state) b
 judges-of limits kind own state b of holds =
     record { of = of; is = holds kind (ap tables_of (sym of)) }

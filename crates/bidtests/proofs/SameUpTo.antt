@@ -1,4 +1,4 @@
--- Files whose lines come to the same, up to the first that is malformed for a certain cause.
+-- Files with the same findings, up to the first line that is malformed for a certain cause.
 use Rattle.std.proofs.Common.{arith, ◌≡◌, ℕ, ◌+◌, Option, None, Some, List, [], ◌∷◌, inl, inr, refl, sym, ◌∙◌}
 use Rattle.std.specs.Prelude.{◌⊎◌, ⊤}
 use Rattle.units.specs.Limits.{LimitsOf}
@@ -44,7 +44,7 @@ fault-same limits cause k (f ∷ fs) (g ∷ gs) v (inl broken) e other = grind (
 fault-same limits cause k (f ∷ fs) (g ∷ gs) v (inr same) e other =
     rw (← same.0) (option_or-alike (no_of limits (line_number k) f) (first_no limits (k + 1) fs) (first_no limits (k + 1) gs) v e (λ h. fault-same limits cause (k + 1) fs gs v same.1 h other))
 
--- the verdict is the same, unless that is that a line is malformed for this cause
+-- the verdicts are the same, unless the first one is that a line is malformed for this cause
 pub verdict-same : (limits : LimitsOf) (cause : Cause) (fs gs : List Finding) → AreSameUpTo cause fs gs → ((line : ℕ) → verdict_on limits fs ≡ Malformed line cause → ⊥) → verdict_on limits gs ≡ verdict_on limits fs
 unfolding verdict_on
 verdict-same limits cause fs gs same other = grind (arith, faultless-same, fault-same)

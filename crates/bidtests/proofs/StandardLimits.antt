@@ -1,4 +1,4 @@
--- The verdict by layouts that are those of the standard.
+-- The verdict with layouts that are those of the standard.
 use Rattle.std.proofs.Common.{arith, ◌≡◌, ℕ, ◌+◌, List, [], ◌∷◌, refl, ap}
 use Rattle.units.specs.Layout.{layout_of}
 use Rattle.units.specs.Limits.{standard}

@@ -1,4 +1,4 @@
--- What the search for the least fault says, in the words of the headline.
+-- The result of the search for the first fault, in the terms of the headline.
 use Rattle.std.proofs.Common.{◌≡◌, ◌≢◌, ◌↔◌, ℕ, zero, suc, ◌+◌, ◌<◌, Option, None, Some, List, [], ◌∷◌, length, refl, sym, ap, subst, ◌∙◌, arith, inl, inr}
 use Rattle.std.specs.List.{slice_get, Contains, AllPairs}
 use Rattle.std.proofs.lemmas.Bool.{cases_order}
@@ -17,7 +17,7 @@ use Rattle.bidtests.proofs.Places.{CaseIs, case-is, right-wrong, place-unique, s
 use Rattle.bidtests.proofs.Ordered.{IsOrdered, never-behind, earlier-before, contained-at, at-contained}
 
 module _ (limits : LimitsOf) where
-  -- all cases are right, or this one is the first that is wrong, at this place
+  -- all cases are right, or this one is the first wrong one, at this place
   abbrev CasesAre : Claim → List Direction → Option (Direction × Place) → Type 0
   CasesAre claim ds None = (i : ℕ) (d : Direction) → slice_get ds i ≡ Some d → IsCaseRight limits claim d
   CasesAre claim ds (Some x) =
@@ -44,7 +44,7 @@ module _ (limits : LimitsOf) where
   cases-are claim (d ∷ ds) =
       cases-more claim d ds (wrong_place_under limits claim d) (wrong_case limits claim ds) (case-is limits claim d) (cases-are claim ds)
 
-  -- a line that gives no fault
+  -- a line without a fault
   record IsLineRight (f : Finding) : Type 0 where
     well_formed : (cause : Cause) → f ≢ Faulty cause
     right : (claim : Claim) (d : Direction) → f ≡ Row claim → Contains claim.directions d → IsCaseRight limits claim d
@@ -77,7 +77,7 @@ module _ (limits : LimitsOf) where
     right-more : AreRight limits (f ∷ fs) (suc n)
     right-more = record { well_formed = formed-more; right = rows-more }
 
-  -- all lines are right, or this is the fault of the first that is not
+  -- all lines are right, or this is the fault of the first line that isn't
   abbrev LinesAre : List Finding → ℕ → Option Verdict → Type 0
   LinesAre fs o None = AreRight limits fs (length fs)
   LinesAre fs o (Some v) = (k : ℕ) × (f : Finding) × (slice_get fs k ≡ Some f) × AreRight limits fs k × (no_of limits (line_number (o + k)) f ≡ Some v)
@@ -165,7 +165,7 @@ module _ (limits : LimitsOf) where
     same-line : (k j : ℕ) → (k < j → ⊥) → (j < k → ⊥) → k ≡ j
     same-line k j less more = elim (cases_order k j) [ inl same ↦ same | inr other ↦ elim other [ inl l ↦ absurd (less l) | inr m ↦ absurd (more m) ] ]
 
-    -- two that are malformed
+    -- two malformed lines
     malformed-unique : (n m : ℕ) (c e : Cause) → FirstIsMalformed limits fs n c → FirstIsMalformed limits fs m e → Malformed n c ≡ Malformed m e
     malformed-unique n m c e a b = grind (arith, same-line, same_Some)
 
@@ -197,6 +197,6 @@ module _ (limits : LimitsOf) where
     says-unique (Wrong n d p) (Malformed m c) a b = absurd (not-both m n c d p b a)
     says-unique (Wrong n d p) (Wrong m e q) a b = wrong-unique n m d e p q a b
 
-    -- the verdict is the one that says what is so
+    -- the verdict is the only one whose meaning is true of the file
     pub verdict-law : (v : Verdict) → (verdict_on limits fs ≡ v) ↔ Says limits fs v
     verdict-law v = ((λ e. subst (Says limits fs) e verdict-says), λ s. says-unique (verdict_on limits fs) v verdict-says s)

@@ -1,4 +1,4 @@
--- What a judge carries from line to line, and the no that a line gives.
+-- The state that a judge carries from line to line, and the failing verdict of a line.
 use Rattle.std.specs.Prelude.{◌≡◌, Option, Some, None, ℕ, ◌+◌, List, map, reverse, length, ⊤}
 use Rattle.std.specs.Borrow.{Bor}
 use Rattle.units.specs.Limits.{LimitsOf}
@@ -28,63 +28,63 @@ pub record Carried : Type 0 where
 abbrev pub at_start : LimitsOf → Carried
 at_start limits = record { limits = limits; levels = None; order = None; rows = 0; cases = 0 }
 
--- the levels in force behind a line that says this
+-- the levels in force after this line
 abbrev pub levels_behind : ClassesLine → Option (List (Option ℕ)) → Option (List (Option ℕ))
 levels_behind (LevelsAre levels) before = Some levels
 levels_behind _ before = before
 
--- the order in force behind a line that says this
+-- the order in force after this line
 abbrev pub order_behind : ClassesLine → Option (List ℕ) → Option (List ℕ)
 order_behind (OrderIs order) before = Some order
 order_behind _ before = before
 
--- how many rows there are behind a line that comes to this
+-- the number of rows after a line with this finding
 abbrev pub rows_behind : Finding → ℕ → ℕ
 rows_behind (Row claim) before = saturated (before + 1)
 rows_behind _ before = before
 
--- how many cases there are behind a line that comes to this
+-- the number of cases after a line with this finding
 abbrev pub cases_behind : Finding → ℕ → ℕ
 cases_behind (Row claim) before = saturated (before + length claim.directions)
 cases_behind _ before = before
 
--- with the row and the cases counted of a line that comes to this
+-- the state after the row and the cases of this finding are counted
 abbrev pub counted : Finding → Carried → Carried
 counted found s = record { limits = s.limits; levels = s.levels; order = s.order; rows = rows_behind found s.rows; cases = cases_behind found s.cases }
 
--- with a right row counted that has so many cases
+-- the state after a right row with so many cases is counted
 abbrev pub with_right_row : ℕ → Carried → Carried
 with_right_row cases s = record { limits = s.limits; levels = s.levels; order = s.order; rows = saturated (s.rows + 1); cases = saturated (s.cases + cases) }
 
--- with the list in force that a line of a classes file says
+-- the state in which the list of this line of a classes file is in force
 abbrev pub listed : ClassesLine → Carried → Carried
 listed said s = record { limits = s.limits; levels = levels_behind said s.levels; order = order_behind said s.order; rows = s.rows; cases = s.cases }
 
--- with no list in force
+-- the state in which no list is in force
 abbrev pub unlisted : Carried → Carried
 unlisted s = record { limits = s.limits; levels = None; order = None; rows = s.rows; cases = s.cases }
 
--- what a line of such a file comes to
+-- the finding of a line of a file of this kind, in this state
 abbrev pub comes_to_behind : Kind → Carried → List ℕ → Finding
 comes_to_behind Classes s line = comes_to s.levels s.order (classes_line line)
 comes_to_behind (Characters tables) s line = characters_line (unit_by tables.now) line
 
--- with the list in force that a line says; in a characters file none is
+-- the state in which the list of this line is in force; a characters file has none
 abbrev pub listed_by : Kind → List ℕ → Carried → Carried
 listed_by Classes line s = listed (classes_line line) s
 listed_by (Characters tables) line s = unlisted s
 
--- what is carried behind a line that is neither malformed nor wrong
+-- the state after a line that is neither malformed nor wrong
 abbrev pub after_line : Kind → List ℕ → Carried → Carried
 after_line kind line s = counted (comes_to_behind kind s line) (listed_by kind line s)
 
--- the lists in force behind these lines
+-- these lists are in force after these lines
 abbrev pub AreInForce : Kind → Option (List (Option ℕ)) → Option (List ℕ) → List (List ℕ) → Type 0
 AreInForce Classes levels order lines =
     (levels ≡ levels_in_force (reverse (map classes_line lines))) × (order ≡ order_in_force (reverse (map classes_line lines)))
 AreInForce (Characters tables) levels order lines = ⊤
 
--- this is carried behind these lines, none of which is malformed or, by these limits, wrong
+-- this is the state after these lines, and none of them is malformed or, with these limits, wrong
 pub record IsBehind (limits : LimitsOf) (kind : Kind) (s : Carried) (lines : List (List ℕ)) : Type 0 where
   pub under : s.limits ≡ limits
   pub faultless : first_no limits 0 (findings_by kind lines) ≡ None
@@ -92,28 +92,28 @@ pub record IsBehind (limits : LimitsOf) (kind : Kind) (s : Carried) (lines : Lis
   pub rows : s.rows ≡ rows_in (findings_by kind lines)
   pub cases : s.cases ≡ cases_in (findings_by kind lines)
 
--- the no that a line of this number gives
+-- the failing verdict of the line of this number
 abbrev pub no_at : Kind → Carried → ℕ → List ℕ → Option Verdict
 no_at kind s number line = no_of s.limits number (comes_to_behind kind s line)
 
--- the no that a cut of the cutter gives
+-- the failing verdict of a cut
 abbrev pub no_by : Kind → Carried → Cut → Option Verdict
 no_by kind s More = None
 no_by kind s (Line number text) = no_at kind s number text.now
 no_by kind s (TooLong number) = Some (Malformed number LineTooLong)
 
--- what is carried behind a cut that ends no such line
+-- the state after a cut without a failing verdict
 abbrev pub after_cut : Kind → Cut → Carried → Carried
 after_cut kind More s = s
 after_cut kind (Line number text) s = after_line kind text.now s
 after_cut kind (TooLong number) s = s
 
--- the no that is given, or else yes with the counts that are carried
+-- the failing verdict, or else yes with the counts of the state
 abbrev pub no_or_yes : Option Verdict → Carried → Verdict
 no_or_yes (Some verdict) s = verdict
 no_or_yes None s = Yes s.rows s.cases
 
--- the verdict at the end of the file, behind the line that has begun, if one has
+-- the verdict at the end of the file, with the last line if it has no LF
 abbrev pub verdict_behind : Kind → Carried → Option (ℕ × Bor (List ℕ)) → Verdict
 verdict_behind kind s None = Yes s.rows s.cases
 verdict_behind kind s (Some last) = no_or_yes (no_at kind s last.0 last.1.now) (after_line kind last.1.now s)

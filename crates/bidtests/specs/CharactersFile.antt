@@ -16,11 +16,11 @@ use Rattle.bidtests.specs.declared.verdict.Verdict.{Verdict}
 use Rattle.bidtests.specs.Verdicts.{Finding, Silent, Row, Faulty, verdict_on}
 use Rattle.bidtests.specs.ClassesFile.{level_item, order_item}
 
--- an item of the first field: a code point that is no surrogate, as the unit that the tables give it
+-- an item of the first field: a code point that is not a surrogate, as the unit that the tables give it
 abbrev pub character_item : (ℕ → BidiUnit) → List ℕ → Option BidiUnit
 character_item unit_of item = option_map unit_of (char_of item)
 
--- the second field: the direction that is asked for
+-- the second field: the direction
 abbrev pub direction_field : List ℕ → Option Direction
 direction_field field =
     if bytes_eq field (codes "0") then Some Ltr else if bytes_eq field (codes "1") then Some Rtl else if bytes_eq field (codes "2") then Some Auto
@@ -30,7 +30,7 @@ direction_field field =
 abbrev pub para_field : List ℕ → Option ParaLevel
 para_field field = if bytes_eq field (codes "0") then Some Zero else if bytes_eq field (codes "1") then Some One else None
 
--- what a row claims whose fields are read as these, or the cause of the first that can't be read
+-- the finding of a row with these fields as they were read; the first field that can't be read gives the cause
 abbrev pub characters_row_as_read : Option (List BidiUnit) → Option Direction → Option ParaLevel → Option (List (Option ℕ)) → Option (List ℕ) → Finding
 characters_row_as_read None direction para_level levels order = Faulty CodePoint
 characters_row_as_read (Some text) None para_level levels order = Faulty DirectionField
@@ -40,14 +40,14 @@ characters_row_as_read (Some text) (Some direction) (Some para_level) (Some leve
 characters_row_as_read (Some text) (Some direction) (Some para_level) (Some levels) (Some order) =
     Row (record { text = text; directions = direction ∷ []; para_level = Some (level_of_para para_level); levels = levels; order = order })
 
--- what a row of these items claims: it has at least one; and by how direction fields are read
+-- the finding of a row of these items, with this reading of direction fields: it has at least one item
 abbrev pub characters_row_of_items : (List ℕ → Option Direction) → (ℕ → BidiUnit) → List (List ℕ) → List ℕ → List ℕ → List ℕ → List ℕ → Finding
 characters_row_of_items reads unit_of [] direction para_level levels order = Faulty EmptyRow
 characters_row_of_items reads unit_of (item ∷ items) direction para_level levels order =
     characters_row_as_read (each_read (character_item unit_of) (item ∷ items)) (reads direction) (para_field para_level)
     (each_read level_item (items_of levels)) (each_read order_item (items_of order))
 
--- what a row of these fields claims: it has exactly five
+-- the finding of a row of these fields, with this reading of direction fields: it has exactly five
 abbrev pub characters_row_by : (List ℕ → Option Direction) → (ℕ → BidiUnit) → List (List ℕ) → Finding
 characters_row_by reads unit_of (characters ∷ direction ∷ para_level ∷ levels ∷ order ∷ []) =
     characters_row_of_items reads unit_of (items_of characters) direction para_level levels order
@@ -56,12 +56,12 @@ characters_row_by reads unit_of _ = Faulty FieldCount
 abbrev pub characters_row : (ℕ → BidiUnit) → List (List ℕ) → Finding
 characters_row unit_of fields = characters_row_by direction_field unit_of fields
 
--- what a content comes to: nothing if it is empty, else a row, also where it begins with `@`
+-- the finding of a content: it is silent if it is empty, and else a row, even if it begins with `@`
 abbrev pub characters_content : (List ℕ → Option Direction) → (ℕ → BidiUnit) → List ℕ → Finding
 characters_content reads unit_of [] = Silent
 characters_content reads unit_of (b ∷ bs) = characters_row_by reads unit_of (fields_of (b ∷ bs))
 
--- what a line comes to, by the unit of each code point
+-- the finding of a line, with the unit of each code point
 abbrev pub characters_line_by : (List ℕ → Option Direction) → (ℕ → BidiUnit) → List ℕ → Finding
 characters_line_by reads unit_of line =
     if nat_lt longest_line (length line) then Faulty LineTooLong else characters_content reads unit_of (content_of line)
@@ -69,10 +69,10 @@ characters_line_by reads unit_of line =
 unfoldable pub characters_line : (ℕ → BidiUnit) → List ℕ → Finding
 characters_line unit_of line = characters_line_by direction_field unit_of line
 
--- what each of a file's lines comes to
+-- the findings of a file's lines
 abbrev pub characters_findings : (ℕ → BidiUnit) → List (List ℕ) → List Finding
 characters_findings unit_of lines = map (characters_line unit_of) lines
 
--- the verdict on the bytes of a BidiCharacterTest.txt, by the unit of each code point
+-- the verdict on the bytes of a BidiCharacterTest.txt, with the unit of each code point
 unfoldable pub characters_verdict : LimitsOf → (ℕ → BidiUnit) → List ℕ → Verdict
 characters_verdict limits unit_of bytes = verdict_on limits (characters_findings unit_of (lines_of bytes))

@@ -39,7 +39,7 @@ names_direction bits AutoRtl = bits / 8 == 1
 abbrev pub directions_in_order : List Direction
 directions_in_order = Auto ∷ Ltr ∷ Rtl ∷ AutoRtl ∷ []
 
--- the directions that a number of 1 to 15 names, in that order
+-- the directions that a number of 1 to 15 names, in the same order
 abbrev pub directions_of : ℕ → List Direction
 directions_of bits = filter (names_direction bits) directions_in_order
 
@@ -52,7 +52,7 @@ directions_by (Some bits) = if bits == 0 then None else Some (directions_of bits
 abbrev pub bit_set : List ℕ → Option (List Direction)
 bit_set field = directions_by (number_up_to 15 field)
 
--- the unit of a class, which is no bracket
+-- the unit of a class, without a bracket
 abbrev pub unit_of_class : Class → BidiUnit
 unit_of_class class = record { class = class; bracket = No }
 
@@ -60,7 +60,7 @@ unit_of_class class = record { class = class; bracket = No }
 abbrev pub unit_item : List ℕ → Option BidiUnit
 unit_item name = option_map unit_of_class (class_of_short name)
 
--- what a line says by itself: nothing, a list of levels, an order, a row, or that it is malformed
+-- what a line means without the others: nothing, a list of levels, an order, a row, or that it is malformed
 pub data ClassesLine : Type 0 where
   Nothing : ClassesLine
   LevelsAre : (levels : List (Option ℕ)) → ClassesLine
@@ -68,25 +68,25 @@ pub data ClassesLine : Type 0 where
   RowOf : (text : List BidiUnit) → (directions : List Direction) → ClassesLine
   Broken : (cause : Cause) → ClassesLine
 
--- what `@Levels:` says, by what its items are read as
+-- the meaning of `@Levels:` with these items as they were read
 abbrev pub levels_directive : Option (List (Option ℕ)) → ClassesLine
 levels_directive None = Broken LevelItem
 levels_directive (Some levels) = LevelsAre levels
 
--- what `@Reorder:` says, by what its items are read as
+-- the meaning of `@Reorder:` with these items as they were read
 abbrev pub order_directive : Option (List ℕ) → ClassesLine
 order_directive None = Broken OrderItem
 order_directive (Some order) = OrderIs order
 
--- what `@Levels:` with this list says
+-- the meaning of `@Levels:` with this list
 abbrev pub levels_said : List ℕ → ClassesLine
 levels_said list = levels_directive (each_read level_item (items_of list))
 
--- what `@Reorder:` with this list says
+-- the meaning of `@Reorder:` with this list
 abbrev pub order_said : List ℕ → ClassesLine
 order_said list = order_directive (each_read order_item (items_of list))
 
--- what a content says that begins with `@`
+-- the meaning of a content that begins with `@`
 abbrev pub directive : List ℕ → ClassesLine
 directive content =
     if starts_with nat_eq content (codes "@Type:") then Nothing
@@ -94,18 +94,18 @@ directive content =
     else if starts_with nat_eq content (codes "@Reorder:") then order_said (drop 9 content)
     else Broken Directive
 
--- what a row says, by what its items and its bit set are read as: a wrong item comes before a wrong bit set
+-- the meaning of a row with these items and this bit set as they were read: a wrong item comes before a wrong bit set
 abbrev pub classes_row_as_read : Option (List BidiUnit) → Option (List Direction) → ClassesLine
 classes_row_as_read None directions = Broken ClassItem
 classes_row_as_read (Some text) None = Broken BitSet
 classes_row_as_read (Some text) (Some directions) = RowOf text directions
 
--- what a row of these items says: it has at least one; and by how bit sets are read
+-- the meaning of a row of these items, with this reading of bit sets: it has at least one item
 abbrev pub classes_row_of_items : (List ℕ → Option (List Direction)) → List (List ℕ) → List ℕ → ClassesLine
 classes_row_of_items reads [] bits = Broken EmptyRow
 classes_row_of_items reads (name ∷ names) bits = classes_row_as_read (each_read unit_item (name ∷ names)) (reads bits)
 
--- what a row of these fields says: it has exactly two
+-- the meaning of a row of these fields, with this reading of bit sets: it has exactly two
 abbrev pub classes_row_by : (List ℕ → Option (List Direction)) → List (List ℕ) → ClassesLine
 classes_row_by reads (names ∷ bits ∷ []) = classes_row_of_items reads (items_of names) bits
 classes_row_by reads _ = Broken FieldCount
@@ -113,40 +113,40 @@ classes_row_by reads _ = Broken FieldCount
 abbrev pub classes_row : List (List ℕ) → ClassesLine
 classes_row fields = classes_row_by bit_set fields
 
--- what a content says: nothing if it is empty, a directive if it begins with `@`, else a row
+-- the meaning of a content: nothing if it is empty, a directive if it begins with `@`, else a row
 abbrev pub classes_content : (List ℕ → Option (List Direction)) → List ℕ → ClassesLine
 classes_content reads [] = Nothing
 classes_content reads (b ∷ bs) = if b == 64 then directive (b ∷ bs) else classes_row_by reads (fields_of (b ∷ bs))
 
--- what a line says by itself
+-- the meaning of a line without the others, with this reading of bit sets
 abbrev pub classes_line_by : (List ℕ → Option (List Direction)) → List ℕ → ClassesLine
 classes_line_by reads line = if nat_lt longest_line (length line) then Broken LineTooLong else classes_content reads (content_of line)
 
 unfoldable pub classes_line : List ℕ → ClassesLine
 classes_line line = classes_line_by bit_set line
 
--- the levels in force behind these lines, the nearest of them first: those of the nearest line that lists levels
+-- the levels in force after these lines, the nearest first: those of the nearest line that lists levels
 abbrev pub levels_in_force : List ClassesLine → Option (List (Option ℕ))
 levels_in_force [] = None
 levels_in_force (LevelsAre levels ∷ earlier) = Some levels
 levels_in_force (_ ∷ earlier) = levels_in_force earlier
 
--- the order in force behind these lines, the nearest of them first: that of the nearest line that lists an order
+-- the order in force after these lines, the nearest first: that of the nearest line that lists an order
 abbrev pub order_in_force : List ClassesLine → Option (List ℕ)
 order_in_force [] = None
 order_in_force (OrderIs order ∷ earlier) = Some order
 order_in_force (_ ∷ earlier) = order_in_force earlier
 
--- what a row claims: no paragraph level, and the lists in force
+-- what a row expects: the lists in force, and no paragraph level
 abbrev pub claim_under : List BidiUnit → List Direction → List (Option ℕ) → List ℕ → Claim
 claim_under text directions levels order = record { text = text; directions = directions; para_level = None; levels = levels; order = order }
 
--- what a row comes to where these lists are in force: it needs both
+-- the finding of a row if these lists are in force: it needs both
 abbrev pub row_under : List BidiUnit → List Direction → Option (List (Option ℕ)) → Option (List ℕ) → Finding
 row_under text directions (Some levels) (Some order) = Row (claim_under text directions levels order)
 row_under text directions _ _ = Faulty NoExpectation
 
--- what a line comes to where these lists are in force
+-- the finding of a line if these lists are in force
 abbrev pub comes_to : Option (List (Option ℕ)) → Option (List ℕ) → ClassesLine → Finding
 comes_to levels order Nothing = Silent
 comes_to levels order (LevelsAre _) = Silent
@@ -154,13 +154,13 @@ comes_to levels order (OrderIs _) = Silent
 comes_to levels order (Broken cause) = Faulty cause
 comes_to levels order (RowOf text directions) = row_under text directions levels order
 
--- what each of these lines comes to behind the earlier ones, the nearest of them first
+-- the findings of these lines after the earlier ones, of which the nearest is first
 abbrev pub findings_behind : List ClassesLine → List ClassesLine → List Finding
 findings_behind earlier [] = []
 findings_behind earlier (line ∷ lines) =
     comes_to (levels_in_force earlier) (order_in_force earlier) line ∷ findings_behind (line ∷ earlier) lines
 
--- what each of a file's lines comes to
+-- the findings of a file's lines
 abbrev pub classes_findings : List (List ℕ) → List Finding
 classes_findings lines = findings_behind [] (map classes_line lines)
 

@@ -9,12 +9,12 @@ use Rattle.bidtests.specs.Verdicts.{Finding}
 use Rattle.bidtests.specs.ClassesFile.{classes_findings, classes_verdict}
 use Rattle.bidtests.specs.CharactersFile.{characters_findings, characters_verdict}
 
--- what each of a file's lines comes to
+-- the findings of a file's lines
 abbrev pub findings_by : Kind → List (List ℕ) → List Finding
 findings_by Classes lines = classes_findings lines
 findings_by (Characters tables) lines = characters_findings (unit_by tables.now) lines
 
--- the verdict on the bytes of a file of this kind, by these limits
+-- the verdict on the bytes of a file of this kind, with these limits
 abbrev pub verdict_of : LimitsOf → Kind → List ℕ → Verdict
 verdict_of limits Classes bytes = classes_verdict limits bytes
 verdict_of limits (Characters tables) bytes = characters_verdict limits (unit_by tables.now) bytes

@@ -1,5 +1,5 @@
--- What a verdict says of a file, by quantifiers over its lines, the directions that its rows name, and the places of
--- their lists.
+-- The meaning of a verdict on a file, with quantifiers over its lines, the directions that its rows name, and the
+-- places of their lists.
 use Rattle.std.specs.Prelude.{◌≡◌, ◌≢◌, ◌↔◌, Some, ℕ, ◌<◌, List, [], length, map, reverse, take, IfSome, slice_index_or}
 use Rattle.std.specs.List.{slice_get, Contains}
 use Rattle.units.specs.Layout.{TextLayout, layout_of, all_orders}
@@ -20,55 +20,55 @@ use Rattle.bidtests.specs.ClassesFile.{directions_in_order, classes_line, comes_
 use Rattle.bidtests.specs.CharactersFile.{characters_line}
 use Rattle.ucdfiles.specs.Tables.{unit_by}
 
--- what line k comes to, before which k lines stand: in a classes file by the lists in force behind these
+-- the finding of line k, after k lines: in a classes file it depends on the lists in force after these
 abbrev pub line_comes_to : Kind → List (List ℕ) → ℕ → Finding
 line_comes_to Classes lines k =
     let earlier = reverse (map classes_line (take k lines)) in
     comes_to (levels_in_force earlier) (order_in_force earlier) (classes_line (slice_index_or lines k []))
 line_comes_to (Characters tables) lines k = characters_line (unit_by tables.now) (slice_index_or lines k [])
 
--- there are as many findings as lines, and each line of a file comes to the finding at its index
+-- there are as many findings as lines, and each line of a file has the finding at its index
 pub record ComeTo (kind : Kind) (lines : List (List ℕ)) (found : List Finding) : Type 0 where
   pub count : length found ≡ length lines
   pub each : (k : ℕ) → k < length lines → slice_get found k ≡ Some (line_comes_to kind lines k)
 
--- line k is malformed, for this cause, where the lines of a file come to these
+-- line k is malformed, for this cause, in a file with these findings
 abbrev pub IsMalformed : List Finding → ℕ → Cause → Type 0
 IsMalformed found k cause = slice_get found k ≡ Some (Faulty cause)
 
--- line k is a row that is well formed, and claims this
+-- line k is a well-formed row, and expects this
 abbrev pub IsRow : List Finding → ℕ → Claim → Type 0
 IsRow found k claim = slice_get found k ≡ Some (Row claim)
 
--- P1 to L2: the layout of the claim's text under the direction, by these limits, without breaks
+-- P1 to L2: the layout of the row's text under the direction, with these limits, without breaks
 abbrev pub layout_under : LimitsOf → Claim → Direction → TextLayout
 layout_under limits claim direction = layout_of limits claim.text direction []
 
--- no paragraph level is claimed, or that of the first paragraph
+-- the expected paragraph level, if there is one, is that of the first paragraph
 abbrev pub IsParaRight : LimitsOf → Claim → Direction → Type 0
 IsParaRight limits claim direction =
     IfSome claim.para_level (λ level. slice_get (layout_under limits claim direction).paras 0 ≡ Some level)
 
--- the claimed levels are those of the layout
+-- the expected levels are those of the layout
 abbrev pub AreLevelsRight : LimitsOf → Claim → Direction → Type 0
 AreLevelsRight limits claim direction = claim.levels ≡ (layout_under limits claim direction).levels
 
--- the claimed order is that of the layout's lines, joined
+-- the expected order is that of the layout's lines, joined
 abbrev pub IsOrderRight : LimitsOf → Claim → Direction → Type 0
 IsOrderRight limits claim direction = claim.order ≡ all_orders (layout_under limits claim direction)
 
--- all that is claimed is right under the direction
+-- all that the row expects is right under the direction
 pub record IsCaseRight (limits : LimitsOf) (claim : Claim) (direction : Direction) : Type 0 where
   pub para_level : IsParaRight limits claim direction
   pub levels : AreLevelsRight limits claim direction
   pub order : IsOrderRight limits claim direction
 
--- the index is the first at which the lists differ or one of them ends: behind its end a list has nothing
+-- the index is the first at which the lists differ or one of them ends: after its end a list has nothing
 pub record IsFirstDifference {A : Type 0} (xs ys : List A) (i : ℕ) : Type 0 where
   pub before : (p : ℕ) → p < i → slice_get xs p ≡ slice_get ys p
   pub there : slice_get xs i ≢ slice_get ys i
 
--- the place is the first of the paragraph's level, the levels and the order at which the claim and the layout differ
+-- the place is the first one at which the layout differs from the expected one: paragraph level, levels, order
 abbrev pub IsWrongAt : LimitsOf → Claim → Direction → Place → Type 0
 IsWrongAt limits claim direction ParaLevel = ¬ IsParaRight limits claim direction
 IsWrongAt limits claim direction (Levels i) =
@@ -76,11 +76,11 @@ IsWrongAt limits claim direction (Levels i) =
 IsWrongAt limits claim direction (Order i) =
     IsParaRight limits claim direction × AreLevelsRight limits claim direction × IsFirstDifference claim.order (all_orders (layout_under limits claim direction)) i
 
--- the one direction stands before the other where they stand in order
+-- the first direction comes before the second in the order of directions
 abbrev pub ComesBefore : Direction → Direction → Type 0
 ComesBefore d e = (i : ℕ) × (j : ℕ) × (i < j) × (slice_get directions_in_order i ≡ Some d) × (slice_get directions_in_order j ≡ Some e)
 
--- of the first n lines none is malformed, and each row is right under each direction that it names
+-- none of the first n lines is malformed, and each row is right under each direction that it names
 pub record AreRight (limits : LimitsOf) (found : List Finding) (n : ℕ) : Type 0 where
   pub well_formed : (k : ℕ) (cause : Cause) → k < n → ¬ IsMalformed found k cause
   pub right : (k : ℕ) (claim : Claim) (d : Direction) → k < n → IsRow found k claim → Contains claim.directions d → IsCaseRight limits claim d
@@ -91,15 +91,15 @@ pub record AllAreRight (limits : LimitsOf) (found : List Finding) (rows cases : 
   pub rows_counted : rows ≡ rows_in found
   pub cases_counted : cases ≡ cases_in found
 
--- malformed: the line of this number is, for this cause, and all earlier ones are right
+-- malformed: the line of this number is malformed for this cause, and all earlier ones are right
 pub record FirstIsMalformed (limits : LimitsOf) (found : List Finding) (number : ℕ) (cause : Cause) : Type 0 where
   pub k : ℕ
   pub numbered : number ≡ line_number k
   pub earlier : AreRight limits found k
   pub malformed : IsMalformed found k cause
 
--- wrong: the line of this number is a row that is well formed and names the direction, at this place its claim first
--- differs from the layout, and all earlier lines and the earlier ones of its directions are right
+-- wrong: the line of this number is a well-formed row that names the direction, its layout first differs from the
+-- expected one at this place, and all earlier lines and the row's earlier directions are right
 pub record FirstIsWrong (limits : LimitsOf) (found : List Finding) (number : ℕ) (direction : Direction) (place : Place) : Type 0 where
   pub k : ℕ
   pub numbered : number ≡ line_number k
@@ -110,29 +110,29 @@ pub record FirstIsWrong (limits : LimitsOf) (found : List Finding) (number : ℕ
   pub before : (d : Direction) → Contains claim.directions d → ComesBefore d direction → IsCaseRight limits claim d
   pub wrong : IsWrongAt limits claim direction place
 
--- what a verdict says of a file whose lines come to these
+-- the meaning of a verdict on a file with these findings
 abbrev pub Says : LimitsOf → List Finding → Verdict → Type 0
 Says limits found (Yes rows cases) = AllAreRight limits found rows cases
 Says limits found (Malformed number cause) = FirstIsMalformed limits found number cause
 Says limits found (Wrong number direction place) = FirstIsWrong limits found number direction place
 
--- what a verdict says of these bytes, as the whole of a file of this kind
+-- the meaning of a verdict on these bytes, as the whole of a file of this kind
 abbrev pub SaysOf : LimitsOf → Kind → List ℕ → Verdict → Type 0
 SaysOf limits kind b verdict = Says limits (findings_by kind (lines_of b)) verdict
 
--- the verdict is yes with these numbers exactly if all lines are right and hold so many rows and cases
+-- the verdict is yes with these numbers exactly if all lines are right and have so many rows and cases
 abbrev pub YesIsExact : LimitsOf → Kind → List ℕ → Type 0
 YesIsExact limits kind b = (rows cases : ℕ)
     → (verdict_of limits kind b ≡ Yes rows cases) ↔ AllAreRight limits (findings_by kind (lines_of b)) rows cases
 
--- the verdict is malformed with this number and cause exactly if the line is, and all before it are right
+-- the verdict is malformed with this number and cause exactly if this line is, and all lines before it are right
 abbrev pub MalformedIsExact : LimitsOf → Kind → List ℕ → Type 0
 MalformedIsExact limits kind b = (number : ℕ) (cause : Cause)
     → (verdict_of limits kind b ≡ Malformed number cause)
     ↔ FirstIsMalformed limits (findings_by kind (lines_of b)) number cause
 
--- the verdict is wrong with this number, direction and place exactly if that row is wrong there, and all before it are
--- right
+-- the verdict is wrong with this number, direction and place exactly if that row is wrong there, and everything before
+-- it is right
 abbrev pub WrongIsExact : LimitsOf → Kind → List ℕ → Type 0
 WrongIsExact limits kind b = (number : ℕ) (direction : Direction) (place : Place)
     → (verdict_of limits kind b ≡ Wrong number direction place)

@@ -1,4 +1,4 @@
--- The bytes that a judge stands for.
+-- The bytes that a judge has judged.
 use Rattle.std.specs.Prelude.{◌≡◌, Option, Some, None, ℕ, List, ◌++◌}
 use Rattle.units.specs.LineCutting.{Cutting, StandsFor}
 use Rattle.units.specs.Limits.{LimitsOf}
@@ -10,8 +10,8 @@ use Rattle.bidtests.specs.declared.verdict.Verdict.{Verdict}
 use Rattle.bidtests.specs.Carried.{Carried, IsBehind}
 use Rattle.bidtests.specs.FileKinds.{verdict_of}
 
--- what a judge holds: the kind of its file, where its cutter stands in a line, what it keeps between lines, and the no
--- that is decided
+-- the parts of a judge: the kind of its file, the state of its line splitter, the state between lines, and the failing
+-- verdict, if there is one
 pub record Judging : Type 0 where
   pub kind : Kind
   pub cutting : Cutting
@@ -26,44 +26,44 @@ pub record IsOpen (limits : LimitsOf) (kind : Kind) (cutting : Cutting) (carried
   pub cut : CutsInto bytes lines rest
   pub behind : IsBehind limits kind carried lines
 
--- what holds of the bytes that were handed over: with nothing decided what is carried is that behind their lines, else all
--- files that begin so have the verdict that is decided
+-- the state after these bytes: if no verdict is decided, it is the state after their lines; otherwise every file that
+-- begins with these bytes has the decided verdict
 abbrev pub JudgesBy : LimitsOf → Kind → Option Verdict → Cutting → Carried → List ℕ → Type 0
 JudgesBy limits kind None cutting carried bytes = IsOpen limits kind cutting carried bytes
 JudgesBy limits kind (Some verdict) cutting carried bytes = (more : List ℕ) → verdict_of limits kind (bytes ++ more) ≡ verdict
 
--- the judge judges files of this kind by these limits, and was handed these bytes, in any pieces
+-- the judge judges files of this kind with these limits, and these bytes were passed to it, in any pieces
 pub record Judges (limits : LimitsOf) (kind : Kind) (judge : Judging) (bytes : List ℕ) : Type 0 where
   pub of : judge.kind ≡ kind
   pub is : JudgesBy limits kind judge.decided judge.cutting judge.carried bytes
 
--- the verdict is that on the bytes that the judge was handed with these behind, as the whole of a file of its kind
+-- the verdict is that on the bytes passed to the judge and then these, as the whole of a file of its kind
 abbrev pub IsVerdictBehind : Judging → List ℕ → Verdict → Type 0
 IsVerdictBehind judge given verdict =
     (limits : LimitsOf) (kind : Kind) (b : List ℕ) → Judges limits kind judge b
     → verdict ≡ verdict_of limits kind (b ++ given)
 
--- what a judge has come to, apart from its tables
+-- the state of a judge, without its tables
 pub record StateOf : Type 0 where
   pub cutting : Cutting
   pub carried : Carried
   pub decided : Option Verdict
 
--- a judge of files of this kind that has come so far
+-- a judge of files of this kind in this state
 abbrev pub judging : Kind → StateOf → Judging
 judging kind state = record { kind = kind; cutting = state.cutting; carried = state.carried; decided = state.decided }
 
--- the tables by which files of this kind are judged, if they are judged by tables
+-- the tables for files of this kind, if the kind has tables
 abbrev pub tables_of : Kind → Option TablesOf
 tables_of Classes = None
 tables_of (Characters tables) = Some tables.now
 
--- so far a judge has come that was handed these bytes, in any pieces, and judges by these limits and tables, or without
--- tables
+-- this is the state of a judge to which these bytes were passed, in any pieces, and which has these limits and these
+-- tables, if any
 abbrev pub HoldsFor : LimitsOf → Option TablesOf → StateOf → List ℕ → Type 0
 HoldsFor limits tables state bytes = (kind : Kind) → tables_of kind ≡ tables → JudgesBy limits kind state.decided state.cutting state.carried bytes
 
--- a judge that has come to the one has come to the other when it is handed this piece too
+-- this piece takes a judge from the first state to the second
 abbrev pub TakesIn : Option TablesOf → StateOf → List ℕ → StateOf → Type 0
 TakesIn tables before piece after =
     (limits : LimitsOf) (b : List ℕ) → HoldsFor limits tables before b → HoldsFor limits tables after (b ++ piece)

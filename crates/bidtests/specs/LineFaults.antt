@@ -1,4 +1,4 @@
--- What is wrong with a line by itself, and the no that it gives by its number.
+-- What is wrong with a line apart from its number, and its failing verdict with the number.
 use Rattle.std.specs.Prelude.{Option, Some, None, ℕ}
 use Rattle.units.specs.Limits.{LimitsOf}
 use Rattle.units.specs.declared.level.Direction.{Direction}
@@ -9,18 +9,18 @@ use Rattle.bidtests.specs.declared.verdict.Verdict.{Verdict}
 use Rattle.bidtests.specs.declared.verdict.Verdict.TheVariants.{Malformed, Wrong}
 use Rattle.bidtests.specs.Verdicts.{Finding, Silent, Row, Faulty, wrong_case}
 
--- the fault of a wrong case, where there is one
+-- the fault of a wrong case, if there is one
 abbrev pub wrong_fault : Option (Direction × Place) → Option LineFault
 wrong_fault None = None
 wrong_fault (Some x) = Some (OfCase x.0 x.1)
 
--- what is wrong with a line that comes to this, if it is malformed or holds a wrong case
+-- what is wrong with a line with this finding, if it is malformed or has a wrong case
 abbrev pub line_fault_of : LimitsOf → Finding → Option LineFault
 line_fault_of limits Silent = None
 line_fault_of limits (Faulty cause) = Some (OfForm cause)
 line_fault_of limits (Row claim) = wrong_fault (wrong_case limits claim claim.directions)
 
--- the no that a line of this number gives with this fault
+-- the failing verdict of the line of this number with this fault
 abbrev pub no_with : ℕ → LineFault → Verdict
 no_with number (OfForm cause) = Malformed number cause
 no_with number (OfCase direction place) = Wrong number direction place

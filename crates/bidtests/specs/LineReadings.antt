@@ -1,4 +1,4 @@
--- What a reader of lines holds, and what it makes of a line.
+-- The contents of a reader of lines, and the finding that it returns for a line.
 use Rattle.std.specs.Prelude.{◌≡◌, ◌≤◌, Option, Result, Ok, Err, Some, None, ℕ, Bool, List, length}
 use Rattle.std.specs.Option.{option_map}
 use Rattle.ucdfiles.specs.Tables.{unit_by}
@@ -14,7 +14,7 @@ use Rattle.bidtests.specs.CharactersFile.{characters_line}
 use Rattle.bidtests.specs.Carried.{levels_behind, order_behind}
 use Rattle.bidtests.specs.Readings.{if_read}
 
--- what a reader of lines holds: the text of the row that was read last, two lists, and whether each is in force
+-- the contents of a reader of lines: the text of the row that was read last, two lists, and whether each is in force
 pub record LineReading : Type 0 where
   pub text : List BidiUnit
   pub levels : List (Option ℕ)
@@ -35,7 +35,7 @@ pub record HasNoList (s : LineReading) : Type 0 where
   pub levels : levels_in s ≡ None
   pub order : order_in s ≡ None
 
--- the claim of a row that asks for this, with the text and the lists that are held
+-- what a row with these directions and this level expects, with the text and the lists of the reader
 abbrev pub claim_in : LineReading → Asked → Claim
 claim_in s asked = record {
   text = s.text;
@@ -45,27 +45,27 @@ claim_in s asked = record {
   order = s.order;
 }
 
--- what a line was read as, which left this
+-- the finding for this result of reading a line, with these contents of the reader
 abbrev pub finding_read : Result (Option Asked) Cause → LineReading → Finding
 finding_read (Err cause) s = Faulty cause
 finding_read (Ok None) s = Silent
 finding_read (Ok (Some asked)) s = Row (claim_in s asked)
 
--- what a line of a classes file comes to that says this
+-- the finding of a line of a classes file with this meaning
 abbrev pub finding_said : LineReading → ClassesLine → Finding
 finding_said s said = comes_to (levels_in s) (order_in s) said
 
--- what a line of a file of this kind comes to behind those that were read
+-- the finding of a line of a file of this kind after those that were read
 abbrev pub finding_behind : Kind → LineReading → List ℕ → Finding
 finding_behind Classes s line = finding_said s (classes_line line)
 finding_behind (Characters tables) s line = characters_line (unit_by tables.now) line
 
--- the lists in force are those behind a line of a classes file that says this
+-- the lists in force change as this line of a classes file says
 pub record HasListed (said : ClassesLine) (before after : LineReading) : Type 0 where
   pub levels : levels_in after ≡ levels_behind said (levels_in before)
   pub order : order_in after ≡ order_behind said (order_in before)
 
--- the lists in force are those behind this line; in a characters file there are none
+-- the lists in force change as this line says; in a characters file there are none
 abbrev pub IsBehindLine : Kind → List ℕ → LineReading → LineReading → Type 0
 IsBehindLine Classes line before after = HasListed (classes_line line) before after
 IsBehindLine (Characters tables) line before after = HasNoList after

@@ -1,4 +1,4 @@
--- What the reading of a line hands out, in the words of the grammar.
+-- The results of reading a line, in the terms of the grammar.
 use Rattle.std.specs.Borrow.{Bor}
 use Rattle.std.specs.Prelude.{Option, Result, Ok, Err, Some, None, ◌≡◌, Bool, true, false, ℕ, List, [], ◌∷◌}
 use Rattle.units.specs.declared.bracket.Unit.{Unit as BidiUnit}
@@ -12,7 +12,7 @@ use Rattle.bidtests.specs.declared.claim.Claim.{Claim as RowClaim}
 use Rattle.bidtests.specs.Verdicts.{Claim, Finding, Row, Faulty}
 use Rattle.bidtests.specs.ClassesFile.{ClassesLine, RowOf, Broken}
 
--- the list that was read, if it was
+-- the list, if it was read
 abbrev pub if_read : {A : Type 0} → Bool → List A → Option (List A)
 if_read true items = Some items
 if_read false items = None
@@ -21,17 +21,17 @@ if_read false items = None
 abbrev pub fields_in : RowFields → List (List ℕ)
 fields_in row = row.characters.now ∷ row.direction.now ∷ row.para_level.now ∷ row.levels.now ∷ row.order.now ∷ []
 
--- what is behind this reference, or none
+-- the target of this reference is this list, or both are none
 abbrev pub MatchesNow : {A : Type 0} → Option (Bor (List A)) → Option (List A) → Type 0
 MatchesNow None found = found ≡ None
 MatchesNow (Some r) found = found ≡ Some r.now
 
--- the row of these directions and this text, or the cause
+-- the row with these directions and this text, or the cause
 abbrev pub row_read : Result (Bor (List Direction)) Cause → List BidiUnit → ClassesLine
 row_read (Ok directions) text = RowOf text directions.now
 row_read (Err cause) text = Broken cause
 
--- what a row of a classes file or of a characters file claims
+-- what a row of a classes file or of a characters file expects
 abbrev pub claim_of : RowClaim → Claim
 claim_of c = record {
   text = c.text.now;
@@ -41,7 +41,7 @@ claim_of c = record {
   order = c.order.now;
 }
 
--- the claim of a row of this direction and this paragraph level with these lists, or the cause
+-- the finding of a row with this direction, this paragraph level and these lists, or the cause
 abbrev pub claim_read : Result (Direction × ParaLevel) Cause → List BidiUnit → List (Option ℕ) → List ℕ → Finding
 claim_read (Ok asked) text levels order =
     Row (record { text = text; directions = asked.0 ∷ []; para_level = Some (level_of_para asked.1); levels = levels; order = order })

@@ -1,5 +1,4 @@
--- The verdict in which the numbers of the standard stand: rows are compared with the layouts by 125 levels and 63 open
--- brackets.
+-- The verdict by the numbers of the standard: rows are compared with the layouts with 125 levels and 63 open brackets.
 use Rattle.std.specs.Prelude.{Option, ℕ, ◌+◌, List, [], ◌∷◌, Some, None}
 use Rattle.units.specs.StandardLimits.{standard_layout}
 use Rattle.units.specs.Text.{lines_of}
@@ -13,7 +12,7 @@ use Rattle.std.specs.Option.{option_or}
 use Rattle.units.specs.Lines.{line_number}
 use Rattle.bidtests.specs.FileKinds.{findings_by}
 
--- the first of these directions whose case is wrong, and where
+-- the first of these directions whose case is wrong, and the place
 abbrev pub standard_wrong_case : Claim → List Direction → Option (Direction × Place)
 standard_wrong_case claim [] = None
 standard_wrong_case claim (d ∷ ds) =
@@ -21,13 +20,13 @@ standard_wrong_case claim (d ∷ ds) =
     (with_place d (wrong_place claim.para_level claim.levels claim.order (standard_layout claim.text d [])))
     (standard_wrong_case claim ds)
 
--- the no that a line of this number gives
+-- the failing verdict of the line of this number
 abbrev pub standard_no_of : ℕ → Finding → Option Verdict
 standard_no_of number Silent = None
 standard_no_of number (Faulty cause) = Some (Malformed number cause)
 standard_no_of number (Row claim) = wrong_at number (standard_wrong_case claim claim.directions)
 
--- the no of the least of these lines that gives one, where k lines stand before them
+-- the failing verdict of the first of these lines that has one; there are k lines before them
 abbrev pub standard_first_no : ℕ → List Finding → Option Verdict
 standard_first_no k [] = None
 standard_first_no k (f ∷ fs) = option_or (standard_no_of (line_number k) f) (standard_first_no (k + 1) fs)

@@ -1,5 +1,5 @@
--- The verdict as it is where no row can ask for AutoRtl: a bit set is one digit of 1 to 7, and a direction field `0`,
--- `1` or `2`.
+-- The verdict as it is if no row may ask for AutoRtl: a bit set is one digit of 1 to 7, and a direction field `0`, `1`
+-- or `2`.
 use Rattle.std.specs.Prelude.{Option, ℕ, ◌≡◌, ◌≢◌, Bool, false, ◌-◌, ◌%◌, ◌/◌, ◌==◌, ◌&&◌, nat_le, if◌then◌else◌, List, [], ◌∷◌, filter, map, Some, None, codes}
 use Rattle.std.specs.Str.{bytes_eq}
 use Rattle.units.specs.Limits.{LimitsOf}
@@ -35,11 +35,11 @@ abbrev pub zero_to_two : List ℕ → Option Direction
 zero_to_two field =
     if bytes_eq field (codes "0") then Some Ltr else if bytes_eq field (codes "1") then Some Rtl else if bytes_eq field (codes "2") then Some Auto else None
 
--- what a line of a BidiTest.txt says by itself
+-- the meaning of a line of a BidiTest.txt without the others
 unfoldable pub three_classes_line : List ℕ → ClassesLine
 three_classes_line line = classes_line_by one_digit line
 
--- what a line of a BidiCharacterTest.txt comes to
+-- the finding of a line of a BidiCharacterTest.txt
 unfoldable pub three_characters_line : (ℕ → BidiUnit) → List ℕ → Finding
 three_characters_line unit_of line = characters_line_by zero_to_two unit_of line
 
@@ -48,12 +48,12 @@ abbrev pub three_verdict_of : LimitsOf → Kind → List ℕ → Verdict
 three_verdict_of limits Classes bytes = verdict_on limits (findings_behind [] (map three_classes_line (lines_of bytes)))
 three_verdict_of limits (Characters tables) bytes = verdict_on limits (map (three_characters_line (unit_by tables.now)) (lines_of bytes))
 
--- that verdict isn't that a bit set or a direction field is malformed
+-- the verdict isn't that a bit set or a direction field is malformed
 abbrev pub IsOfThreeDirections : LimitsOf → Kind → List ℕ → Type 0
 IsOfThreeDirections limits kind bytes =
     ((line : ℕ) → three_verdict_of limits kind bytes ≢ Malformed line BitSet)
     × ((line : ℕ) → three_verdict_of limits kind bytes ≢ Malformed line DirectionField)
 
--- its verdict is the one that it has where a row can ask for each of the four directions
+-- the verdict is the one that the file has if rows may ask for each of the four directions
 abbrev pub IsJudgedAlike : LimitsOf → Kind → List ℕ → Type 0
 IsJudgedAlike limits kind bytes = verdict_of limits kind bytes ≡ three_verdict_of limits kind bytes

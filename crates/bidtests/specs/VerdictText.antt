@@ -1,4 +1,4 @@
--- The line of text that says a verdict, as bytes.
+-- The line of text for a verdict, as bytes.
 use Rattle.std.specs.Prelude.{ℕ, List, [], ◌∷◌, ◌++◌, codes}
 use Rattle.std.specs.List.{concat}
 use Rattle.std.specs.Fmt.{decimal}
@@ -11,7 +11,7 @@ use Rattle.bidtests.specs.declared.verdict.Place.TheVariants.{ParaLevel, Levels,
 use Rattle.bidtests.specs.declared.verdict.Verdict.{Verdict}
 use Rattle.bidtests.specs.declared.verdict.Verdict.TheVariants.{Yes, Malformed, Wrong}
 
--- the name of the reason why a line is malformed
+-- the name of the cause for which a line is malformed
 abbrev pub cause_name : Cause → List ℕ
 cause_name LineTooLong = codes "LineTooLong"
 cause_name Directive = codes "Directive"
@@ -26,14 +26,14 @@ cause_name DirectionField = codes "DirectionField"
 cause_name ParaField = codes "ParaField"
 cause_name EmptyRow = codes "EmptyRow"
 
--- the word for the direction under which a claim is wrong
+-- the word for the direction of a wrong case
 abbrev pub direction_word : Direction → List ℕ
 direction_word Auto = codes "auto"
 direction_word Ltr = codes "ltr"
 direction_word Rtl = codes "rtl"
 direction_word AutoRtl = codes "auto-rtl"
 
--- where a claim is wrong, indices counted from 0, and the end of the line
+-- the place of a wrong case, with indices counted from 0, and the end of the line
 abbrev pub place_text : Place → List ℕ
 place_text ParaLevel = codes "paragraph level\n"
 place_text (Levels index) = concat (codes "levels at " ∷ decimal index ∷ codes "\n" ∷ [])

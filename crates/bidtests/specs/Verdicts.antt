@@ -1,4 +1,4 @@
--- The verdict on a test file: the first line that is malformed or holds a wrong case, or yes.
+-- The verdict on a test file: the first line that is malformed or has a wrong case, or yes.
 use Rattle.std.specs.Prelude.{Option, ℕ, ◌+◌, Bool, true, false, nat_eq, if◌then◌else◌, List, [], ◌∷◌, length, sum_by, count_by, Some, None}
 use Rattle.std.specs.Option.{option_or}
 use Rattle.units.specs.Positions.{same_position}
@@ -13,8 +13,8 @@ use Rattle.bidtests.specs.declared.verdict.Place.TheVariants.{ParaLevel, Levels,
 use Rattle.bidtests.specs.declared.verdict.Verdict.{Verdict}
 use Rattle.bidtests.specs.declared.verdict.Verdict.TheVariants.{Yes, Malformed, Wrong}
 
--- what a row claims of its text under each of its directions: the first paragraph's level or nothing of it, the levels
--- of all positions, and the order
+-- what a row expects of its text under each of its directions: perhaps the level of the first paragraph, the levels of
+-- all positions, and the order
 pub record Claim : Type 0 where
   pub text : List BidiUnit
   pub directions : List Direction
@@ -22,7 +22,7 @@ pub record Claim : Type 0 where
   pub levels : List (Option ℕ)
   pub order : List ℕ
 
--- what a line comes to behind the lines before it: it says nothing, is a row that claims this, or is malformed
+-- the finding of a line after the lines before it: it is silent, a row that expects this, or malformed
 pub data Finding : Type 0 where
   Silent : Finding
   Row : (claim : Claim) → Finding
@@ -35,17 +35,17 @@ first_difference same [] (y ∷ ys) at = Some at
 first_difference same (x ∷ xs) [] at = Some at
 first_difference same (x ∷ xs) (y ∷ ys) at = if same x y then first_difference same xs ys (at + 1) else Some at
 
--- the first of these, where there is one
+-- the first of these, if there is one
 abbrev pub first_of : List ℕ → Option ℕ
 first_of [] = None
 first_of (x ∷ xs) = Some x
 
--- no paragraph level is claimed, or this one
+-- the expected paragraph level, if there is one, is this one
 abbrev pub agrees : Option ℕ → Option ℕ → Bool
 agrees None level = true
 agrees (Some claimed) level = same_position (Some claimed) level
 
--- the place in such a list, where there is an index
+-- the place in such a list, if there is an index
 abbrev pub placed_in : (ℕ → Place) → Option ℕ → Option Place
 placed_in place None = None
 placed_in place (Some i) = Some (place i)
@@ -60,35 +60,35 @@ wrong_place para_level levels order layout =
     (placed_in Order (first_difference nat_eq order (all_orders layout) 0))
     else Some ParaLevel
 
--- the first place at which a claim differs from the layout of its text under the direction (P1 to L2), by the limits
--- and without breaks
+-- the first place at which the layout of a row's text under the direction (P1 to L2), with the limits and without
+-- breaks, differs from the expected one
 abbrev pub wrong_place_under : LimitsOf → Claim → Direction → Option Place
 wrong_place_under limits claim d =
     wrong_place claim.para_level claim.levels claim.order (layout_of limits claim.text d [])
 
--- the direction with the place, where there is one
+-- the direction with the place, if there is one
 abbrev pub with_place : Direction → Option Place → Option (Direction × Place)
 with_place d None = None
 with_place d (Some place) = Some (d, place)
 
--- the first of these directions whose case is wrong, and where
+-- the first of these directions whose case is wrong, and the place
 abbrev pub wrong_case : LimitsOf → Claim → List Direction → Option (Direction × Place)
 wrong_case limits claim [] = None
 wrong_case limits claim (d ∷ ds) =
     option_or (with_place d (wrong_place_under limits claim d)) (wrong_case limits claim ds)
 
--- the no of a wrong case, where there is one
+-- the failing verdict of a wrong case, if there is one
 abbrev pub wrong_at : ℕ → Option (Direction × Place) → Option Verdict
 wrong_at number None = None
 wrong_at number (Some x) = Some (Wrong number x.0 x.1)
 
--- the no that a line of this number gives, if it is malformed or holds a wrong case
+-- the failing verdict of the line of this number, if it is malformed or has a wrong case
 abbrev pub no_of : LimitsOf → ℕ → Finding → Option Verdict
 no_of limits number Silent = None
 no_of limits number (Faulty cause) = Some (Malformed number cause)
 no_of limits number (Row claim) = wrong_at number (wrong_case limits claim claim.directions)
 
--- how many cases a line holds: one for each direction that it names
+-- the number of cases of a line: one for each direction that it names
 abbrev pub cases_of : Finding → ℕ
 cases_of Silent = 0
 cases_of (Faulty cause) = 0
@@ -99,24 +99,24 @@ abbrev pub is_row : Finding → Bool
 is_row (Row claim) = true
 is_row _ = false
 
--- the no of the least of these lines that gives one, where k lines stand before them
+-- the failing verdict of the first of these lines that has one; there are k lines before them
 abbrev pub first_no : LimitsOf → ℕ → List Finding → Option Verdict
 first_no limits k [] = None
 first_no limits k (f ∷ fs) = option_or (no_of limits (line_number k) f) (first_no limits (k + 1) fs)
 
--- how many rows these lines hold
+-- the number of rows among these lines
 abbrev pub rows_in : List Finding → ℕ
 rows_in fs = saturated (count_by is_row fs)
 
--- how many cases these lines hold
+-- the number of cases of these lines
 abbrev pub cases_in : List Finding → ℕ
 cases_in fs = saturated (sum_by cases_of fs)
 
--- the no that is given, or else yes with the counts of these lines
+-- the failing verdict, or else yes with the counts of these lines
 abbrev pub or_yes : List Finding → Option Verdict → Verdict
 or_yes fs (Some verdict) = verdict
 or_yes fs None = Yes (rows_in fs) (cases_in fs)
 
--- the verdict on a file whose lines come to this
+-- the verdict on a file with these findings
 unfoldable pub verdict_on : LimitsOf → List Finding → Verdict
 verdict_on limits fs = or_yes fs (first_no limits 0 fs)

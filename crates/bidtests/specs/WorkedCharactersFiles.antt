@@ -1,4 +1,4 @@
--- Worked character files, and what the definitions compute of them, by the tables of a few characters.
+-- Examples of character files, and what the definitions compute for them, with the tables of a few characters.
 use Rattle.std.specs.Prelude.{ℕ, ◌≡◌, ◌==◌, ◌||◌, if◌then◌else◌, [], ◌∷◌, refl, codes, ⊤}
 use Rattle.units.specs.RowWords.{layouts_compute}
 use Rattle.units.specs.Limits.{standard}
@@ -15,7 +15,7 @@ use Rattle.bidtests.specs.declared.verdict.Cause.TheVariants.{FieldCount, EmptyR
 use Rattle.bidtests.specs.declared.verdict.Verdict.TheVariants.{Yes, Malformed, Wrong}
 use Rattle.bidtests.specs.WorkedClassesFiles.{written}
 
--- what worked files of characters compute with, as one name
+-- what the examples unfold, as one name
 unfoldable pub characters_files_compute : ⊤
 unfolding characters_verdict verdict_on characters_line layouts_compute
 characters_files_compute = tt
@@ -33,7 +33,7 @@ class_of_few c =
     else if c == 0x2329 || c == 0x232A || c == 0x3008 || c == 0x3009 then ON
     else L
 
--- the brackets among them, those that are canonically equivalent with one key
+-- the brackets among them; canonically equivalent ones have the same key
 abbrev pub bracket_of_few : ℕ → Bracket
 bracket_of_few c =
     if c == 0x28 then Open (record { 0 = 1 })
@@ -48,7 +48,7 @@ bracket_of_few c =
 abbrev pub unit_of_few : ℕ → BidiUnit
 unit_of_few c = record { class = class_of_few c; bracket = bracket_of_few c }
 
--- no line is no row
+-- a file without lines has no rows
 pub empty_characters_file : characters_verdict standard unit_of_few [] ≡ Yes 0 0
 unfolding characters_files_compute
 empty_characters_file = refl
@@ -102,12 +102,12 @@ pub numbers_in_right_to_left : characters_verdict standard unit_of_few (written 
 unfolding characters_files_compute
 numbers_in_right_to_left = refl
 
--- W2: the EN behind AL is an AN
+-- W2: the EN after AL becomes an AN
 pub arabic_number : characters_verdict standard unit_of_few (written (codes "0627 0031;0;0;1 2;1 0" ∷ [])) ≡ Yes 1 1
 unfolding characters_files_compute
 arabic_number = refl
 
--- N0: only the opposite inside, and R before
+-- N0: only the opposite direction inside, and R before
 pub opposite_inside : characters_verdict standard unit_of_few (written (codes "05D0 0028 0061 0029 05D1;1;1;1 1 2 1 1;4 3 2 1 0" ∷ [])) ≡ Yes 1 1
 unfolding characters_files_compute
 opposite_inside = refl
@@ -137,7 +137,7 @@ pub level_before_order : characters_verdict standard unit_of_few (written (codes
 unfolding characters_files_compute
 level_before_order = refl
 
--- an order of anything but numbers
+-- an order with an item that is not a number
 pub letter_in_order : characters_verdict standard unit_of_few (written (codes "0061;0;0;0;x" ∷ [])) ≡ Malformed 1 OrderItem
 unfolding characters_files_compute
 letter_in_order = refl
@@ -157,12 +157,12 @@ pub two_rows : characters_verdict standard unit_of_few (written (codes "0061;2;0
 unfolding characters_files_compute
 two_rows = refl
 
--- BD16: where no bracket can be open no pair counts, so the closing bracket is R between R and R
+-- BD16: if no bracket can be open, no pair counts, so the closing bracket is R between R and R
 pub no_open_bracket : characters_verdict (record { depth = 125; brackets = 0 }) unit_of_few (written (codes "0061 2329 05D0 3009 05D1;0;0;0 0 1 0 1;0 1 2 3 4" ∷ [])) ≡ Wrong 1 Ltr (Levels 3)
 unfolding characters_files_compute
 no_open_bracket = refl
 
--- where one can be, the pair counts
+-- if one can be open, the pair counts
 pub one_open_bracket : characters_verdict (record { depth = 125; brackets = 1 }) unit_of_few (written (codes "0061 2329 05D0 3009 05D1;0;0;0 0 1 0 1;0 1 2 3 4" ∷ [])) ≡ Yes 1 1
 unfolding characters_files_compute
 one_open_bracket = refl

@@ -1,4 +1,4 @@
--- Worked files, and what the definitions compute of them: each line ends at LF.
+-- Examples of class files, and what the definitions compute for them: each line ends with LF.
 use Rattle.std.specs.Prelude.{ℕ, ◌≡◌, List, [], ◌∷◌, refl, codes, ⊤}
 use Rattle.std.specs.List.{flat_map}
 use Rattle.units.specs.RowWords.{layouts_compute}
@@ -13,16 +13,16 @@ use Rattle.bidtests.specs.declared.verdict.Place.TheVariants.{Levels, Order}
 use Rattle.bidtests.specs.declared.verdict.Cause.TheVariants.{LevelItem, OrderItem, ClassItem, BitSet, NoExpectation, Directive}
 use Rattle.bidtests.specs.declared.verdict.Verdict.TheVariants.{Yes, Malformed, Wrong}
 
--- what worked files of classes compute with, as one name
+-- what the examples unfold, as one name
 unfoldable pub classes_files_compute : ⊤
 unfolding classes_verdict verdict_on classes_line layouts_compute
 classes_files_compute = tt
 
--- a file of these lines
+-- a file with these lines
 abbrev pub written : List (List ℕ) → List ℕ
 written lines = flat_map ended lines
 
--- no line is no row
+-- a file without lines has no rows
 pub empty_classes_file : classes_verdict standard [] ≡ Yes 0 0
 unfolding classes_files_compute
 empty_classes_file = refl
@@ -69,7 +69,7 @@ pub strong_auto_rtl : classes_verdict standard (written (codes "@Levels: 0" ∷ 
 unfolding classes_files_compute
 strong_auto_rtl = refl
 
--- where no row can ask for AutoRtl, 8 is no bit set
+-- if no row may ask for AutoRtl, 8 is not a bit set
 pub bit_eight_of_three : three_verdict_of standard Classes (written (codes "@Levels: 0" ∷ codes "@Reorder: 0" ∷ codes "L; 8" ∷ [])) ≡ Malformed 3 BitSet
 unfolding classes_files_compute three_classes_line
 bit_eight_of_three = refl
@@ -94,12 +94,12 @@ pub right_to_left : classes_verdict standard (written (codes "@Levels: 2 1 1" �
 unfolding classes_files_compute
 right_to_left = refl
 
--- X9: a removed position has no level and stands in no order
+-- X9: a removed position has no level and is in no order
 pub removed : classes_verdict standard (written (codes "@Levels: x" ∷ codes "@Reorder:" ∷ codes "LRE; 7" ∷ [])) ≡ Yes 1 3
 unfolding classes_files_compute
 removed = refl
 
--- an item that is no short name of a class
+-- an item that is not the short name of a class
 pub other_name : classes_verdict standard (written (codes "L l; 9" ∷ [])) ≡ Malformed 1 ClassItem
 unfolding classes_files_compute
 other_name = refl
@@ -119,7 +119,7 @@ pub blank_at_end : classes_verdict standard (written (codes "@Levels: 0 x 1 0" �
 unfolding classes_files_compute
 blank_at_end = refl
 
--- X5c: the FSI acts as RLI, and its content says nothing of the paragraph's level
+-- X5c: the FSI acts as RLI, and its content doesn't affect the paragraph's level
 pub first_strong_isolate : classes_verdict standard (written (codes "@Levels: 0 1 0 0" ∷ codes "@Reorder: 0 1 2 3" ∷ codes "FSI R PDI L; 1" ∷ [])) ≡ Yes 1 1
 unfolding classes_files_compute
 first_strong_isolate = refl
@@ -139,7 +139,7 @@ pub least_line : classes_verdict standard (written (codes "@Levels: 0" ∷ codes
 unfolding classes_files_compute
 least_line = refl
 
--- `@Type:` says nothing, and `@Level:` is no directive
+-- `@Type:` is ignored, and `@Level:` is not a directive
 pub other_directive : classes_verdict standard (written (codes "@Type: 1" ∷ codes "@Level: 0" ∷ [])) ≡ Malformed 2 Directive
 unfolding classes_files_compute
 other_directive = refl
@@ -169,12 +169,12 @@ pub nearest_lists : classes_verdict standard (written (codes "@Levels: 1" ∷ co
 unfolding classes_files_compute
 nearest_lists = refl
 
--- X4: at depth 1 the LRE, which asks for level 2, is refused
+-- X4: at depth 1 the LRE, which asks for level 2, overflows
 pub depth_of_one : classes_verdict (record { depth = 1; brackets = 63 }) (written (codes "@Levels: x x 1" ∷ codes "@Reorder: 2" ∷ codes "RLE LRE R; 2" ∷ [])) ≡ Yes 1 1
 unfolding classes_files_compute
 depth_of_one = refl
 
--- and at that of the standard it is not
+-- at the depth of the standard it doesn't
 pub depth_of_the_standard : classes_verdict standard (written (codes "@Levels: x x 3" ∷ codes "@Reorder: 2" ∷ codes "RLE LRE R; 2" ∷ [])) ≡ Yes 1 1
 unfolding classes_files_compute
 depth_of_the_standard = refl

@@ -22,7 +22,7 @@ struct RowFields<'a> {
     order: &'a [u8],
 }
 
-/// The fields of a content that has five.
+/// Returns the fields of a content, if there are exactly five.
 fn fields(content: &[u8]) -> Option<RowFields<'_>>
     ensures fields { MatchOption result (length (fields_of content.now) ≢ 5)
         (λ row. fields_of content.now ≡ fields_in row) }
@@ -69,8 +69,8 @@ fn para_level(field: &[u8]) -> Option<ParaLevel>
     }
 }
 
-/// Reads a row's text and the lists that it claims, and hands out the direction that it asks for and the level of the
-/// first paragraph that it claims.
+/// Reads the text of a row and its expected lists. Returns the row's direction and the expected level of the first
+/// paragraph.
 pub fn read_characters_row(
     content: &[u8],
     tables: &Tables,

@@ -1,13 +1,13 @@
-//! What a row claims.
+//! What a row expects.
 use units::bracket::Unit;
 use units::level::{Direction, Level, ParaLevel};
 
-/// A row's text, the directions that it is laid out under, and what is claimed of each layout.
+/// The text of a row, the directions of its cases, and the layout that the row expects under each of them.
 #[derive(Clone, Copy)]
 pub struct Claim<'a> {
     pub text: &'a [Unit],
     pub directions: &'a [Direction],
-    /// The level of the first paragraph; rows of classes claim none.
+    /// The expected level of the first paragraph; rows of classes have none.
     pub para_level: Option<ParaLevel>,
     pub levels: &'a [Option<Level>],
     pub order: &'a [usize],

@@ -11,7 +11,7 @@ use units::bracket::Unit;
 use units::level::Direction;
 use units::text::cut::two_fields;
 
-/// Reads a row's text into the list, and hands out its directions.
+/// Reads the text of a row into the list, and returns the row's directions.
 pub fn read_classes_row(content: &[u8], text: &mut Vec<Unit>) -> Result<&'static [Direction], Cause>
     requires { length content.now ≤ 2 * vec_capacity text.old }
     ensures row { row_read result text.new.items ≡ classes_row (fields_of content.now) }

@@ -1,4 +1,4 @@
-//! Claims compared with layouts.
+//! Comparison of expected layouts with those that the rules give.
 ghost use Rattle.std.specs.Prelude.{◌≡◌, ◌≤◌, List, None, Some, [], ◌∷◌, length, map, nat_eq, MatchOption, IfSome};
 ghost use Rattle.std.specs.Prelude.{IsSome};
 ghost use Rattle.std.specs.Option.{option_map};
@@ -25,7 +25,7 @@ use lines::scratch::Scratch;
 use units::level::{Direction, Level, ParaLevel};
 use units::limits::Limits;
 
-/// Whether no level is claimed, or that of the first paragraph.
+/// Returns whether the expected level is that of the first paragraph; it is also true if no level is expected.
 pub fn agrees_with(claimed: Option<ParaLevel>, defined: &[ParaLevel]) -> bool
     ensures { result ≡ agrees (option_map level_of_para claimed) (first_of (map level_of_para defined.now)) }
 {
@@ -36,7 +36,7 @@ pub fn agrees_with(claimed: Option<ParaLevel>, defined: &[ParaLevel]) -> bool
     }
 }
 
-/// The first index at which the lists differ or one of them ends.
+/// Returns the first index at which the lists differ or one of them ends.
 fn differing_level(claimed: &[Option<Level>], defined: &[Option<Level>]) -> Option<usize>
     ensures { result ≡ first_difference same_position claimed.now defined.now 0 }
 {
@@ -53,7 +53,7 @@ fn differing_level(claimed: &[Option<Level>], defined: &[Option<Level>]) -> Opti
     }
 }
 
-/// The first index of the line's order at which the claimed list differs or ends.
+/// Returns the first index of the line's order at which the expected list differs or ends.
 fn differing_position(claimed: &[usize], line: &[usize]) -> Option<usize>
     ensures { MatchOption result (GoesOnBehind claimed.now line.now) (DiffersAt claimed.now line.now) }
 {
@@ -65,7 +65,8 @@ fn differing_position(claimed: &[usize], line: &[usize]) -> Option<usize>
     None
 }
 
-/// The first index at which the claimed list and the orders of all lines, joined, differ or one of them ends.
+/// Returns the first index at which the expected list differs from the joined orders of all lines, or at which one of
+/// them ends.
 fn differing_order(claimed: &[usize], layout: &Layout<'_>) -> Option<usize>
     ensures { result ≡ first_difference nat_eq claimed.now (all_orders (view_of layout.now)) 0 }
 {
@@ -80,7 +81,7 @@ fn differing_order(claimed: &[usize], layout: &Layout<'_>) -> Option<usize>
     if at < claimed.len() { Some(at) } else { None }
 }
 
-/// No breaks.
+/// Returns an empty list of breaks.
 pub(crate) fn no_breaks(len: usize) -> Breaks<'static>
     ensures { result ≡ record { positions = []; len = len } }
 {
@@ -90,17 +91,18 @@ pub(crate) fn no_breaks(len: usize) -> Breaks<'static>
     }
 }
 
-/// How a claim compares with the layout of its text under one direction.
+/// The result of comparing a row with the layout of its text under one direction.
 #[derive(Clone, Copy)]
 pub enum Comparison {
-    /// They differ, first at this place.
+    /// They differ; this is the first place.
     Differs(Place),
-    /// They agree, and so does the layout under the other direction, if one is named, since it is the same; one is
-    /// named for a text of one paragraph.
+    /// They agree. If another direction is named, its layout is the same, so they agree under it too. For a text of one
+    /// paragraph one is named.
     Agrees { also_under: Option<Direction> },
 }
 
-/// The direction that gives the paragraph of a text of one paragraph the level that it has, whatever its classes are.
+/// Returns the direction that gives every paragraph the level of the text's only paragraph, or `None` if the text
+/// doesn't have exactly one.
 #[tactic(auto, unfolding(units::specs::Isolates::para_level_of))]
 pub(crate) fn direction_by_level(paras: &[ParaLevel]) -> Option<Direction>
     ensures level { IfSome result (λ direction. (classes : List Class)
@@ -114,7 +116,8 @@ pub(crate) fn direction_by_level(paras: &[ParaLevel]) -> Option<Direction>
     }
 }
 
-/// Compares a claim with a layout of its text, under whichever direction and by whichever limits it is.
+/// Compares a row with a layout of its text. The contract holds for each direction and all limits that give this
+/// layout.
 fn compare_with(claim: Claim<'_>, layout: &Layout<'_>) -> Comparison
     ensures { ComparesWith (view_of layout.now) result (claim_of claim.entry) }
 {
@@ -132,7 +135,7 @@ fn compare_with(claim: Claim<'_>, layout: &Layout<'_>) -> Comparison
     }
 }
 
-/// Compares a claim with the layout of its text under a direction.
+/// Compares a row with the layout of its text under a direction.
 fn compare(
     scratch: &mut Scratch,
     claim: Claim<'_>,
@@ -148,8 +151,8 @@ fn compare(
     compare_with(claim, &scratch.layout())
 }
 
-/// Judges a claim under each of its directions: the fault is the first of them under which it differs from the layout,
-/// and where. LTR or RTL is passed over where auto gave the same layout.
+/// Judges all cases of a row. On failure, returns the first direction under which the layout differs, and the place.
+/// LTR or RTL is skipped if auto gave the same layout.
 pub fn judge_claim(scratch: &mut Scratch, claim: Claim<'_>, limits: Limits) -> Result<(), LineFault>
     requires { length claim.text.now ≤ room_of scratch.old }
     ensures fault { result_err result ≡ line_fault_of limits (Row (claim_of claim.entry)) }

@@ -6,7 +6,7 @@ ghost use Rattle.bidtests.specs.Readings.{MatchesNow};
 use units::level::Direction;
 use units::text::number::number;
 
-/// The directions that a number of 1 to 15 names, in the order auto, LTR, RTL, AutoRtl.
+/// Returns the directions that a number of 1 to 15 names, in the order auto, LTR, RTL, AutoRtl.
 pub fn directions(field: &[u8]) -> Option<&'static [Direction]>
     ensures named { MatchesNow result (directions_named field.now) }
     ensures few { IfSome result (λ ds. length ds.now ≤ 4) }
@@ -32,7 +32,7 @@ pub fn directions(field: &[u8]) -> Option<&'static [Direction]>
     }
 }
 
-/// The direction alone.
+/// Returns a list of only this direction.
 pub fn alone(direction: Direction) -> &'static [Direction]
     ensures { result.now ≡ direction ∷ [] }
 {

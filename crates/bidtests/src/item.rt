@@ -1,4 +1,4 @@
-//! Items of lists, and lists read into reserved room.
+//! Items of lists, and reading of lists into reserved capacity.
 ghost use Rattle.std.specs.Prelude.{◌≡◌, ◌+◌, ◌*◌, ◌≤◌, Option, List, ℕ, length, vec_capacity};
 ghost use Rattle.units.specs.Text.{items_of, each_read};
 ghost use Rattle.ucdfiles.specs.PairFiles.{char_of};
@@ -15,7 +15,7 @@ use units::text::code_point::code_point;
 use units::text::items::next_item;
 use units::text::number::number;
 
-/// How an item of a list is read.
+/// Reads one item of a list.
 pub trait ReadsItem<T> {
     ghost reading: { Self → List ℕ → Option T };
 
@@ -23,7 +23,7 @@ pub trait ReadsItem<T> {
         ensures { result ≡ reading self.now item.now };
 }
 
-/// `x`, or a level.
+/// Reads `x` or a level.
 #[derive(Drop)]
 pub struct LevelItems;
 
@@ -39,7 +39,7 @@ impl ReadsItem<Option<Level>> for LevelItems {
     }
 }
 
-/// A position.
+/// Reads a position.
 #[derive(Drop)]
 pub struct OrderItems;
 
@@ -52,7 +52,7 @@ impl ReadsItem<usize> for OrderItems {
     }
 }
 
-/// The short name of a class.
+/// Reads the short name of a class.
 #[derive(Drop)]
 pub struct ClassItems;
 
@@ -68,13 +68,13 @@ impl ReadsItem<Unit> for ClassItems {
     }
 }
 
-/// A code point that is no surrogate, as the unit that the tables give it.
+/// Reads a code point that is not a surrogate, and returns the unit that the tables give it.
 #[derive(Drop)]
 pub struct CharacterItems<'t> {
     pub tables: &'t Tables,
 }
 
-/// A code point that is no surrogate.
+/// Reads a code point that is not a surrogate.
 pub fn character(item: &[u8]) -> Option<char>
     ensures { result ≡ char_of item.now }
 {
@@ -89,7 +89,8 @@ impl<'t> ReadsItem<Unit> for CharacterItems<'t> {
     }
 }
 
-/// Reads a field's items into the list, as far as they can be read.
+/// Replaces the list by the items of a field. If an item can't be read, returns `false`; the list then has the items
+/// before it.
 pub fn read_items<T: Copy, R: ReadsItem<T>>(reader: &R, mut field: &[u8], list: &mut Vec<T>) -> bool
     requires { length field.now ≤ 2 * vec_capacity list.old }
     ensures read { if_read result list.new.items ≡ each_read (R.reading reader.now) (items_of field.now) }

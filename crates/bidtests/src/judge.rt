@@ -15,9 +15,9 @@ use ucdfiles::tables::Tables;
 use units::limits::Limits;
 use units::memory::Memory;
 
-/// Judges the bytes of a test file, in whatever pieces they come. It holds one line, one row's text and the lists in
-/// force, and stops judging at the first no. Contracts say by which limits it lays out, and which bytes it stands for:
-/// those that were handed over, joined.
+/// Judges the bytes of a test file, in pieces of any size. It stores one line, the text of one row and the lists in
+/// force, and stops judging at the first line that is malformed or wrong. Contracts state the limits of its layouts and
+/// the bytes that it has judged: all bytes passed to it, joined.
 #[derive(Drop)]
 pub struct Judge<'t> {
     kind: Kind<'t>,
@@ -33,32 +33,32 @@ impl<'t> Model for Judge<'t> {
 }
 
 impl<'t> Judge<'t> {
-    /// A judge of a BidiTest.txt, before its first byte, by the standard limits. All memory is taken here: `Memory`
-    /// is answered where some of it was refused.
+    /// Creates a judge of a BidiTest.txt, with the standard limits, before the first byte. Only this call allocates; it
+    /// fails with `Memory` if an allocation fails.
     pub fn for_classes(alloc: Global) -> Result<Judge<'static>, Memory>
         ensures { IfOk result (λ judge. Judges standard FileKind.Classes judge []) }
     {
         Judge::for_classes_with(alloc, Limits::standard())
     }
 
-    /// A judge of a BidiTest.txt, before its first byte, that lays out by these limits. All memory is taken here:
-    /// `Memory` is answered where some of it was refused.
+    /// Creates a judge of a BidiTest.txt that lays out with these limits, before the first byte. Only this call
+    /// allocates; it fails with `Memory` if an allocation fails.
     pub fn for_classes_with(alloc: Global, limits: Limits) -> Result<Judge<'static>, Memory>
         ensures { IfOk result (λ judge. Judges limits FileKind.Classes judge []) }
     {
         Judge::of_kind(alloc, Kind::Classes, limits)
     }
 
-    /// A judge of a BidiCharacterTest.txt, before its first byte, by the standard limits; the units of its code
-    /// points come from the tables. All memory is taken here: `Memory` is answered where some of it was refused.
+    /// Creates a judge of a BidiCharacterTest.txt, with the standard limits, before the first byte. The tables give the
+    /// unit of each code point. Only this call allocates; it fails with `Memory` if an allocation fails.
     pub fn for_characters(alloc: Global, tables: &'t Tables) -> Result<Judge<'t>, Memory>
         ensures { IfOk result (λ judge. Judges standard (FileKind.Characters tables.entry) judge []) }
     {
         Judge::for_characters_with(alloc, tables, Limits::standard())
     }
 
-    /// A judge of a BidiCharacterTest.txt, before its first byte, that lays out by these limits; the units of its
-    /// code points come from the tables. All memory is taken here: `Memory` is answered where some of it was refused.
+    /// Creates a judge of a BidiCharacterTest.txt that lays out with these limits, before the first byte. The tables
+    /// give the unit of each code point. Only this call allocates; it fails with `Memory` if an allocation fails.
     pub fn for_characters_with(
         alloc: Global,
         tables: &'t Tables,
@@ -76,8 +76,8 @@ impl<'t> Judge<'t> {
         Ok(Judge { kind, state })
     }
 
-    /// Hands over the next bytes of the file, as many or as few as there are: where pieces begin and end changes
-    /// nothing. Once a no is decided, further bytes change nothing. It takes no memory and always succeeds.
+    /// Judges the next bytes of the file. The sizes of the pieces change nothing, and bytes after the first line that
+    /// is malformed or wrong change nothing. It allocates no memory and always succeeds.
     pub fn feed(&mut self, piece: &[u8])
         ensures { (limits : LimitsOf) (kind : FileKind) (b : List ℕ) → Judges limits kind self.old b
             → Judges limits kind self.new (b ++ piece.now) }
@@ -85,9 +85,9 @@ impl<'t> Judge<'t> {
         self.state.feed(self.kind, piece);
     }
 
-    /// The verdict on all bytes that were handed over, as the whole file: that of the first line that is malformed or
-    /// holds a wrong case, or yes with the numbers of rows and cases. What it says of the file is so, and no other
-    /// verdict would be (`laws::verdict_law`). It takes no memory and always succeeds.
+    /// Returns the verdict on all bytes passed so far, as the whole file. It reports the first line that is malformed
+    /// or has a wrong case, or else the numbers of rows and cases. What it states of the file is true, and no other
+    /// verdict would be (`laws::verdict_law`). It allocates no memory and always succeeds.
     pub fn finish(self) -> Verdict
         ensures verdict { (limits : LimitsOf) (kind : FileKind) (b : List ℕ) → Judges limits kind self.entry b
             → result ≡ verdict_of limits kind b }

@@ -2,11 +2,11 @@
 
 use ucdfiles::tables::Tables;
 
-/// What a file's rows hold.
+/// The kind of a test file.
 #[derive(Clone, Copy)]
 pub enum Kind<'t> {
-    /// A BidiTest.txt: its rows are lists of classes.
+    /// A BidiTest.txt: each row lists classes.
     Classes,
-    /// A BidiCharacterTest.txt: its rows are lists of code points, whose units come from these tables.
+    /// A BidiCharacterTest.txt: each row lists code points, whose units come from these tables.
     Characters(&'t Tables),
 }

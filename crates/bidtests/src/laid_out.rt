@@ -1,4 +1,4 @@
-// Texts laid out under one direction after another.
+// Layouts of one text under several directions.
 ghost use Rattle.std.specs.Prelude.{◌≡◌, ◌≤◌, Some, length, IfSome, IsSome};
 ghost use Rattle.lines.specs.Scratches.{layout_in, room_of};
 ghost use Rattle.bidtests.specs.LaidOut.{IsLaidOut};
@@ -10,7 +10,7 @@ use units::bracket::Unit;
 use units::level::Direction;
 use units::limits::Limits;
 
-/// Lays out a text, and answers another direction under which its layout is the same, if one is known.
+/// Lays out a text, and returns another direction under which the layout is the same, if one is known.
 fn lay_out_under(
     scratch: &mut Scratch,
     text: &[Unit],
@@ -28,9 +28,9 @@ fn lay_out_under(
     direction_by_level(scratch.layout().para_levels())
 }
 
-/// Lays out a text under a direction, without breaks and by these limits, unless the scratch holds that layout: the
-/// direction is handed over under which it holds one, if it does. The answer is another direction under which the
-/// layout is the same, for the next call; of a text of one paragraph such a one is known.
+/// Lays out a text under a direction, without breaks and with these limits. The caller passes a direction under which
+/// the scratch has the layout of this text, if there is one; if it is the same direction, the layout is reused. Returns
+/// another direction under which the layout is the same, for the next call. It is known for a text of one paragraph.
 pub fn lay_out_anew(
     scratch: &mut Scratch,
     text: &[Unit],

@@ -1,21 +1,27 @@
-//! The law of the verdicts.
+//! The theorem on the verdicts.
 ghost use Rattle.std.specs.Prelude.{ℕ, List};
 ghost use Rattle.units.specs.Limits.{LimitsOf};
 ghost use Rattle.bidtests.specs.declared.kind.Kind.{Kind};
 ghost use Rattle.bidtests.specs.FileKinds.{findings_by};
 ghost use Rattle.bidtests.specs.Headline.{ComeTo, YesIsExact, MalformedIsExact, WrongIsExact};
 
-/// What the verdicts on the files of both kinds say, for each choice of limits.
+/// States what the verdicts on files of both kinds mean, for all limits.
 ///
-/// `yes`: with these numbers of rows and cases, at most 2^64 - 1, exactly if no line is malformed and each row's
-/// claim is, for each direction that it names, the layout of its text by the rules P1 to L2: the level of the first
-/// paragraph where it claims one, the levels, and the orders of the lines, joined. `malformed`: with this line's
-/// number and cause exactly if the line is malformed for this cause, and no earlier line is malformed or wrong.
-/// `wrong`: with this line's number, direction and place exactly if the line is a row that is well formed and names
-/// the direction, the place is the first of the paragraph's level, the levels and the order at which its claim
-/// differs from the layout, and neither an earlier line nor an earlier one of its directions, in the order auto, LTR,
-/// RTL, AutoRtl, is malformed or wrong. `line`: there are as many findings as lines, and what these say of a line
-/// is what it comes to by itself and, in a BidiTest.txt, by the lists in force behind the lines before it.
+/// `yes`: The verdict is `Yes` with these numbers of rows and cases, at most 2^64 - 1, exactly if no line is malformed
+/// and each row is right under each direction that it names. A row is right if what it expects is the layout of its
+/// text by the rules P1 to L2: the level of the first paragraph, if the row has one, the levels, and the joined orders
+/// of the lines.
+///
+/// `malformed`: The verdict is `Malformed` with this number and cause exactly if the line of this number is malformed
+/// for this cause, and no earlier line is malformed or wrong.
+///
+/// `wrong`: The verdict is `Wrong` with this number, direction and place exactly if the line of this number is a
+/// well-formed row that names the direction, and its layout first differs from the expected one at this place. Places
+/// are compared in the order paragraph level, levels, order. No earlier line is malformed or wrong, and the row is
+/// right under its earlier directions, in the order auto, LTR, RTL, AutoRtl.
+///
+/// `line`: There are as many findings as lines. The finding at an index is that of the line at this index. In a
+/// BidiTest.txt it depends also on the lists in force after the lines before it.
 pub fn verdict_law()
     ensures line { (kind : Kind) (lines : List (List ℕ)) → ComeTo kind lines (findings_by kind lines) }
     ensures yes { (limits : LimitsOf) (kind : Kind) (b : List ℕ) → YesIsExact limits kind b }

@@ -3,12 +3,12 @@
 use crate::verdict::{Cause, Place, Verdict};
 use units::level::Direction;
 
-/// What is wrong with a line of a test file, whatever its number is.
+/// What is wrong with a line of a test file, apart from its number.
 #[derive(Clone, Copy, Debug, PartialEq, Eq)]
 pub enum LineFault {
-    /// Of its form: it is malformed, for this cause.
+    /// The line is malformed, for this cause.
     OfForm(Cause),
-    /// Of a case: it is a row that is wrong under this direction, first at this place.
+    /// The line is a row that is wrong under this direction; this is the first wrong place.
     OfCase(Direction, Place),
 }
 
@@ -27,7 +27,7 @@ impl LineFault {
     ghost use Rattle.std.specs.Prelude.{◌≡◌};
     ghost use Rattle.bidtests.specs.LineFaults.{no_with};
 
-    /// The no of a file whose line of this number it is.
+    /// Returns the failing verdict on a file whose first bad line has this number.
     pub fn no(self, line: u64) -> Verdict
         ensures { result ≡ no_with line self }
     {

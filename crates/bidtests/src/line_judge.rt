@@ -1,4 +1,4 @@
-// Lines judged one behind the other.
+// Judging of lines, one after the other.
 ghost use Rattle.std.specs.Prelude.{◌≡◌, ◌≤◌, IfOk, OnOk, length};
 ghost use Rattle.std.specs.Result.{result_err};
 ghost use Rattle.units.specs.Text.{longest_line};
@@ -16,7 +16,8 @@ use std::marker::Model;
 use units::limits::Limits;
 use units::memory::Memory;
 
-/// Judges lines, one behind the other: the limits and the room for layouts, what reads the lines, and the counts.
+/// Judges lines, one after the other. It has the limits and the `Scratch` for layouts, the reader of lines, and the
+/// counts.
 #[derive(Drop)]
 pub struct LineJudge {
     limits: Limits,
@@ -49,7 +50,7 @@ impl Model for LineJudge {
 impl LineJudge {
     ghost use Rattle.bidtests.specs.Carried.{at_start, no_at, after_line, comes_to_behind, with_right_row};
 
-    /// Before the first line.
+    /// Creates a judge before the first line.
     pub fn new(alloc: Global, limits: Limits) -> Result<Self, Memory>
         ensures { IfOk result (λ judge. judge ≡ at_start limits) }
     {
@@ -64,7 +65,7 @@ impl LineJudge {
         })
     }
 
-    /// Counts a row that is right, and its cases.
+    /// Counts a right row and its cases.
     fn count(&mut self, cases: usize)
         ensures { self.new ≡ with_right_row cases self.old }
     {
@@ -72,7 +73,7 @@ impl LineJudge {
         self.cases = self.cases.saturating_add(cases as u64);
     }
 
-    /// Judges a line of a file of this kind by what the lines before it said.
+    /// Judges the next line of a file of this kind, with the lists in force after the lines before it.
     fn judge(&mut self, kind: Kind<'_>, line: &[u8]) -> Result<(), LineFault>
         requires { length line.now ≤ longest_line }
         ensures fault { result_err result
@@ -87,8 +88,8 @@ impl LineJudge {
         Ok(())
     }
 
-    /// Judges the line of this number of a file of this kind by what the lines before it said. The error is the no
-    /// that it gives.
+    /// Judges the line of this number of a file of this kind, with the lists in force after the lines before it. The
+    /// error is the failing verdict.
     pub fn judge_line(&mut self, kind: Kind<'_>, number: u64, line: &[u8]) -> Result<(), Verdict>
         requires { length line.now ≤ longest_line }
         ensures no { result_err result ≡ no_at kind.entry self.old number line.now }
@@ -97,7 +98,7 @@ impl LineJudge {
         self.judge(kind, line).map_err(|fault| fault.no(number))
     }
 
-    /// The yes that this is where no line is left.
+    /// Returns the verdict `Yes` with the counts so far: the verdict if no line follows.
     pub fn yes(&self) -> Verdict
         ensures { result ≡ Verdict.Yes self.now.rows self.now.cases }
     {

@@ -1,4 +1,4 @@
-//! Lines of a test file read one behind the other: what each says or claims, by the grammar of its kind.
+//! Reading of the lines of a test file, one after the other, by the grammar of its kind.
 ghost use Rattle.std.specs.Prelude.{◌≡◌, ◌≤◌, IfOk, IfSome, IsNone, IsSome, OnOk, length, vec_capacity};
 ghost use Rattle.units.specs.Text.{fields_of, longest_line};
 ghost use Rattle.bidtests.specs.ClassesFile.{classes_line, directive, levels_said, order_said, classes_row};
@@ -21,21 +21,21 @@ use units::level::{Direction, Level, ParaLevel};
 use units::memory::Memory;
 use units::text::trim::content;
 
-/// The units that a text may have: as many as a line has room for, since an item takes two bytes with the blank
-/// before it.
+/// The maximum number of units of a text: a line has at most 65,536 bytes, and each item takes at least two of them,
+/// with the blank before it.
 pub const MOST_UNITS: usize = 32_768;
 
-/// What a row says beside its text and the lists that it claims, which its reader holds.
+/// What a row has besides its text and its expected lists, which the reader stores.
 #[derive(Clone, Copy)]
 pub struct Asked {
     /// The directions that the row names, each once, in the order auto, LTR, RTL, AutoRtl.
     pub directions: &'static [Direction],
-    /// The level of the first paragraph that it claims; rows of classes claim none.
+    /// The expected level of the first paragraph; rows of classes have none.
     pub para_level: Option<ParaLevel>,
 }
 
-/// Reads lines, one behind the other: the text of the row that was read last, and the lists in force or those of
-/// that row.
+/// Reads lines, one after the other. It stores the text of the row that was read last, and the lists in force or those
+/// of that row.
 #[derive(Drop)]
 pub struct LineReader {
     text: Vec<Unit>,
@@ -64,7 +64,7 @@ impl Model for LineReader {
         × (MOST_UNITS ≤ vec_capacity s.levels) × (MOST_UNITS ≤ vec_capacity s.order) };
 }
 
-// A list without items, with room for those of a row.
+// Returns an empty list with capacity for the items of a row.
 fn list<T: Copy>(alloc: Global) -> Result<Vec<T>, Memory>
     ensures { IfOk result (λ list. MOST_UNITS ≤ vec_capacity list) }
 {
@@ -76,7 +76,7 @@ impl LineReader {
     ghost use Rattle.bidtests.specs.LineReadings.{finding_behind, HasListed, HasNoList, IsBehindLine};
     ghost use Rattle.bidtests.specs.Readings.{claim_of};
 
-    /// Before the first line.
+    /// Creates a reader before the first line.
     pub fn new(alloc: Global) -> Result<Self, Memory>
         ensures { IfOk result HasNoList }
     {
@@ -92,7 +92,7 @@ impl LineReader {
         })
     }
 
-    /// Puts the levels in force that `@Levels:` lists.
+    /// Reads the levels of `@Levels:`, which are then in force.
     fn set_levels(&mut self, field: &[u8]) -> Result<Option<Asked>, Cause>
         requires { length field.now ≤ longest_line }
         ensures found { finding_read result self.new ≡ finding_said self.old (levels_said field.now) }
@@ -107,7 +107,7 @@ impl LineReader {
         }
     }
 
-    /// Puts the order in force that `@Reorder:` lists.
+    /// Reads the order of `@Reorder:`, which is then in force.
     fn set_order(&mut self, field: &[u8]) -> Result<Option<Asked>, Cause>
         requires { length field.now ≤ longest_line }
         ensures found { finding_read result self.new ≡ finding_said self.old (order_said field.now) }
@@ -140,7 +140,7 @@ impl LineReader {
         }
     }
 
-    /// Reads a row of classes, which claims the lists in force.
+    /// Reads a row of classes, which expects the lists in force.
     fn read_classes(&mut self, content: &[u8]) -> Result<Option<Asked>, Cause>
         requires { length content.now ≤ longest_line }
         ensures found { finding_read result self.new
@@ -182,7 +182,6 @@ impl LineReader {
         }))
     }
 
-    /// Reads a line of a classes file.
     fn read_classes_line(&mut self, line: &[u8]) -> Result<Option<Asked>, Cause>
         requires { length line.now ≤ longest_line }
         ensures found { finding_read result self.new ≡ finding_said self.old (classes_line line.now) }
@@ -200,7 +199,7 @@ impl LineReader {
         }
     }
 
-    /// Reads a line of a characters file, in which no list is in force.
+    /// Reads a line of a characters file, which has no lists in force.
     fn read_characters_line(&mut self, line: &[u8], tables: &Tables) -> Result<Option<Asked>, Cause>
         requires { length line.now ≤ longest_line }
         ensures found { finding_read result self.new ≡ characters_line (unit_by tables.now) line.now }
@@ -218,8 +217,8 @@ impl LineReader {
         }
     }
 
-    /// Reads a line of a file of this kind behind those that were read before it: nothing, or the row that it is, whose
-    /// text and lists are then held (`claim`). The error is the cause for which it is malformed.
+    /// Reads the next line of a file of this kind. Returns the row, if the line is one; its text and its lists are then
+    /// in the reader (`claim`). The error is the cause for which the line is malformed.
     pub fn read_line(&mut self, kind: Kind<'_>, line: &[u8]) -> Result<Option<Asked>, Cause>
         requires { length line.now ≤ longest_line }
         ensures found { finding_read result self.new ≡ finding_behind kind.entry self.old line.now }
@@ -233,7 +232,7 @@ impl LineReader {
         }
     }
 
-    /// What the row claims that was read last, which asked for this.
+    /// Returns what the row that was read last expects. The caller must pass what `read_line` returned for it.
     pub fn claim(&self, asked: Asked) -> Claim<'_>
         ensures { claim_of result ≡ claim_in self.now asked }
     {

@@ -1,4 +1,4 @@
-//! Files judged as they are read.
+//! Judging of files as they are read.
 ghost use Rattle.std.specs.Prelude.{◌≡◌, ◌↔◌, ℕ, List, IfOk, OnOk, IsErr};
 ghost use Rattle.bidtests.specs.JudgedSoFar.{IsVerdictBehind};
 
@@ -6,13 +6,13 @@ use crate::judge::Judge;
 use crate::verdict::Verdict;
 use units::source::ByteSource;
 
-/// The source failed, so there is no verdict.
+/// The error if the source failed, so that there is no verdict.
 #[derive(Clone, Copy, Debug, PartialEq, Eq)]
 pub struct ReadFault;
 
-/// Reads the source to its end and judges what it handed out, behind what the judge was handed before. It reads on
-/// behind a no. The fault comes exactly if the source has failed, in this call or before it; no verdict on part of a
-/// file is given. It reads 4,096 bytes at a time and takes no memory.
+/// Reads the source to its end and judges its bytes, after those that the judge was given before. It reads to the end
+/// even if a line is malformed or wrong. It fails exactly if the source has failed, in this call or before it, so it
+/// never returns a verdict on part of a file. It reads 4,096 bytes at a time and allocates no memory.
 pub fn judge_reader<S: ByteSource>(
     mut judge: Judge<'_>,
     source: &mut S,

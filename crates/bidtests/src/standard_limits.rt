@@ -1,4 +1,4 @@
-//! What the limits of the standard make of the verdicts.
+//! The verdicts with the standard limits.
 ghost use Rattle.std.specs.Prelude.{◌≡◌, ℕ, List};
 ghost use Rattle.units.specs.Limits.{standard};
 ghost use Rattle.bidtests.specs.FileKinds.{verdict_of};
@@ -7,8 +7,7 @@ ghost use Rattle.bidtests.specs.declared.kind.Kind.{Kind as FileKind};
 
 use units::limits::standard_limits_are_the_standard;
 
-/// With the limits of the standard each file has the verdict by the layouts in whose rules the numbers 125 and 63
-/// stand.
+/// With the standard limits, each file has the verdict of the layouts whose rules use the numbers 125 and 63.
 pub fn standard_limits_judge_as_the_standard()
     ensures { (kind : FileKind) (bytes : List ℕ) → verdict_of standard kind bytes ≡ standard_verdict_of kind bytes }
 {

@@ -1,4 +1,4 @@
-//! What a judge has come to, apart from the tables that it borrows.
+//! The state of a judge, without the tables that the judge borrows.
 ghost use Rattle.std.specs.Prelude.{◌≡◌, ◌≤◌, ℕ, List, [], Option, IfOk, IfSome, OnOk, length};
 ghost use Rattle.std.specs.Result.{result_err};
 ghost use Rattle.units.specs.LineAnswers.{CutIsShort};
@@ -18,9 +18,9 @@ use units::limits::Limits;
 use units::line_cut::{Cut, LineCut};
 use units::memory::Memory;
 
-/// What a judge has come to, for a caller that keeps it while it borrows no tables: each call is handed the kind of
-/// file again, with the same tables. It keeps the limits by which it lays out. Contracts say which bytes it stands
-/// for: those that were handed over, joined.
+/// The state of a judge, for a caller that stores it while it borrows no tables. The caller must pass the same kind of
+/// file, with the same tables, to each call. The state has the limits of its layouts. Contracts state the bytes that it
+/// has judged: all bytes passed to it, joined.
 #[derive(Drop)]
 pub struct JudgeState {
     cutter: LineCut,
@@ -36,7 +36,7 @@ impl Model for JudgeState {
     ghost view = { λ s. record { cutting = s.cutter; carried = s.line_judge; decided = s.decided } };
 }
 
-/// Judges the line that a cut ends, if it ends one. The error is the no that it gives.
+/// Judges the line that a cut ends, if it ends one. The error is the failing verdict.
 fn judge_cut(kind: Kind<'_>, line_judge: &mut LineJudge, taken: Cut<'_>) -> Result<(), Verdict>
     requires { CutIsShort taken }
     ensures no { result_err result ≡ no_by kind.entry line_judge.old taken.entry }
@@ -53,7 +53,7 @@ fn judge_cut(kind: Kind<'_>, line_judge: &mut LineJudge, taken: Cut<'_>) -> Resu
     }
 }
 
-/// Judges the line that has begun, if one has.
+/// Judges the last line, if it has no LF, and returns the verdict.
 fn judge_last(kind: Kind<'_>, line_judge: &mut LineJudge, last: Option<(u64, &[u8])>) -> Verdict
     requires { IfSome last (λ line. length line.1.now ≤ longest_line) }
     ensures { result ≡ verdict_behind kind.entry line_judge.old last.entry }
@@ -67,8 +67,8 @@ fn judge_last(kind: Kind<'_>, line_judge: &mut LineJudge, last: Option<(u64, &[u
 }
 
 impl JudgeState {
-    /// Before the first byte of a file of either kind, to lay out by these limits. All memory is taken here: `Memory`
-    /// is answered where some of it was refused.
+    /// Creates a state before the first byte of a file of either kind, which lays out with these limits. Only this call
+    /// allocates; it fails with `Memory` if an allocation fails.
     pub fn new(alloc: Global, limits: Limits) -> Result<JudgeState, Memory>
         ensures { IfOk result (λ state. (tables : Option TablesOf) → HoldsFor limits tables state []) }
     {
@@ -79,8 +79,8 @@ impl JudgeState {
         })
     }
 
-    /// Hands over the next bytes of a file of this kind, as many or as few as there are: where pieces begin and end
-    /// changes nothing. Once a no is decided, further bytes change nothing. It takes no memory and always succeeds.
+    /// Judges the next bytes of a file of this kind. The sizes of the pieces change nothing, and bytes after the first
+    /// line that is malformed or wrong change nothing. It allocates no memory and always succeeds.
     pub fn feed(&mut self, kind: Kind<'_>, piece: &[u8])
         ensures { TakesIn (tables_of kind.entry) self.old piece.now self.new }
     {
@@ -95,8 +95,8 @@ impl JudgeState {
         }
     }
 
-    /// The verdict on all bytes that were handed over, as the whole of a file of this kind. It takes no memory and
-    /// always succeeds; what the state stands for afterwards isn't said.
+    /// Returns the verdict on all bytes passed so far, as the whole of a file of this kind. It allocates no memory and
+    /// always succeeds. Contracts state nothing about the state after this call.
     pub fn finish(&mut self, kind: Kind<'_>) -> Verdict
         ensures { (limits : LimitsOf) (b : List ℕ) → HoldsFor limits (tables_of kind.entry) self.old b
             → result ≡ verdict_of limits kind.entry b }

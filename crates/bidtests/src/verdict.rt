@@ -1,4 +1,4 @@
-//! What a judge answers.
+//! The verdict of a judge.
 
 use units::level::Direction;
 
@@ -7,31 +7,31 @@ use units::level::Direction;
 pub enum Cause {
     /// The line has more than 65,536 bytes before its LF.
     LineTooLong,
-    /// A content begins with `@`, and with none of `@Levels:`, `@Reorder:` and `@Type:`.
+    /// A content begins with `@`, but with none of `@Levels:`, `@Reorder:` and `@Type:`.
     Directive,
     /// An item of a list of levels is neither `x` nor a number of 0 to 126.
     LevelItem,
-    /// An item of an order is no number of 0 to 65,535.
+    /// An item of an order is not a number of 0 to 65,535.
     OrderItem,
-    /// An item of a row is no short name of a class.
+    /// An item of a row is not the short name of a class.
     ClassItem,
-    /// The second field of a row is no number of 1 to 15.
+    /// The second field of a row is not a number of 1 to 15.
     BitSet,
-    /// No `@Levels:` line or no `@Reorder:` line stands before the row.
+    /// There is no `@Levels:` line or no `@Reorder:` line before the row.
     NoExpectation,
-    /// A data line has another number of fields than the file's kind has.
+    /// A row doesn't have as many fields as the file's kind has.
     FieldCount,
-    /// An item is no code point, or a surrogate.
+    /// An item is not a code point, or it is a surrogate.
     CodePoint,
-    /// The direction field is none of `0`, `1`, `2` and `3`.
+    /// The direction field is not `0`, `1`, `2` or `3`.
     DirectionField,
     /// The paragraph level field is neither `0` nor `1`.
     ParaField,
-    /// A row has no item.
+    /// A row has no items.
     EmptyRow,
 }
 
-/// Where a claim differs from the layout.
+/// Where the layout of a row differs from the expected one.
 #[derive(Clone, Copy, Debug, PartialEq, Eq)]
 pub enum Place {
     /// The level of the first paragraph.
@@ -45,17 +45,17 @@ pub enum Place {
 /// The verdict on a test file.
 #[derive(Clone, Copy, Debug, PartialEq, Eq)]
 pub enum Verdict {
-    /// The file is well formed and each case is right; the numbers of its rows and cases, at most 2^64 - 1.
+    /// The file is well formed and each case is right. The numbers of rows and cases are at most 2^64 - 1.
     Yes {
         rows: u64,
         cases: u64,
     },
-    /// The first line that is malformed or wrong is malformed. Lines are numbered from 1.
+    /// This is the first line that is malformed or wrong, and it is malformed. Lines are numbered from 1.
     Malformed {
         line: u64,
         cause: Cause,
     },
-    /// The first line that is malformed or wrong holds a wrong case: its direction, and the first wrong place.
+    /// This is the first line that is malformed or wrong, and this is its first wrong case, with the first wrong place.
     Wrong {
         line: u64,
         direction: Direction,

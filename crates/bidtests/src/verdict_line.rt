@@ -1,4 +1,4 @@
-//! The line that says a verdict.
+//! The line of text for a verdict.
 ghost use Rattle.std.specs.Prelude.{◌≡◌, OnOk};
 ghost use Rattle.std.specs.Io.KnownBytes.{Appends};
 ghost use Rattle.bidtests.specs.VerdictText.{cause_name, direction_word, place_text, verdict_text};
@@ -8,7 +8,7 @@ use std::io;
 use std::io::Write;
 use units::level::Direction;
 
-/// The name of a cause, as it is printed.
+/// Returns the printed name of a cause.
 pub fn name_of_cause(cause: Cause) -> &'static str
     ensures { result.now ≡ cause_name cause }
 {
@@ -28,7 +28,7 @@ pub fn name_of_cause(cause: Cause) -> &'static str
     }
 }
 
-/// The word for a direction, as verdicts say it.
+/// Returns the printed word for a direction.
 pub fn word_of_direction(direction: Direction) -> &'static str
     ensures { result.now ≡ direction_word direction }
 {
@@ -40,7 +40,7 @@ pub fn word_of_direction(direction: Direction) -> &'static str
     }
 }
 
-/// Writes where a claim is wrong, and ends the line.
+/// Writes the place of a wrong case, and an LF.
 fn print_place<W: Write>(w: &mut W, place: Place) -> io::Result<()>
     ensures { OnOk result (Appends (W.contents w.old) (W.contents w.new) (place_text place)) }
 {
@@ -68,9 +68,9 @@ fn print_wrong<W: Write>(w: &mut W, line: u64, direction: Direction, place: Plac
     print_place(w, place)
 }
 
-/// Writes the line that says a verdict, with its LF: its numbers are decimal, lines of the file are counted from 1 and
-/// indices from 0. Takes no memory but what the writer takes. The error is the writer's; how much it took before is not
-/// known then.
+/// Writes the line for a verdict, with its LF. Numbers are decimal; lines of the file are counted from 1 and indices
+/// from 0. It allocates no memory, apart from what the writer allocates. It fails with the writer's error; the output
+/// may then be incomplete.
 pub fn print_verdict<W: Write>(w: &mut W, verdict: &Verdict) -> io::Result<()>
     ensures { OnOk result (Appends (W.contents w.old) (W.contents w.new) (verdict_text verdict.now)) }
 {

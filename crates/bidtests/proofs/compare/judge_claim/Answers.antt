@@ -8,13 +8,13 @@ use Rattle.bidtests.specs.Comparisons.{HasNoWrongPlace}
 use Rattle.bidtests.proofs.SameLayout.{passed-over}
 use Rattle.bidtests.proofs.compare.judge_claim.Goals as goal
 
--- what holds of the direction that is there holds of an equal one
+-- what holds of a direction, if there is one, holds of an equal one
 at-equal : (eq : Direction → Direction → Bool) (found : Option Direction) (d : Direction) (P : Direction → Type 0)
     → ((a b : Direction) → eq a b ≡ true → a ≡ b) → option_eq eq found (Some d) ≡ true → IfSome found P → P d
 at-equal eq None d P same is holds = absurd cc
 at-equal eq (Some e) d P same is holds = rw (← same e d is) holds
 
--- what holds of each direction that is there holds of the first of them
+-- what holds of each direction, if there is one, holds of the first of them
 of-first : (a b : Option Direction) (P : Direction → Type 0) → IfSome a P → IfSome b P → IfSome (option_or a b) P
 of-first None b P left right = right
 of-first (Some d) b P left right = left
