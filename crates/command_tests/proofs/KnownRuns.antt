@@ -1,4 +1,4 @@
--- Small files and a class, and what is printed of them.
+-- Small files and a class, and what is printed for them.
 use Rattle.std.specs.Prelude.{◌≡◌, ◌^◌, ◌-◌, ℕ, List, [], ◌∷◌, Option, None, Some, Result, Ok, Err, IfOk, is_ok, true, codes, refl}
 use Rattle.std.specs.Borrow.{Bor}
 use Rattle.std.specs.Char.{encode_utf8}
@@ -57,7 +57,7 @@ use Rattle.requests.specs.declared.outcome.Outcome.TheVariants.{Judged, Printed}
 abbrev pub whole_file : List ℕ → List ℕ → StoredFile
 whole_file name bytes = record { name = name; bytes = bytes; readable = 2 ^ 64 - 1 }
 
--- tables in which alef is R, no brackets and no mirror images, and a file of these bytes
+-- tables in which alef is R, without brackets and mirror images, and a file of these bytes
 abbrev pub files_with : List ℕ → Stored
 files_with bytes = record {
   files = whole_file (codes "t/DerivedBidiClass.txt") (codes "05D0 ; R\n") ∷ whole_file (codes "t/BidiBrackets.txt") []
@@ -65,7 +65,7 @@ files_with bytes = record {
   input = None;
 }
 
--- with a file of an alef
+-- the same with an alef in the file
 abbrev pub alef_files : Stored
 alef_files = files_with (215 ∷ 144 ∷ [])
 
@@ -73,7 +73,7 @@ alef_files = files_with (215 ∷ 144 ∷ [])
 abbrev alef_unit : BidiUnit
 alef_unit = record { class = R; bracket = No }
 
--- a text of it
+-- a text of an alef
 abbrev alef : List BidiUnit
 alef = alef_unit ∷ []
 
@@ -93,7 +93,7 @@ chars_row : chars (215 ∷ 144 ∷ []) ≡ 1488 ∷ []
 unfolding chars
 chars_row = refl
 
--- the classes stand in the folder itself
+-- the file of the classes is in the folder itself
 class_path_is : (bytes path : List ℕ) → IsClassPath (memory_facts (files_with bytes)) (codes "t") path → path ≡ in_folder (codes "t") class_name
 class_path_is bytes path (inl e) = e
 class_path_is bytes path (inr h) = let refused = h.1.0 in cc
@@ -145,7 +145,7 @@ line_of_alef folder before after f h =
     (alef_units h.tables stated) ∙ line_row (glyph_by h.tables.mirrors) image in
     subst (λ (bytes : List ℕ). Appends before after bytes) printed h.said
 
--- the class of a word that names ON
+-- the word ON names the class ON
 neutral_row : classes_named (codes "ON") ≡ Some (ON ∷ [])
 neutral_row = refl
 
@@ -177,14 +177,14 @@ line_of_verdict before after status h =
     let verdict : h.verdict ≡ Yes 1 1 = h.is ∙ ap (classes_verdict standard) h.read.0 ∙ verdict_row in
     subst (λ (bytes : List ℕ). Appends before after bytes) (ap verdict_text verdict ∙ text_row) h.said.line
 
--- a file of one row of characters, which is right: an alef, whose direction is found
+-- a file of one row of characters, which is right: an alef, under auto
 abbrev pub character_bytes : List ℕ
 character_bytes = codes "05D0;2;1;1;0\n"
 
 abbrev pub character_files : Stored
 character_files = files_with character_bytes
 
--- what its row claims of this unit
+-- what the row expects of this unit
 abbrev alef_claim : BidiUnit → Claim
 alef_claim unit = record { text = unit ∷ []; directions = Auto ∷ []; para_level = Some 1; levels = Some 1 ∷ []; order = 0 ∷ [] }
 
@@ -233,7 +233,7 @@ neutral_told : row_text 3 neutral_view ≡ neutral_row_explained
 unfolding layouts_compute columns_of rewritten implicit_of closers_of digits
 neutral_told = refl
 
--- nothing stands behind all bytes
+-- nothing follows all bytes
 none_behind : (bytes rest : List ℕ) → bytes ≡ bytes ++ rest → rest ≡ []
 none_behind [] rest e = sym e
 none_behind (x ∷ xs) rest e = none_behind xs rest cc
@@ -251,7 +251,7 @@ row_of_neutral number row before after e h said =
     let is : row ≡ neutral_view = let both = sym there ∙ neutral_found in cc in
     subst (λ (bytes : List ℕ). Appends before after bytes) (ap₂ row_text e is ∙ neutral_told) said
 
--- what was done over these files, as a request asks
+-- what each request over these files prints
 pub levels_done : (files : Stored) (folder file : Bor (List ℕ)) (before after : Option (List ℕ)) (outcome : Outcome) → files ≡ alef_files
     → folder.now ≡ codes "t" → file.now ≡ codes "FILE" → IsDone (memory_facts files) before after (Text (Folder folder) Auto file Levels) outcome
     → Appends before after (codes "paragraph 0 level 1\n0 05D0 R 1\n")
@@ -294,7 +294,7 @@ characters_verdict_done files folder file before after Printed e f g h = absurd 
 characters_verdict_done files folder file before after (Judged status) e f g h =
     line_of_characters_verdict folder before after status f (rw (e, g) at h)
 
--- of a result that is one
+-- what follows from a result that is `Ok`
 pub when_ok : (r : Result Outcome Fault) (P : Outcome → Type 0) (Q : Type 0) → is_ok r ≡ true → IfOk r P → ((o : Outcome) → P o → Q) → Q
 when_ok (Ok outcome) P Q e h f = f outcome h
 when_ok (Err fault) P Q e h f = cc

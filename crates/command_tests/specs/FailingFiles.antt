@@ -1,10 +1,10 @@
--- Files and standard input that all have the same bytes, of which a read fails behind the first.
+-- Files and standard input that all have the same bytes, and whose reads fail after them.
 use Rattle.std.specs.Prelude.{◌≡◌, ◌<◌, ℕ, List, ◌++◌, length}
 use Rattle.std.proofs.Common.{sym, ◌∙◌}
 use Rattle.units.specs.declared.unread.Unread.TheVariants.{TooLarge, Other}
 use Rattle.requests.specs.ReadFiles.{FileFacts}
 
--- nothing is said of any origin
+-- no facts about any origin
 abbrev pub no_facts : FileFacts
 no_facts = record { Refuses = λ _ _ _. ⊥; Begins = λ _ _ _. ⊥; Holds = λ _ _ _. ⊥; Fails = λ _ _ _ _. ⊥ }
 
@@ -12,7 +12,7 @@ no_facts = record { Refuses = λ _ _ _. ⊥; Begins = λ _ _ _. ⊥; Holds = λ 
 abbrev pub BeginsWith : List ℕ → List ℕ → Type 0
 BeginsWith bytes first = (rest : List ℕ) × (bytes ≡ first ++ rest)
 
--- what is said of such files, by the bytes that can be read
+-- the facts about such files, with the bytes that can be read
 abbrev pub failing_facts : List ℕ → FileFacts
 failing_facts readable = record {
   Refuses = λ origin most unread. (most < length readable) × (unread ≡ TooLarge);

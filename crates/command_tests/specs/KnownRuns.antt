@@ -1,4 +1,4 @@
--- What is printed of small files, and of a class.
+-- What is printed for small files, and for a class.
 use Rattle.std.specs.Prelude.{ℕ, List, [], ◌∷◌, ◌++◌, codes}
 
 -- alef and LF, in UTF-8
@@ -14,7 +14,7 @@ neutral_explained =
     ++ codes "sequence 0 level 0 sos L eos L: 0\n"
     ++ codes "order 0\n"
 
--- the row of a file whose third line has this neutral, under auto, whose level and place are claimed to be 0
+-- the row at the third line of a file, with this neutral, under auto, whose expected level and position are 0
 abbrev pub neutral_row_explained : List ℕ
 neutral_row_explained =
     codes "line 3: auto\n"

@@ -1,4 +1,4 @@
--- Files and standard input in memory: which of them an origin names, and what a source over it hands out.
+-- Files and standard input in memory: which of them an origin names, and which bytes a source over it gives.
 use Rattle.std.specs.Prelude.{◌≡◌, ◌+◌, ◌<◌, ◌≤◌, ℕ, min, List, ◌++◌, Option, None, Some, length, find}
 use Rattle.std.specs.Borrow.{Bor}
 use Rattle.std.specs.Io.KnownBytes.{Consumes, IsAtEnd}
@@ -20,12 +20,12 @@ pub record StoredFile : Type 0 where
 abbrev pub stored_file : Bor (List ℕ) → Bor (List ℕ) → ℕ → StoredFile
 stored_file name bytes readable = record { name = name.now; bytes = bytes.now; readable = readable }
 
--- files, and standard input where there is one
+-- files, and perhaps standard input
 pub record Stored : Type 0 where
   pub files : List StoredFile
   pub input : Option StoredFile
 
--- standard input, or the first file of the name
+-- standard input, or the first file with the name
 abbrev pub stored_at : Stored → Origin → Option StoredFile
 stored_at stored StandardInput = stored.input
 stored_at stored (FileNamed name) = find (λ file. bytes_eq file.name name) stored.files
@@ -35,7 +35,7 @@ abbrev pub FileBeginsWith : Option StoredFile → List ℕ → Type 0
 FileBeginsWith None bytes = ⊥
 FileBeginsWith (Some file) bytes = (rest : List ℕ) × (file.bytes ≡ bytes ++ rest)
 
--- these are the file's bytes, and no more than may be read
+-- these are the file's bytes, and they are not more than may be read
 abbrev pub IsWhole : Option StoredFile → ℕ → List ℕ → Type 0
 IsWhole None most bytes = ⊥
 IsWhole (Some file) most bytes = (bytes ≡ file.bytes) × (length bytes ≤ min most file.readable)
@@ -45,11 +45,11 @@ abbrev pub IsTooLarge : Option StoredFile → ℕ → Type 0
 IsTooLarge None most = ⊥
 IsTooLarge (Some file) most = min most file.readable < length file.bytes
 
--- a read fails behind these bytes, for this reason: if it is that the file is too large, it is
+-- a read fails after these bytes, for this reason; if the reason is that the file is too large, the file is
 abbrev pub FailsBehind : Option StoredFile → ℕ → List ℕ → Unread → Type 0
 FailsBehind file most bytes unread = FileBeginsWith file bytes × (unread ≡ TooLarge → IsTooLarge file most)
 
--- what is said of files and standard input in memory
+-- the facts about files and standard input in memory
 abbrev pub memory_facts : Stored → FileFacts
 memory_facts stored = record {
   Refuses = λ origin most unread. (stored_at stored origin ≡ None) × (unread ≡ Missing);
@@ -58,7 +58,7 @@ memory_facts stored = record {
   Fails = λ origin most bytes unread. FailsBehind (stored_at stored origin) most bytes unread;
 }
 
--- a source stands over the file, with its limit, and was not read yet
+-- the source is over the file, with its limit, and wasn't read yet
 abbrev pub IsOpenedOver : Option StoredFile → ℕ → Reading → Type 0
 IsOpenedOver None most source = ⊥
 IsOpenedOver (Some file) most source = (source.remaining ≡ Some file.bytes) × (source.left ≡ min most file.readable) × (source.state ≡ Open)
@@ -87,7 +87,7 @@ whole-gave (Some file) most opened now bytes stands given ended = (
   omega (arith, given.falls, stands.1),
 )
 
--- a source that has failed, and says that there was too much
+-- a source whose error is that there were too many bytes has failed with that state
 too_large : (state : State) → failures_of state ≡ 1 → unread_of state ≡ TooLarge → state ≡ Failed TooLarge
 too_large Open failed why = absurd (let bad : ⊥ = omega (arith, failed) in bad)
 too_large Ended failed why = absurd (let bad : ⊥ = omega (arith, failed) in bad)

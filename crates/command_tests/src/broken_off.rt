@@ -1,4 +1,4 @@
-//! Texts that are printed while they are read, up to where that breaks off, and piece by piece.
+//! Texts that are printed while they are read: up to the point at which that breaks off, and in pieces.
 use crate::command_lines::REORDER;
 use crate::failing_files::FailingFiles;
 use crate::memory_files::{MemoryFiles, cut, tables_and};
@@ -9,7 +9,7 @@ use std::alloc::Global;
 use std::process::Abort;
 use std::test::Fail;
 
-/// The words with which a text is printed, and what that prints of a paragraph of an a and an LF before all is read.
+/// The arguments for printing a text, and what is printed of a paragraph of an a and an LF before all is read.
 const ROWS: [(&'static [&'static str], &'static [u8]); 3] = [
     (
         &["bidi", "levels", "--tables", "t", "FILE"],
@@ -19,7 +19,7 @@ const ROWS: [(&'static [&'static str], &'static [u8]); 3] = [
     (&["bidi", "explain", "--tables", "t", "FILE"], b""),
 ];
 
-/// How a run ends that breaks off behind what it printed.
+/// Returns the ending of a run that breaks off after it printed this.
 fn breaks_off<'a>(printed: &'a [u8], line: &'a [u8]) -> Ending<'a> {
     Ending {
         status: 3,
@@ -66,7 +66,7 @@ fn prints_what_ended_before_a_read_that_passes_the_limit(rt: HostRuntime) -> Res
     Ok(())
 }
 
-/// That a read failed is said also behind bytes that are not UTF-8.
+/// A failed read is also reported after bytes that are not UTF-8.
 #[test]
 fn prints_what_ended_before_a_read_fails(rt: HostRuntime) {
     let rows: [(&[u8], &[u8]); 3] = [(b"a\nb", b"a\n"), (b"a\n\xff\n", b"a\n"), (b"a\xff", b"")];
@@ -85,7 +85,7 @@ fn hands_on_what_ended(rt: HostRuntime) {
     }
 }
 
-/// Prints a text to `out` as it is shown, by a run of the command.
+/// Prints a text to `out` as it is shown, with a run of the command.
 fn assert_reorder(rt: &impl Abort, alloc: Global, text: &[u8], out: &mut Vec<u8>) {
     let files = tables_and(text);
     let mut err = FixedWriter::new();
@@ -93,7 +93,8 @@ fn assert_reorder(rt: &impl Abort, alloc: Global, text: &[u8], out: &mut Vec<u8>
     assert_eq!(rt; ended.status, 0);
 }
 
-/// A text is read 4,096 bytes at a time: here a CR and its LF, or the bytes of a letter, stand on both sides of that.
+/// A text is read 4,096 bytes at a time. Here a CR and its LF, or the bytes of a letter, are on both sides of such a
+/// boundary.
 #[test]
 fn prints_a_text_that_comes_in_pieces(rt: HostRuntime) -> Result<(), Fail> {
     let alloc = rt.alloc();

@@ -1,11 +1,12 @@
-//! Texts and rows by the tables that are built in.
+//! Texts and rows with the built-in tables.
 use crate::memory_files::{tables_and, whole};
 use crate::runs::{Ending, assert_run, outcome_of};
 
-/// Hebrew, a parenthesis that the tables of the folder `t` have too, and a guillemet that only those built in mirror.
+/// Hebrew, a parenthesis that the tables of the folder `t` have too, and a guillemet that only the built-in tables
+/// mirror.
 const TEXT: &[u8] = b"\xd7\x90(\xc2\xab";
 
-/// The words of a command that names no tables, and what it prints of the text.
+/// The arguments of a command without a folder of tables, and what it prints of the text.
 const ROWS: [(&'static [&'static str], &'static [u8]); 4] = [
     (
         &["bidi", "levels", "FILE"],
@@ -53,7 +54,7 @@ fn takes_the_tables_of_the_folder_that_is_named(rt: HostRuntime) {
     assert_run(&rt, rt.alloc(), &words, &tables_and(TEXT), ending);
 }
 
-/// A row of characters that is right by the tables that are built in. By those of the folder `t` its letter is L.
+/// A row of characters that is right with the built-in tables. In the tables of the folder `t` its letter is L.
 const ROW: &[u8] = b"10D00;2;1;1;0\n";
 
 /// What is printed of that row.
@@ -77,7 +78,7 @@ wrong by direction: auto 0, ltr 0, rtl 0, auto-rtl 0
 wrong by place: paragraph level 0, levels 0, order 0
 ";
 
-/// The words of a command that takes these tables for a file of rows, and what it prints of the row.
+/// The arguments of a command that uses these tables for a file of rows, and what it prints of the row.
 const ROW_WORDS: [(&'static [&'static str], &'static [u8]); 4] = [
     (
         &[
@@ -222,7 +223,7 @@ fn judges_the_rows_that_are_printed(rt: HostRuntime) {
     assert_run(&rt, alloc, &words, &files, ending);
 }
 
-/// The words of a command that names both, and the text with which they are rejected.
+/// The arguments of a command with both kinds of tables, and the error with which they are rejected.
 const TWO_TABLES: [(&'static [&'static str], &'static [u8]); 4] = [
     (
         &[

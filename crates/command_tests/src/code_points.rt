@@ -1,4 +1,4 @@
-//! What each rule does, of code points in a word.
+//! What each rule does to code points that are given as an argument.
 use crate::memory_files::tables_and;
 use crate::runs::{Ending, assert_run};
 

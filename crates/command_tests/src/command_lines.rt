@@ -1,6 +1,6 @@
-//! Command lines that many tests run with.
+//! Command lines that many tests use.
 
-/// `levels` of a text, by the tables of a folder.
+/// `levels` of a text, with the tables of a folder.
 pub const LEVELS: [&str; 5] = ["bidi", "levels", "--tables", "t", "FILE"];
 
 /// `reorder` of a text.

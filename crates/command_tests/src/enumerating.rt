@@ -29,7 +29,7 @@ fn prints_rows(rt: HostRuntime) {
     assert_run(&rt, rt.alloc(), &ROWS, &[], ending);
 }
 
-/// The words for rows over an alphabet, of lengths.
+/// Returns the arguments for rows over an alphabet, with these lengths.
 fn words<'a>(alphabet: &'a str, lengths: &'a str) -> [&'a str; 8] {
     let [
         bidi,
@@ -94,7 +94,7 @@ fn refuses_what_makes_no_rows(rt: HostRuntime) {
     }
 }
 
-/// The words for rows of texts that are drawn.
+/// Returns the arguments for rows of random texts.
 fn drawn<'a>(seed: &'a str, count: &'a str, lengths: &'a str) -> [&'a str; 12] {
     [
         "bidi",

@@ -1,4 +1,4 @@
-//! What each rule does, of texts and of classes.
+//! What each rule does to texts and to classes.
 use crate::runs::{Ending, assert_run};
 
 #[test]

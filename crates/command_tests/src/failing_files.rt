@@ -1,4 +1,4 @@
-//! Files and standard input that fail: each behind the same bytes, or none finds memory to be opened.
+//! Files and standard input that fail: after the same bytes, or for lack of memory when they are opened.
 ghost use Rattle.std.specs.Prelude.{◌≡◌, ℕ, List, refl};
 ghost use Rattle.units.specs.declared.unread.Unread.TheVariants.{Other};
 ghost use Rattle.command_tests.specs.FailingFiles.{begins-given, failing_facts, no_facts};
@@ -9,8 +9,7 @@ use std::marker::Model;
 use units::cut_source::CutSource;
 use units::unread::Unread;
 
-/// Files of which each has the same bytes, and fails behind the first of them; standard input is one more. Contracts
-/// see the bytes before that.
+/// Files and a standard input that all have these bytes, and whose reads fail after them. Contracts see the bytes.
 #[derive(Drop)]
 pub struct FailingFiles<'a> {
     bytes: &'a [u8],
@@ -23,7 +22,7 @@ impl<'a> Model for FailingFiles<'a> {
 }
 
 impl<'a> FailingFiles<'a> {
-    /// Files that fail behind these bytes.
+    /// Creates files whose reads fail after these bytes.
     pub fn new(bytes: &'a [u8]) -> Self
         ensures { result ≡ bytes.now }
     {
@@ -65,7 +64,7 @@ impl<'a> Files for FailingFiles<'a> {
     }
 }
 
-/// Files and a standard input of which none finds memory to be opened.
+/// Files and a standard input that all run out of memory when they are opened.
 #[derive(Drop)]
 pub struct NoMemory;
 

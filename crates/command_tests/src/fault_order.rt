@@ -1,5 +1,5 @@
-//! The order of the faults of what is printed while FILE is read: a failed read, then a text that is not UTF-8, and then
-//! a failed write, unless nobody reads what is written any more.
+//! The order of errors if a text is printed while FILE is read: a failed read, a text that is not UTF-8, a failed
+//! write. If nobody reads the output any more, the run ends at once with the failed write.
 use crate::failing_files::FailingFiles;
 use crate::memory_files::{MemoryFiles, tables_and};
 use crate::writers::{FixedWriter, RefusingWriter};
@@ -10,7 +10,7 @@ use std::io::ErrorKind;
 use std::process::Abort;
 use std::test::Fail;
 
-/// The words with which a text is printed while it is read, by the tables of the folder `t` and by those built in.
+/// The arguments for printing a text while it is read, with the tables of the folder `t` and with the built-in ones.
 const BY_FOLDER: [&'static [&'static str]; 2] = [
     &["bidi", "levels", "--tables", "t", "FILE"],
     &["bidi", "reorder", "--tables", "t", "FILE"],
@@ -21,18 +21,18 @@ const BUILT_IN: [&'static [&'static str]; 2] = [
     &["bidi", "reorder", "FILE"],
 ];
 
-/// The words with which a report on classes is printed while FILE is read.
+/// The arguments for a report on classes, which is printed while FILE is read.
 const REPORT: [&'static str; 5] = ["bidi", "report", "--kind", "classes", "FILE"];
 
-/// Kinds of a write that fails though somebody may read what is written.
+/// Kinds of write errors after which somebody may still read the output.
 const KINDS: [ErrorKind; 3] = [
     ErrorKind::StorageFull,
     ErrorKind::PermissionDenied,
     ErrorKind::Other,
 ];
 
-/// Runs with these words over such files and a writer that fails so from its first call on, and compares the line that
-/// says why.
+/// Runs with these arguments, these files and a writer whose calls all fail with this kind, and compares the line of
+/// the error.
 fn ends_with<F: Files + Drop>(
     rt: &impl Abort,
     alloc: Global,
@@ -49,7 +49,6 @@ fn ends_with<F: Files + Drop>(
     assert_eq!(rt; err.written(), line, "{words:?}");
 }
 
-/// These bytes so many times.
 fn repeated(alloc: Global, bytes: &[u8], count: usize) -> Result<Vec<u8>, AllocError> {
     let mut all = Vec::new(alloc);
     for _ in 0..count {
@@ -109,7 +108,7 @@ fn says_else_that_a_write_failed(rt: HostRuntime) -> Result<(), Fail> {
     Ok(())
 }
 
-/// The next read would fail, or find that the text is not UTF-8.
+/// Here the next read would fail, or find that the text is not UTF-8.
 #[test]
 fn reads_no_further_where_nobody_reads(rt: HostRuntime) -> Result<(), Fail> {
     let alloc = rt.alloc();
@@ -127,7 +126,7 @@ fn reads_no_further_where_nobody_reads(rt: HostRuntime) -> Result<(), Fail> {
     Ok(())
 }
 
-/// A row that is wrong under RTL, so a line is printed of each.
+/// A row that is wrong under RTL, so the report has a line for each copy.
 const WRONG_ROW: &[u8] = b"@Levels: 0\n@Reorder: 0\nL; 7\n";
 
 #[test]

@@ -1,4 +1,4 @@
-//! Faults of words, of writing and of memory.
+//! Errors in arguments, in writing and in memory.
 use crate::command_lines::{
     EXPLAIN, EXPLAIN_CLASSES, EXPLAIN_CODES, EXPLAIN_ROW_OF_CHARACTERS, EXPLAIN_ROW_OF_CLASSES,
     JUDGE_CHARACTERS, JUDGE_CLASSES, LEVELS, REORDER, REPORT_CLASSES, ROWS,
@@ -63,7 +63,7 @@ fn says_that_a_write_of_a_row_failed(rt: HostRuntime) {
     }
 }
 
-/// How a run ends whose standard error takes so many bytes and fails in its flush.
+/// Returns how a run ends if its standard error takes so many bytes and fails to flush.
 fn end_without_a_line(alloc: Global, words: &[&str], left: usize) -> Ended {
     let mut out = FixedWriter::new();
     let mut err = ShortWriter {
@@ -118,19 +118,19 @@ fn says_that_a_file_found_no_memory(rt: HostRuntime) {
     assert_run_over(&rt, rt.alloc(), &JUDGE_CLASSES, NoMemory, ending);
 }
 
-/// Whether a run said that memory was refused.
+/// Returns whether a run reported that memory ran out.
 fn found_no_memory(outcome: &Outcome) -> bool {
     outcome.ended.status == 3 && outcome.err.written() == b"bidi: out of memory\n".as_slice()
 }
 
-/// Whether a run ended with this status, and its two texts begin so.
+/// Returns whether a run ended with this status, and whether its two outputs begin with these bytes.
 fn begins_so(outcome: &Outcome, status: u8, out: &[u8], err: &[u8]) -> bool {
     outcome.ended.status == status
         && outcome.out.written().starts_with(out)
         && outcome.err.written().starts_with(err)
 }
 
-// To be run with each allocation failing in turn.
+// This test is to be run with each allocation failing in turn.
 #[test]
 fn answers_as_ever_or_says_that_memory_was_refused(rt: HostRuntime) {
     let rows: [(&[&str], u8, &[u8], &[u8]); 13] = [

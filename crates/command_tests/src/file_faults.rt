@@ -1,4 +1,4 @@
-//! Files that can't be read, and texts that are no text.
+//! Files that can't be read, and texts that are not UTF-8.
 use crate::command_lines::{EXPLAIN, JUDGE_CLASSES, LEVELS, REORDER};
 use crate::failing_files::FailingFiles;
 use crate::memory_files::{MemoryFile, cut, tables_and, whole};
@@ -22,7 +22,7 @@ fn says_that_a_file_was_not_read(rt: HostRuntime) {
     }
 }
 
-/// Checks that a run over files of which so many bytes can be read says that, and nothing else.
+/// Checks that a run over files of which so many bytes can be read reports this error, and prints nothing else.
 fn assert_failed_read(rt: &impl Abort, alloc: Global, files: FailingFiles<'_>, readable: usize) {
     let outcome = outcome_over(alloc, &JUDGE_CLASSES, files);
     assert_eq!(rt; outcome.ended.status, 3, "{readable}");

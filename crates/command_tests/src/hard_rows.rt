@@ -1,9 +1,9 @@
-//! Rows of both kinds, of the forms of hard texts, and under directions that are chosen.
+//! Rows of both kinds, of the forms of hard texts, and under chosen directions.
 use crate::command_lines::{JUDGE_CHARACTERS, JUDGE_CLASSES};
 use crate::memory_files::{tables_and, whole};
 use crate::runs::{Ending, assert_run, outcome_of};
 
-/// The words for rows of characters over an alphabet, by the tables that are built in.
+/// Returns the arguments for rows of characters over an alphabet, with the built-in tables.
 fn over_characters<'a>(alphabet: &'a str, directions: &'a str) -> [&'a str; 12] {
     [
         "bidi",
@@ -58,7 +58,7 @@ fn prints_rows_by_the_tables_of_a_folder(rt: HostRuntime) {
     assert_run(&rt, rt.alloc(), &built_in, &[], Ending::prints(0, printed));
 }
 
-/// The words for three texts of a form, of a kind, under all directions.
+/// Returns the arguments for three texts of a form, of a kind, under all directions.
 fn of_form<'a>(kind: &'a str, form: &'a str) -> [&'a str; 14] {
     [
         "bidi",

@@ -1,4 +1,4 @@
-//! Standard input in the place of a file.
+//! Standard input in place of a file.
 use crate::memory_files::{MemoryFile, MemoryFiles, cut, tables_and, whole};
 use crate::runs::{Ending, assert_run_over};
 
@@ -41,7 +41,7 @@ fn reads_standard_input(rt: HostRuntime) {
     }
 }
 
-// A file of that name is no standard input, whether there is one or its reads fail.
+// A file of that name is not standard input, if there is one or not, and if its reads fail.
 #[test]
 fn says_that_standard_input_was_not_read(rt: HostRuntime) {
     let [classes, brackets, mirrors, _] = tables_and(b"");

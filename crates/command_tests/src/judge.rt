@@ -3,7 +3,7 @@ use crate::command_lines::{JUDGE_CHARACTERS, JUDGE_CLASSES};
 use crate::memory_files::{tables_and, whole};
 use crate::runs::{Ending, assert_run};
 
-/// The bytes of a file, and the status and the line that its judge ends with.
+/// The bytes of a file, and the status and the line with which its judge ends.
 type JudgedFile = (&'static [u8], u8, &'static [u8]);
 
 const CLASSES_ROWS: [JudgedFile; 10] = [
@@ -122,7 +122,7 @@ fn judges_files_of_characters(rt: HostRuntime) {
     }
 }
 
-/// A comment line of so many bytes before its LF.
+/// The bytes of a comment line before its LF.
 const MOST_LINE: usize = 65_536;
 
 #[test]

@@ -1,4 +1,4 @@
-//! Runs over files in memory, and of a class, whose printed bytes a contract says.
+//! Runs over files in memory, and over a class, whose printed bytes are in a contract.
 ghost use Rattle.std.specs.Prelude.{◌≡◌, ◌++◌, codes, true};
 ghost use Rattle.command_tests.specs.KnownRuns.{alef_line, neutral_explained, neutral_row_explained};
 
@@ -9,7 +9,7 @@ use std::alloc::Global;
 use std::num::NonZeroU64;
 use units::level::Direction;
 
-/// Prints the levels of a file that holds an alef, and answers whether that was done.
+/// Prints the levels of a file that contains an alef, and returns whether that succeeded.
 fn print_levels_of_alef(alloc: Global, tables: &str, file: &str, out: &mut Vec<u8>) -> bool
     requires tables { tables.now ≡ codes "t" }
     requires file { file.now ≡ codes "FILE" }
@@ -30,7 +30,7 @@ fn print_levels_of_alef(alloc: Global, tables: &str, file: &str, out: &mut Vec<u
     perform(alloc, request, &MemoryFiles::new(&files), out).is_ok()
 }
 
-/// Prints the lines of a file that holds an alef, and answers whether that was done.
+/// Prints the lines of a file that contains an alef, and returns whether that succeeded.
 fn print_lines_of_alef(alloc: Global, tables: &str, file: &str, out: &mut Vec<u8>) -> bool
     requires tables { tables.now ≡ codes "t" }
     requires file { file.now ≡ codes "FILE" }
@@ -51,7 +51,7 @@ fn print_lines_of_alef(alloc: Global, tables: &str, file: &str, out: &mut Vec<u8
     perform(alloc, request, &MemoryFiles::new(&files), out).is_ok()
 }
 
-/// Prints what each rule does to a neutral, and answers whether that was done.
+/// Prints what each rule does to a neutral, and returns whether that succeeded.
 fn explain_a_neutral(alloc: Global, classes: &str, out: &mut Vec<u8>) -> bool
     requires { classes.now ≡ codes "ON" }
     ensures { result ≡ true → out.new.items ≡ out.old.items ++ neutral_explained }
@@ -63,7 +63,7 @@ fn explain_a_neutral(alloc: Global, classes: &str, out: &mut Vec<u8>) -> bool
     perform(alloc, request, &MemoryFiles::new(&[]), out).is_ok()
 }
 
-/// Explains the row at the third line of a standard input, and answers whether that was done.
+/// Explains the row at the third line of standard input, and returns whether that succeeded.
 fn explain_a_row(alloc: Global, line: NonZeroU64, file: &str, out: &mut Vec<u8>) -> bool
     requires line { line.value ≡ 3 }
     requires file { file.now ≡ codes "-" }
@@ -80,7 +80,7 @@ fn explain_a_row(alloc: Global, line: NonZeroU64, file: &str, out: &mut Vec<u8>)
     perform(alloc, request, &files, out).is_ok()
 }
 
-/// Judges a standard input of one row, which is right, and answers whether that was done.
+/// Judges a standard input of one row, which is right, and returns whether that succeeded.
 fn judge_a_right_row(alloc: Global, file: &str, out: &mut Vec<u8>) -> bool
     requires { file.now ≡ codes "-" }
     ensures { result ≡ true → out.new.items ≡ out.old.items ++ codes "yes: 1 rows, 1 cases\n" }
@@ -95,7 +95,7 @@ fn judge_a_right_row(alloc: Global, file: &str, out: &mut Vec<u8>) -> bool
     perform(alloc, request, &files, out).is_ok()
 }
 
-/// Judges a file of one row of characters, which is right, and answers whether that was done.
+/// Judges a file of one row of characters, which is right, and returns whether that succeeded.
 fn judge_a_right_row_of_characters(
     alloc: Global,
     tables: &str,

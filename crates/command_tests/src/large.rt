@@ -1,4 +1,4 @@
-//! Texts at the limit of their files' bytes, and rows at that of their lines'.
+//! Texts of the largest files, and rows of the longest lines.
 use crate::command_lines::{JUDGE_CHARACTERS, REORDER, REPORT_CHARACTERS};
 use crate::memory_files::{MemoryFiles, tables_and};
 use crate::runs::{Ending, assert_run};
@@ -8,7 +8,7 @@ use std::alloc::Global;
 use std::process::Abort;
 use std::test::Fail;
 
-/// As many bytes as the file of a text may have, of which these are the first four, and then four for each character.
+/// Returns as many bytes as the file of a text may have: these four, and then four for each character.
 fn longest_text(alloc: Global, first: &[u8; 4]) -> Result<Vec<u8>, Fail> {
     let mut text = Vec::with_capacity(alloc, 16_777_217)?;
     text.extend_from_slice(first)?;
@@ -18,7 +18,7 @@ fn longest_text(alloc: Global, first: &[u8; 4]) -> Result<Vec<u8>, Fail> {
     Ok(text)
 }
 
-/// Prints a text to `out` as it is shown, by a run of the command, and compares the status and the line of its fault.
+/// Prints a text to `out` as it is shown, with a run of the command, and compares the status and the line of the error.
 fn assert_reorder(
     rt: &impl Abort,
     alloc: Global,
@@ -34,7 +34,6 @@ fn assert_reorder(
     assert_eq!(rt; err.written(), line);
 }
 
-/// How many of these bytes are LF.
 fn line_feeds_in(bytes: &[u8]) -> usize {
     bytes.iter().filter(|byte| **byte == b'\n').count()
 }
@@ -57,7 +56,7 @@ fn a_text_of_as_many_bytes_as_allowed_is_read(rt: HostRuntime) -> Result<(), Fai
     Ok(())
 }
 
-/// Where the file of a text has one byte more, what is printed are the paragraphs that have ended before.
+/// If the file of a text has one byte more, the paragraphs that ended before it are printed.
 #[test]
 fn a_text_of_a_byte_more_is_read_up_to_it(rt: HostRuntime) -> Result<(), Fail> {
     let alloc = rt.alloc();
@@ -70,7 +69,8 @@ fn a_text_of_a_byte_more_is_read_up_to_it(rt: HostRuntime) -> Result<(), Fail> {
     Ok(())
 }
 
-/// A row of this code point, so many times, under left-to-right. For each it claims this level, and it claims no order.
+/// Returns a row under left-to-right with this code point, repeated so many times. It expects this level for each, and
+/// no order.
 fn row_of(alloc: Global, code: &[u8], count: usize, level: &[u8]) -> Result<Vec<u8>, Fail> {
     let mut row = Vec::with_capacity(alloc, 65_537)?;
     for _ in 0..count {
@@ -100,7 +100,7 @@ fn assert_judged(
     assert_run(rt, alloc, &REPORT_CHARACTERS, &files, reported);
 }
 
-/// As many LREs, which X9 removes, as a line of 65,536 bytes has place for with their levels.
+/// The row has as many LREs, which X9 removes, as fit into a line of 65,536 bytes with their levels.
 #[test]
 fn a_right_row_on_the_longest_line_is_judged(rt: HostRuntime) -> Result<(), Fail> {
     let alloc = rt.alloc();
@@ -114,7 +114,8 @@ wrong by place: paragraph level 0, levels 0, order 0
     Ok(())
 }
 
-/// As many Hebrew letters as such a line has place for without their levels, and one more, with which it is too long.
+/// The row has as many Hebrew letters as fit into such a line without their levels, and then one more, so that it is
+/// too long.
 #[test]
 fn a_wrong_row_on_the_longest_line_is_judged(rt: HostRuntime) -> Result<(), Fail> {
     let alloc = rt.alloc();

@@ -1,5 +1,5 @@
-//! Tests of the command: its runs over files, standard input and writers in memory. They stand here, and not beside
-//! what they test, so that no crate is proved a second time with its tests.
+//! Tests of the command: its runs over files, standard input and writers in memory. They are in a crate of their own,
+//! so that no crate is proved a second time with its tests.
 #![tactic(auto)]
 
 #[cfg(test)]

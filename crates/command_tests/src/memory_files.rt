@@ -1,4 +1,4 @@
-//! Files and standard input in memory, of which a read may fail behind some of the bytes.
+//! Files and standard input in memory, whose reads may fail after some of the bytes.
 ghost use Rattle.std.specs.Prelude.{◌≡◌};
 ghost use Rattle.units.specs.HandsOut.{unread_of};
 ghost use Rattle.command_tests.specs.MemoryFiles.{IsOpenedOver, begins-gave, fails-gave, memory_facts, stored_at, whole-gave};
@@ -10,7 +10,7 @@ use ucdfiles::small::{BRACKETS, CLASSES, MIRRORS};
 use units::reader_source::ReaderSource;
 use units::unread::Unread;
 
-/// A file in memory. A read past its first `readable` bytes fails, since there are too many.
+/// A file in memory. A read past its first `readable` bytes fails, since the file is then too large.
 #[derive(Clone, Copy)]
 pub struct MemoryFile<'a> {
     pub name: &'a str,
@@ -18,7 +18,7 @@ pub struct MemoryFile<'a> {
     pub readable: u64,
 }
 
-/// A file that can be read to its end.
+/// Returns a file that can be read to its end.
 pub fn whole<'a>(name: &'a str, bytes: &'a [u8]) -> MemoryFile<'a>
     ensures { result ≡ record { name = name.entry; bytes = bytes.entry; readable = u64.MAX } }
 {
@@ -29,7 +29,7 @@ pub fn whole<'a>(name: &'a str, bytes: &'a [u8]) -> MemoryFile<'a>
     }
 }
 
-/// A file of which a read past these many bytes fails.
+/// Returns a file whose reads fail past so many bytes.
 pub fn cut<'a>(name: &'a str, bytes: &'a [u8], readable: u64) -> MemoryFile<'a> {
     MemoryFile {
         name,
@@ -38,8 +38,7 @@ pub fn cut<'a>(name: &'a str, bytes: &'a [u8], readable: u64) -> MemoryFile<'a> 
     }
 }
 
-/// Files in memory, and standard input. Contracts see them by their names, their bytes, and how many of those can be
-/// read.
+/// Files in memory, and standard input. Contracts see their names, their bytes, and how many bytes can be read.
 #[derive(Drop)]
 pub struct MemoryFiles<'a> {
     files: &'a [MemoryFile<'a>],
@@ -62,7 +61,7 @@ impl<'a> MemoryFiles<'a> {
     ghost use Rattle.std.specs.Prelude.{◌≡◌, None, Some, map};
     ghost use Rattle.command_tests.specs.MemoryFiles.{stored_file};
 
-    /// These files, of which the first of a name is the one that has it, and no standard input.
+    /// Creates files without standard input. If two have the same name, the first is opened.
     pub fn new(files: &'a [MemoryFile<'a>]) -> Self
         ensures { result ≡ record {
           files = map (λ file. stored_file file.name file.bytes file.readable) files.now;
@@ -72,7 +71,7 @@ impl<'a> MemoryFiles<'a> {
         MemoryFiles { files, input: None }
     }
 
-    /// The same files, and a standard input that holds what this one holds.
+    /// Returns the same files, with the contents of this file as standard input.
     pub fn with_input(self, input: MemoryFile<'a>) -> Self
         ensures { result ≡ record self.entry { input = Some (stored_file input.entry.name input.entry.bytes input.entry.readable) } }
     {
@@ -117,7 +116,7 @@ impl<'a> Files for MemoryFiles<'a> {
     }
 }
 
-/// The tables of the folder `t`, and a file `FILE`.
+/// Returns the tables of the folder `t`, and a file `FILE`.
 pub fn tables_and<'a>(bytes: &'a [u8]) -> [MemoryFile<'a>; 4] {
     [
         whole("t/DerivedBidiClass.txt", CLASSES),

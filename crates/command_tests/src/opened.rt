@@ -1,4 +1,4 @@
-//! What a request opens: the files, by their names and in order, and standard input.
+//! What a request opens: the files, with their names and in order, and standard input.
 use crate::command_lines::{
     EXPLAIN, EXPLAIN_CLASSES, EXPLAIN_CODES, EXPLAIN_ROW_OF_CHARACTERS, EXPLAIN_ROW_OF_CLASSES,
     JUDGE_CHARACTERS, JUDGE_CLASSES, LEVELS, REORDER, REPORT_CHARACTERS, REPORT_CLASSES, ROWS,
@@ -15,11 +15,11 @@ use ucdfiles::small::{BRACKETS, CLASSES, MIRRORS};
 /// The names of the tables of the folder `t`, in the order in which they are read.
 const TABLES: &str = "t/DerivedBidiClass.txt\nt/BidiBrackets.txt\nt/BidiMirroring.txt\n";
 
-/// What is written down where standard input is asked for.
+/// The record of an access to standard input.
 const INPUT: &str = "standard input\n";
 
-/// Runs with these words over these files and an empty standard input, and compares how that ends, and the names that
-/// were asked for, first those of the tables and then the others, each with an LF behind it.
+/// Runs with these arguments, these files and an empty standard input. Compares the status and the names that were
+/// opened: first those of the tables and then the others, each with an LF after it.
 fn assert_opens(
     rt: &impl Abort,
     alloc: Global,
@@ -42,7 +42,7 @@ fn assert_opens(
     assert_eq!(rt; rest, others, "{words:?}");
 }
 
-/// Runs over the tables of the folder `t` and an empty `FILE`, and compares what is opened in a run that ends well.
+/// Runs over the tables of the folder `t` and an empty `FILE`, and compares what a successful run opens.
 fn assert_reads(rt: &impl Abort, alloc: Global, words: &[&str], tables: &str, others: &str) {
     assert_opens(rt, alloc, words, &tables_and(b""), 0, tables, others);
 }
@@ -68,7 +68,7 @@ fn opens_the_file_of_a_row(rt: HostRuntime) {
     assert_opens(&rt, alloc, words, &none, 2, "", "FILE\n");
 }
 
-/// The words for rows of characters, with the tables behind all others.
+/// The arguments for rows of characters, with the tables after all others.
 const HARD_ROWS: [&str; 10] = [
     "bidi",
     "rows",

@@ -1,4 +1,4 @@
-//! The second line of a fault, with its reason, which `--verbose` adds; and faults whose lines are not taken.
+//! The second line of an error, with its reason, which `--verbose` adds; and errors whose lines can't be written.
 use crate::failing_files::{FailingFiles, NoMemory};
 use crate::memory_files::{MemoryFile, cut, tables_and, whole};
 use crate::runs::{Ending, Text, assert_run, assert_run_over};
@@ -56,7 +56,7 @@ fn says_why_a_file_was_not_read(rt: HostRuntime) {
     assert_run_over(&rt, rt.alloc(), &JUDGE_CLASSES, failing, unknown);
 }
 
-/// Prints the levels of a text by these tables, and compares what is said of the fault.
+/// Prints the levels of a text with these tables, and compares the lines of the error.
 fn assert_table_fault(rt: &impl Abort, alloc: Global, files: [MemoryFile<'_>; 4], lines: &[u8]) {
     assert_run(rt, alloc, &LEVELS, &files, Ending::fails(3, lines));
 }
@@ -161,7 +161,7 @@ fn says_what_a_word_may_have(rt: HostRuntime) {
     }
 }
 
-/// Malformed files of classes, and what is said of them.
+/// Malformed files of classes, and the lines of the error.
 const MALFORMED_CLASSES: [(&'static [u8], &'static [u8]); 9] = [
     (
         b"@Level: 0",
@@ -201,7 +201,7 @@ const MALFORMED_CLASSES: [(&'static [u8], &'static [u8]); 9] = [
     ),
 ];
 
-/// Malformed files of characters, and what is said of them.
+/// Malformed files of characters, and the lines of the error.
 const MALFORMED_CHARACTERS: [(&'static [u8], &'static [u8]); 7] = [
     (
         b"0061;0;0;0",
@@ -268,7 +268,7 @@ fn says_which_field_is_malformed(rt: HostRuntime) {
     }
 }
 
-/// A line of so many bytes or characters is too long, and what is said of it.
+/// A line with too many bytes or characters, and the lines of the error.
 #[test]
 fn says_what_a_line_may_have(rt: HostRuntime) {
     let bytes = [b'#'; 65_537];
@@ -295,7 +295,7 @@ fn says_what_a_line_may_have(rt: HostRuntime) {
     );
 }
 
-/// Of these faults nothing more is known.
+/// For these errors no reason is printed.
 #[test]
 fn says_nothing_more_of_a_fault_without_a_reason(rt: HostRuntime) {
     let needed = Ending::fails(2, b"bidi: --tables is needed\n");
@@ -310,7 +310,7 @@ fn says_nothing_more_of_a_fault_without_a_reason(rt: HostRuntime) {
     assert_run(&rt, rt.alloc(), &words, &[whole("FILE", b"#")], no_row);
 }
 
-/// The place from which on a text is not UTF-8: its line, counted from 1, and the bytes before it.
+/// The reason is the first place that is not UTF-8: its line, counted from 1, and the number of bytes before it.
 #[test]
 fn says_where_a_text_is_not_utf8(rt: HostRuntime) {
     let rows: [(&[u8], &[u8]); 4] = [
@@ -344,7 +344,7 @@ fn says_where_a_text_is_not_utf8(rt: HostRuntime) {
     }
 }
 
-/// `-v` changes nothing of a run without a fault.
+/// `-v` changes nothing in a run without an error.
 #[test]
 fn prints_the_same_in_detail(rt: HostRuntime) {
     let files = tables_and(b"a");
@@ -354,7 +354,7 @@ fn prints_the_same_in_detail(rt: HostRuntime) {
     assert_run(&rt, rt.alloc(), &JUDGE_CLASSES, &files, no);
 }
 
-/// A fault is said if the writer takes each byte and the flush succeeds, and else it is not.
+/// An error is reported if the writer takes each byte and the flush succeeds, and else it isn't.
 #[test]
 fn is_said_if_all_is_taken_and_flushed(rt: HostRuntime) {
     let fault = Fault::LongLine {

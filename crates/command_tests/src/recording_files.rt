@@ -1,4 +1,4 @@
-//! Files and standard input in memory that write down what they are asked for.
+//! Files and standard input in memory that record which of them are opened.
 ghost use Rattle.units.specs.HandsOut.{unread_of};
 ghost use Rattle.command_tests.specs.MemoryFiles.{IsOpenedOver, begins-gave, fails-gave, memory_facts, stored_at, whole-gave};
 
@@ -10,8 +10,8 @@ use std::marker::Model;
 use units::reader_source::ReaderSource;
 use units::unread::Unread;
 
-/// Files in memory, and a record of the names of those that were asked for, in order, each with an LF behind it;
-/// standard input is `standard input`. Contracts see the files alone.
+/// Files in memory, and a record of the names that are opened, in order, each with an LF after it. Standard input is
+/// recorded as `standard input`. Contracts see only the files.
 #[derive(Drop)]
 pub struct RecordingFiles<'a> {
     files: MemoryFiles<'a>,
@@ -27,12 +27,11 @@ impl<'a> Model for RecordingFiles<'a> {
 }
 
 impl<'a> RecordingFiles<'a> {
-    /// These files, which are written down here as they are asked for.
+    /// Creates files that record here which of them are opened.
     pub fn new(files: MemoryFiles<'a>, asked: &'a RefCell<String>) -> Self {
         RecordingFiles { files, asked }
     }
 
-    /// Writes down this name.
     fn note(&self, name: &str) -> Result<(), AllocError> {
         if let Ok(mut asked) = self.asked.try_borrow_mut() {
             asked.push_str(name)?;

@@ -2,7 +2,7 @@
 use crate::memory_files::tables_and;
 use crate::runs::{Ending, assert_run};
 
-/// The words of a command, the bytes of its file, and what it prints.
+/// The arguments of a command, the bytes of its file, and what it prints.
 const ROWS: [(&'static [&'static str], &'static [u8], &'static [u8]); 6] = [
     (
         &[

@@ -5,7 +5,7 @@ use crate::memory_files::{MemoryFile, cut, tables_and, whole};
 use crate::runs::{Ending, Text, assert_fault_over_writer, assert_run, assert_run_over};
 use crate::writers::ShortWriter;
 
-/// Two rows that are wrong, a line that is malformed, and a row behind it.
+/// Two wrong rows, a malformed line, and a row after it.
 const FAULTS: &[u8] = b"@Levels: 0
 @Reorder: 0
 L; 7
@@ -100,7 +100,7 @@ wrong by place: paragraph level 1, levels 2, order 1
     );
 }
 
-/// Rows of an engine that keeps the positions that X9 removes, and of one that tells an order and no levels.
+/// Rows of an engine that keeps the positions that X9 removes, and of one that reports an order and no levels.
 const KEPT: &[u8] = b"@Levels: 0 1 1
 @Reorder: 0 2 1
 RLE R PDF; 2

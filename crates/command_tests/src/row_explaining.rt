@@ -1,11 +1,11 @@
-//! Rows of conformance files explained.
+//! Explanations of rows of conformance files.
 use crate::command_lines::{EXPLAIN_ROW_OF_CHARACTERS, EXPLAIN_ROW_OF_CLASSES};
 use crate::failing_files::{FailingFiles, NoMemory};
 use crate::memory_files::{MemoryFiles, tables_and, whole};
 use crate::runs::{Ending, Text, assert_run, assert_run_over};
 use std::test::Fail;
 
-/// Lines that are no rows, two rows, and a line that is malformed.
+/// Lines that are not rows, two rows, and a malformed line.
 const CLASSES: &[u8] = b"@Levels: x 1
 @Reorder: 1
 RLE ON; 10
@@ -19,7 +19,7 @@ R; 16
 R; 1
 ";
 
-/// What is printed of the row at line 3: under its last direction its levels are wrong.
+/// What is printed for the row at line 3: under its last direction its levels are wrong.
 const THIRD_LINE: &[u8] = b"line 3: ltr
 paragraph 0 level 0: given
 position code class level X W1 W2 W3 W4 W5 W6 W7 N0 N1 N2 I L1
@@ -44,7 +44,7 @@ claimed order: 1
 defined order: 1
 ";
 
-/// What is printed of the row at line 9, which rests on the lists before it.
+/// What is printed for the row at line 9, which depends on the lists before it.
 const NINTH_LINE: &[u8] = b"line 9: auto
 paragraph 0 level 1: R at 0
 position code class level X W1 W2 W3 W4 W5 W6 W7 N0 N1 N2 I L1
@@ -57,7 +57,7 @@ claimed order: 0
 defined order: 0
 ";
 
-/// A row of characters, with a pair of brackets, whose paragraph level and order are wrong, and one behind it.
+/// A row of characters, with a pair of brackets, whose paragraph level and order are wrong, and a row after it.
 const CHARACTERS: &[u8] = b"# characters
 05D0 0028 0061 0029;2;0;1 1 2 1;3 2 1
 0061;0;0;0;0";
@@ -94,14 +94,14 @@ claimed order: 0
 defined order: 0
 ";
 
-/// The words for the row at a line of FILE, of classes.
+/// Returns the arguments for the row at a line of FILE, of classes.
 fn at_line<'a>(line: &'a str) -> [&'a str; 7] {
     [
         "bidi", "explain", "--row", line, "--kind", "classes", "FILE",
     ]
 }
 
-/// The words for the row at a line of FILE, of characters by the small tables.
+/// Returns the arguments for the row at a line of FILE, of characters with the small tables.
 fn at_line_of_characters<'a>(line: &'a str) -> [&'a str; 9] {
     [
         "bidi",
@@ -144,7 +144,7 @@ fn explains_a_row_of_standard_input(rt: HostRuntime) {
     assert_run_over(&rt, rt.alloc(), &words, files, ending);
 }
 
-/// A read that fails behind the row is not come to, and one before it is said.
+/// Nothing is read after the row, so a failure there has no effect; a failed read before it is reported.
 #[test]
 fn reads_a_file_up_to_the_row(rt: HostRuntime) {
     let alloc = rt.alloc();
@@ -189,7 +189,7 @@ fn says_that_there_is_no_such_line(rt: HostRuntime) {
     assert_run(&rt, rt.alloc(), &words, &files, ending);
 }
 
-/// The first line that is malformed, and none behind the row.
+/// The first malformed line is reported, but none after the row.
 #[test]
 fn says_which_line_up_to_the_row_is_malformed(rt: HostRuntime) {
     let alloc = rt.alloc();

@@ -1,4 +1,4 @@
-//! Runs of the command over files in memory, and how they have to end.
+//! Runs of the command over files in memory, and how they must end.
 use crate::memory_files::{MemoryFile, MemoryFiles};
 use crate::writers::{FixedWriter, ShortWriter};
 use command::run::run;
@@ -7,7 +7,7 @@ use requests::outcome::Ended;
 use std::alloc::Global;
 use std::process::Abort;
 
-/// What a run answered and wrote.
+/// What a run returned and wrote.
 #[derive(Drop)]
 pub struct Outcome {
     pub ended: Ended,
@@ -15,7 +15,7 @@ pub struct Outcome {
     pub err: FixedWriter,
 }
 
-/// A run over such files.
+/// Runs with these arguments over files of this type.
 pub fn outcome_over<F: Files + Drop>(alloc: Global, words: &[&str], files: F) -> Outcome {
     let mut out = FixedWriter::new();
     let mut err = FixedWriter::new();
@@ -23,21 +23,21 @@ pub fn outcome_over<F: Files + Drop>(alloc: Global, words: &[&str], files: F) ->
     Outcome { ended, out, err }
 }
 
-/// A run over these files.
+/// Runs with these arguments over these files.
 pub fn outcome_of(alloc: Global, words: &[&str], files: &[MemoryFile<'_>]) -> Outcome {
     outcome_over(alloc, words, MemoryFiles::new(files))
 }
 
-/// What a run must have written.
+/// The expected output of a run.
 #[derive(Clone, Copy)]
 pub enum Text<'a> {
-    /// These bytes.
+    /// Exactly these bytes.
     Is(&'a [u8]),
     /// Bytes that begin with these.
     Begins(&'a [u8]),
 }
 
-/// How a run must end: its status, and what it wrote.
+/// How a run must end: its status, and its output.
 #[derive(Clone, Copy)]
 pub struct Ending<'a> {
     pub status: u8,
@@ -46,7 +46,7 @@ pub struct Ending<'a> {
 }
 
 impl<'a> Ending<'a> {
-    /// With this status, these bytes on standard output, and none on standard error.
+    /// Returns an ending with this status, these bytes on standard output, and none on standard error.
     pub fn prints(status: u8, out: &'a [u8]) -> Self {
         Ending {
             status,
@@ -55,7 +55,7 @@ impl<'a> Ending<'a> {
         }
     }
 
-    /// With this status, no bytes on standard output, and these on standard error.
+    /// Returns an ending with this status, no bytes on standard output, and these on standard error.
     pub fn fails(status: u8, err: &'a [u8]) -> Self {
         Ending {
             status,
@@ -65,7 +65,7 @@ impl<'a> Ending<'a> {
     }
 }
 
-/// Compares what a run with these words wrote to one of its writers.
+/// Compares what a run with these arguments wrote to one of its writers.
 fn assert_written(rt: &impl Abort, words: &[&str], written: &[u8], text: Text<'_>) {
     match text {
         Text::Is(bytes) => assert_eq!(rt; written, bytes, "{words:?}"),
@@ -73,7 +73,7 @@ fn assert_written(rt: &impl Abort, words: &[&str], written: &[u8], text: Text<'_
     }
 }
 
-/// Compares what a run with these words answered and wrote.
+/// Compares what a run with these arguments returned and wrote.
 fn assert_ends(rt: &impl Abort, words: &[&str], outcome: &Outcome, ending: Ending<'_>) {
     assert_eq!(rt; outcome.ended.status, ending.status, "{words:?}");
     assert!(rt; outcome.ended.is_written, "{words:?}");
@@ -82,7 +82,7 @@ fn assert_ends(rt: &impl Abort, words: &[&str], outcome: &Outcome, ending: Endin
     assert_written(rt, words, outcome.err.written(), ending.err);
 }
 
-/// Runs with these words over such files, and compares how that ends.
+/// Runs with these arguments over files of this type, and compares how the run ends.
 pub fn assert_run_over<F: Files + Drop>(
     rt: &impl Abort,
     alloc: Global,
@@ -93,7 +93,7 @@ pub fn assert_run_over<F: Files + Drop>(
     assert_ends(rt, words, &outcome_over(alloc, words, files), ending);
 }
 
-/// Runs with these words over these files, and compares how that ends.
+/// Runs with these arguments over these files, and compares how the run ends.
 pub fn assert_run(
     rt: &impl Abort,
     alloc: Global,
@@ -104,7 +104,7 @@ pub fn assert_run(
     assert_ends(rt, words, &outcome_of(alloc, words, files), ending);
 }
 
-/// Runs with these words over these files and this writer, and checks that the status is 3 and what it says.
+/// Runs with these arguments, these files and this writer, and checks that the status is 3, and the line of the error.
 pub fn assert_fault_over_writer(
     rt: &impl Abort,
     alloc: Global,

@@ -1,14 +1,14 @@
-//! Files at which something is as many as a power of two, or one more or less: no fault comes by a number alone.
+//! Files with sizes and counts that are a power of two, or one more or less: no size alone causes an error.
 use crate::memory_files::{tables_and, whole};
 use crate::runs::{Ending, Text, assert_run};
 use std::alloc::Global;
 use std::process::Abort;
 use std::test::Fail;
 
-/// The lists of a file of classes, by which one letter has level 1.
+/// The lists of a file of classes in which one letter has level 1.
 const LISTS: &[u8] = b"@Levels: 1\n@Reorder: 0\n";
 
-/// A file of so many rows. Under each of the four directions its level is not 1.
+/// Returns a file with so many rows, each wrong under all four directions: the level is not 1.
 fn wrong_rows(alloc: Global, rows: usize) -> Result<Vec<u8>, Fail> {
     let mut file = Vec::from_slice(alloc, LISTS)?;
     for _ in 0..rows {
@@ -17,7 +17,7 @@ fn wrong_rows(alloc: Global, rows: usize) -> Result<Vec<u8>, Fail> {
     Ok(file)
 }
 
-/// Reports on that file, prints none of its wrong cases, and compares how many there are.
+/// Reports on such a file without printing wrong cases, and compares the counts.
 fn assert_reported(rt: &impl Abort, alloc: Global, rows: usize, cases: usize) -> Result<(), Fail> {
     let file = wrong_rows(alloc, rows)?;
     let line = format!(in alloc; "{rows} rows, {rows} wrong; {cases} cases, {cases} wrong\n")?;
@@ -31,7 +31,7 @@ fn assert_reported(rt: &impl Abort, alloc: Global, rows: usize, cases: usize) ->
     Ok(())
 }
 
-/// How many rows there are, and how many cases.
+/// Numbers of rows, and of their cases.
 const ROWS: [(usize, usize); 4] = [
     (64, 256),
     (16_383, 65_532),
@@ -47,7 +47,7 @@ fn reports_on_any_number_of_wrong_cases(rt: HostRuntime) -> Result<(), Fail> {
     Ok(())
 }
 
-/// Judges a file of so many rows that are right.
+/// Judges a file with so many right rows.
 fn assert_judged(rt: &impl Abort, alloc: Global, rows: usize) -> Result<(), Fail> {
     let mut file = Vec::from_slice(alloc, LISTS)?;
     for _ in 0..rows {
@@ -68,12 +68,12 @@ fn judges_any_number_of_rows(rt: HostRuntime) -> Result<(), Fail> {
     Ok(())
 }
 
-/// How many bytes a text has.
+/// Numbers of bytes of a text.
 const SIZES: [usize; 9] = [
     255, 256, 257, 65_535, 65_536, 65_537, 1_048_575, 1_048_576, 1_048_577,
 ];
 
-/// Prints the rows of a text of so many lines that are empty: there are none.
+/// Prints the rows of a text of so many empty lines: there are none.
 fn assert_read(rt: &impl Abort, alloc: Global, bytes: usize) -> Result<(), Fail> {
     let text = vec![in alloc; b'\n'; bytes]?;
     let words = ["bidi", "rows", "--of", "FILE", "--tables", "t"];
@@ -90,7 +90,7 @@ fn reads_texts_of_any_size(rt: HostRuntime) -> Result<(), Fail> {
     Ok(())
 }
 
-/// A file of classes whose line of this number, at least 3, is a row; those between it and the lists are empty.
+/// Returns a file of classes with a row at this line, at least 3; the lines between the lists and the row are empty.
 fn row_at(alloc: Global, line: usize) -> Result<Vec<u8>, Fail> {
     let mut file = Vec::from_slice(alloc, LISTS)?;
     for _ in 3..line {
@@ -100,7 +100,6 @@ fn row_at(alloc: Global, line: usize) -> Result<Vec<u8>, Fail> {
     Ok(file)
 }
 
-/// Explains the row at that line.
 fn assert_explained(rt: &impl Abort, alloc: Global, line: usize) -> Result<(), Fail> {
     let file = row_at(alloc, line)?;
     let number = format!(in alloc; "{line}")?;
@@ -123,7 +122,7 @@ fn assert_explained(rt: &impl Abort, alloc: Global, line: usize) -> Result<(), F
     Ok(())
 }
 
-/// At which line the row is.
+/// Line numbers of the row.
 const LINES: [usize; 5] = [256, 65_535, 65_536, 65_537, 1_048_576];
 
 #[test]

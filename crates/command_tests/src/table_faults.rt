@@ -11,7 +11,7 @@ const NAMES: [&str; 3] = [
     "t/BidiMirroring.txt",
 ];
 
-/// Tables' files of these bytes, and no other file.
+/// Returns the files of the tables with these bytes, and no other file.
 fn table_files<'a>(bytes: [&'a [u8]; 3]) -> [MemoryFile<'a>; 3] {
     [
         whole(NAMES[0], bytes[0]),
@@ -20,7 +20,7 @@ fn table_files<'a>(bytes: [&'a [u8]; 3]) -> [MemoryFile<'a>; 3] {
     ]
 }
 
-/// The bytes of the tables' files, and the line that says the first fault.
+/// The bytes of the files of the tables, and the line of the first error.
 const FAULTY_TABLES: [([&'static [u8]; 3], &'static [u8]); 10] = [
     (
         [b"05D0 ; R\n05CF..05D1 ; R\n", b"x", b"x"],

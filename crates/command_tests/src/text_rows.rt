@@ -3,7 +3,7 @@ use crate::command_lines::{JUDGE_CHARACTERS, JUDGE_CLASSES};
 use crate::memory_files::{MemoryFiles, tables_and, whole};
 use crate::runs::{Ending, assert_run, assert_run_over, outcome_of};
 
-/// The words for rows of FILE by the small tables, under these directions.
+/// Returns the arguments for rows of FILE with the small tables, under these directions.
 fn of_file<'a>(directions: &'a str) -> [&'a str; 8] {
     [
         "bidi",
@@ -17,7 +17,7 @@ fn of_file<'a>(directions: &'a str) -> [&'a str; 8] {
     ]
 }
 
-/// The words for rows of FILE by the small tables, of a kind.
+/// Returns the arguments for rows of FILE with the small tables, of a kind.
 fn by_tables<'a>(kind: &'a str) -> [&'a str; 8] {
     [
         "bidi", "rows", "--of", "FILE", "--tables", "t", "--kind", kind,

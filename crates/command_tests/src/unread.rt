@@ -1,4 +1,4 @@
-//! Reads that fail behind each number of a file's bytes, under each command.
+//! Reads that fail after each number of a file's bytes, under each command.
 use crate::failing_files::FailingFiles;
 use crate::memory_files::{cut, tables_and};
 use crate::runs::{Ending, assert_run, assert_run_over};
@@ -34,7 +34,7 @@ fn says_that_a_file_was_not_read_to_its_end(rt: HostRuntime) {
     }
 }
 
-/// A failure may also come in the place of the end.
+/// A read may also fail at the end of the file.
 #[test]
 fn says_that_a_read_failed(rt: HostRuntime) {
     let unread = Ending::fails(3, b"bidi: cannot read FILE\n");

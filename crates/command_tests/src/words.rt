@@ -1,4 +1,4 @@
-//! Words that are refused, help and the version.
+//! Arguments that are rejected, help and the version.
 use crate::runs::{Ending, Text, assert_run};
 
 const REFUSED_LINES: [&'static [&'static str]; 41] = [

@@ -1,7 +1,7 @@
-//! Writers in memory: one that fails after some bytes, one that fails at once, and one that holds what is written.
+//! Writers in memory: one that fails after some bytes, one that fails at once, and one that stores what is written.
 use std::io::{self, Write};
 
-/// Takes so many bytes and then fails; a flush fails where it is said so.
+/// Takes so many bytes and then fails. A flush fails unless `flushes` is set.
 #[derive(Drop)]
 pub struct ShortWriter {
     pub left: usize,
@@ -27,7 +27,7 @@ impl Write for ShortWriter {
     }
 }
 
-/// Takes nothing: each write and each flush fails by an error of this kind.
+/// Takes nothing: each write and each flush fails with an error of this kind.
 #[derive(Drop)]
 pub struct RefusingWriter {
     pub kind: io::ErrorKind,
@@ -43,10 +43,10 @@ impl Write for RefusingWriter {
     }
 }
 
-/// As many bytes as each text of the command has at most in these tests.
+/// The maximum number of bytes of an output in these tests.
 const MOST_WRITTEN: usize = 4096;
 
-/// Holds what is written in an array, and how much of it was handed on by a flush, and takes no memory.
+/// Stores what is written in an array, and how much of it was flushed. It allocates no memory.
 #[derive(Drop)]
 pub struct FixedWriter {
     bytes: [u8; MOST_WRITTEN],
@@ -55,7 +55,7 @@ pub struct FixedWriter {
 }
 
 impl FixedWriter {
-    /// A writer to which nothing was written.
+    /// Creates a writer without output.
     pub fn new() -> Self {
         FixedWriter {
             bytes: [0; MOST_WRITTEN],
@@ -64,12 +64,12 @@ impl FixedWriter {
         }
     }
 
-    /// What was written to it.
+    /// Returns what was written.
     pub fn written(&self) -> &[u8] {
         &self.bytes[..self.len.min(MOST_WRITTEN)]
     }
 
-    /// What of that was handed on.
+    /// Returns what was flushed of that.
     pub fn handed_on(&self) -> &[u8] {
         &self.bytes[..self.handed_on.min(MOST_WRITTEN)]
     }
