@@ -1,17 +1,17 @@
-//! Arbitrary bytes: malformed as files of both kinds, and the same verdict in pieces of any length.
+//! Arbitrary bytes: they are malformed as files of both kinds, with the same verdict in pieces of any size.
 use crate::given::{arbitrary, characters_fed, classes_fed};
 use bidtests::verdict::Verdict;
 use std::alloc::Global;
 use std::process::Abort;
 use std::test::Fail;
 
-/// The verdict says that the bytes are malformed, and is the one on the whole.
+/// Expects that the verdict is `Malformed`, and that it is the verdict on the bytes in one piece.
 fn is_malformed(rt: &impl Abort, verdict: Verdict, whole: Verdict) {
     assert!(rt; matches!(verdict, Verdict::Malformed { .. }), "{verdict:?}");
     assert_eq!(rt; verdict, whole);
 }
 
-/// Both kinds refuse the bytes as malformed, with one verdict however they are cut.
+/// Expects that the bytes are malformed as files of both kinds, with the same verdict in pieces of 1 and of 7 bytes.
 fn expect_malformed(rt: &impl Abort, alloc: Global, bytes: &[u8]) -> Result<(), Fail> {
     let classes = classes_fed(alloc, bytes, bytes.len())?;
     let characters = characters_fed(alloc, bytes, bytes.len())?;
@@ -22,7 +22,7 @@ fn expect_malformed(rt: &impl Abort, alloc: Global, bytes: &[u8]) -> Result<(), 
     Ok(())
 }
 
-/// The same of the bytes behind this one and each of the next 31.
+/// Expects the same of the arbitrary bytes from each of 32 first bytes, beginning with this one.
 fn expect_all_malformed(rt: &impl Abort, alloc: Global, first: u8) -> Result<(), Fail> {
     for added in 0..32 {
         expect_malformed(rt, alloc, &arbitrary(first.wrapping_add(added)))?;

@@ -1,4 +1,4 @@
-//! Rows of files of characters, by the tables of a few characters.
+//! Rows of files of characters, with the tables of a few characters.
 use crate::given::{characters_fed, characters_judged, fed, malformed, tables, wrong, yes};
 use bidtests::judge::Judge;
 use bidtests::reader::ReadFault;
@@ -15,10 +15,10 @@ use units::slice_source::SliceSource;
 
 const PARA_DIFFERS: &[u8] = b"0061;0;1;0;0\n";
 
-/// A pair of brackets, canonically equivalent, around R and before R: each takes the paragraph's level.
+/// A pair of canonically equivalent brackets, around R and before R: each takes the paragraph's level.
 const PAIR: &[u8] = b"0061 2329 05D0 3009 05D1;0;0;0 0 1 0 1;0 1 2 3 4\n";
 
-/// The verdict is this one however the bytes are cut.
+/// Expects this verdict on the bytes, in pieces of several sizes.
 fn expect(
     rt: &impl Abort,
     alloc: Global,
@@ -32,7 +32,7 @@ fn expect(
     Ok(())
 }
 
-/// Files that are right: their bytes, and how many rows, each of one case.
+/// Right files: their bytes, and the number of rows, each of one case.
 const RIGHT: [(&[u8], u64); 9] = [
     (b"", 0),
     (b"05D0 0031 002C 0032;0;0;1 2 2 2;1 2 3 0\n", 1),
@@ -59,7 +59,7 @@ fn rows_that_are_right(rt: HostRuntime) -> Result<(), TableFault> {
     Ok(())
 }
 
-/// Lines that are malformed, each alone in its file.
+/// Malformed lines, each alone in its file.
 const MALFORMED: [(&[u8], Cause); 8] = [
     (b"0061;0;0;0;0;\n", Cause::FieldCount),
     (b";0;0;;\n", Cause::EmptyRow),
@@ -79,7 +79,7 @@ fn lines_that_are_malformed(rt: HostRuntime) -> Result<(), TableFault> {
     Ok(())
 }
 
-/// Rows that are wrong, each alone in its file: the direction and the place where it is.
+/// Wrong rows, each alone in its file, with the direction and the place.
 const WRONG: [(&[u8], Direction, Place); 6] = [
     (PARA_DIFFERS, Direction::Ltr, Place::ParaLevel),
     (b"0061;3;1;0;0\n", Direction::AutoRtl, Place::ParaLevel),
@@ -97,7 +97,7 @@ fn rows_that_are_wrong(rt: HostRuntime) -> Result<(), TableFault> {
     Ok(())
 }
 
-/// The verdict on the pair, in pieces of 7, by these limits.
+/// Returns the verdict on the pair with these limits, in pieces of 7.
 fn pair_judged(alloc: Global, limits: Limits) -> Result<Verdict, TableFault> {
     let tables = tables(alloc)?;
     match Judge::for_characters_with(alloc, &tables, limits) {
@@ -106,7 +106,7 @@ fn pair_judged(alloc: Global, limits: Limits) -> Result<Verdict, TableFault> {
     }
 }
 
-/// BD16: where no bracket can be open no pair counts, and where one can be, the pair does.
+/// BD16: if no bracket can be open, no pair counts; if one can be open, the pair counts.
 #[test]
 fn the_open_brackets_are_as_many_as_are_handed_in(rt: HostRuntime) -> Result<(), Fail> {
     for (brackets, verdict) in [
@@ -133,7 +133,8 @@ fn making_a_judge_succeeds(rt: HostRuntime) {
     assert!(&rt; characters_fed(rt.alloc(), b"", 1).is_ok());
 }
 
-/// Passes whichever growth is refused: in making the judge it is answered as memory, and later there is none.
+/// Passes whichever allocation fails: a failure in creating the judge is returned as `Memory`, and nothing is allocated
+/// later.
 #[test]
 fn no_growth_comes_after_making(rt: HostRuntime) {
     match characters_fed(rt.alloc(), PARA_DIFFERS, 1) {

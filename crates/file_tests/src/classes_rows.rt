@@ -13,14 +13,14 @@ use units::memory::Memory;
 /// A file of classes whose row is wrong under `rtl`.
 pub const WRONG_UNDER_RTL: &[u8] = b"@Levels: 0\n@Reorder: 0\nL; 7\n";
 
-/// The verdict on it.
+/// The verdict on this file.
 pub const WRONG_UNDER_RTL_VERDICT: Verdict = Verdict::Wrong {
     line: 3,
     direction: Direction::Rtl,
     place: Place::Levels(0),
 };
 
-/// The verdict is this one however the bytes are cut.
+/// Expects this verdict on the bytes, in pieces of several sizes.
 fn expect(rt: &impl Abort, alloc: Global, bytes: &[u8], verdict: Verdict) -> Result<(), Memory> {
     for size in [bytes.len(), 1, 4, 7] {
         let answer = classes_fed(alloc, bytes, size)?;
@@ -29,7 +29,7 @@ fn expect(rt: &impl Abort, alloc: Global, bytes: &[u8], verdict: Verdict) -> Res
     Ok(())
 }
 
-/// Files that are right: their bytes, and how many rows and cases they have.
+/// Right files: their bytes, and the numbers of rows and cases.
 const RIGHT: [(&[u8], u64, u64); 6] = [
     (b"", 0, 0),
     (b"@Levels: 1 1 0\n@Reorder: 1 0 2\nR B L; 1\n", 1, 1),
@@ -51,7 +51,7 @@ fn rows_that_are_right(rt: HostRuntime) -> Result<(), Memory> {
     Ok(())
 }
 
-/// The verdict on a file of this one row under these lists.
+/// Expects that a file of this one row with these lists is right.
 fn expect_yes(
     rt: &impl Abort,
     alloc: Global,
@@ -66,7 +66,7 @@ fn expect_yes(
     Ok(())
 }
 
-/// Rows that are right: the lists of their levels and of their order, the row, and how many cases it has.
+/// Right rows: the lists of their levels and of their order, the row, and the number of its cases.
 const BY_RULE: [(&str, &str, &str, u64); 12] = [
     // X9: removed positions have no level.
     ("x", "", "LRE; 7", 3),
@@ -78,15 +78,15 @@ const BY_RULE: [(&str, &str, &str, u64); 12] = [
         "R ON LRI L PDI ON R; 2",
         1,
     ),
-    // L1 goes by the original classes.
+    // L1 uses the original classes.
     ("0 x 1 0", "0 2 3", "L RLO R WS; 2", 1),
-    // P2, X5c: the content of an isolate says nothing of the paragraph's level, and that of an FSI its direction.
+    // P2, X5c: the content of an isolate doesn't affect the paragraph's level, and that of an FSI gives its direction.
     ("0 1 0 0", "0 1 2 3", "FSI R PDI L; 1", 1),
     // P1: each separator ends a paragraph.
     ("1 1 1", "0 1 2", "B B B; 4", 1),
-    // X6a: a PDI without an initiator closes no embedding.
+    // X6a: a PDI without an initiator doesn't close an embedding.
     ("x 1 2", "2 1", "RLE PDI L; 2", 1),
-    // Bit 8: level 1 where no strong class stands outside of isolates. An FSI acts as under auto.
+    // Bit 8: level 1 if there is no strong class outside of isolates. An FSI acts as under auto.
     ("1", "0", "ON; 8", 1),
     ("0", "0", "L; 8", 1),
     ("0", "0", "L; 11", 3),
@@ -94,7 +94,6 @@ const BY_RULE: [(&str, &str, &str, u64); 12] = [
     ("1 2 1", "2 1 0", "FSI ON PDI; 8", 1),
 ];
 
-/// The same of each row.
 fn expect_each(
     rt: &impl Abort,
     alloc: Global,
@@ -111,7 +110,6 @@ fn rows_by_rule(rt: HostRuntime) -> Result<(), Fail> {
     expect_each(&rt, rt.alloc(), &BY_RULE)
 }
 
-/// Writes a text so many times.
 fn write_times(file: &mut impl Write, text: &str, count: usize) -> io::Result<()> {
     for _ in 0..count {
         write!(file, "{text}")?;
@@ -119,8 +117,8 @@ fn write_times(file: &mut impl Write, text: &str, count: usize) -> io::Result<()
     Ok(())
 }
 
-/// Writes a file of one row under LTR: 62 times `RLE LRE`, then these items, of which only the last remains, at this
-/// place and level.
+/// Writes a file of one row under LTR: 62 times `RLE LRE`, then these items. Only the last of them isn't removed; it
+/// has this position and level.
 fn write_deep_row(file: &mut impl Write, items: &str, place: usize, level: u8) -> io::Result<()> {
     write!(file, "@Levels:")?;
     write_times(file, " x", place)?;
@@ -129,7 +127,7 @@ fn write_deep_row(file: &mut impl Write, items: &str, place: usize, level: u8) -
     write!(file, "{items}; 2\n")
 }
 
-/// Such a file is right.
+/// Expects that such a file is right.
 fn expect_deep(
     rt: &impl Abort,
     alloc: Global,
@@ -143,8 +141,8 @@ fn expect_deep(
     Ok(())
 }
 
-/// BD2, X2 to X5, X7: initiators beyond level 125 overflow, all those behind one that did, too, and a PDF closes such
-/// a one first.
+/// BD2, X2 to X5, X7: initiators beyond level 125 overflow, and so do all after them. A PDF closes an overflowing one
+/// first.
 #[test]
 fn the_deepest_levels(rt: HostRuntime) -> Result<(), Fail> {
     for (items, place, level) in [
@@ -157,12 +155,12 @@ fn the_deepest_levels(rt: HostRuntime) -> Result<(), Fail> {
     Ok(())
 }
 
-/// The verdict of a judge by these limits on the bytes, in pieces of 7.
+/// Returns the verdict on the bytes with these limits, in pieces of 7.
 fn limited(alloc: Global, limits: Limits, bytes: &[u8]) -> Result<Verdict, Memory> {
     Ok(fed(Judge::for_classes_with(alloc, limits)?, bytes, 7))
 }
 
-/// X4: at depth 1 the LRE, which asks for level 2, is refused; at that of the standard it is not.
+/// X4: at depth 1 the LRE, which asks for level 2, overflows; at the depth of the standard it doesn't.
 #[test]
 fn the_depth_is_that_which_is_handed_in(rt: HostRuntime) -> Result<(), Fail> {
     let alloc = rt.alloc();
@@ -186,7 +184,7 @@ fn the_nearest_lists_are_in_force(rt: HostRuntime) -> Result<(), Memory> {
     expect(&rt, rt.alloc(), file, yes(2, 3))
 }
 
-/// Files whose third line is wrong: their bytes, and the direction and the place where it is.
+/// Files whose third line is wrong: their bytes, the direction and the place.
 const WRONG: [(&[u8], Direction, Place); 7] = [
     (WRONG_UNDER_RTL, Direction::Rtl, Place::Levels(0)),
     (
@@ -229,7 +227,7 @@ fn rows_that_are_wrong(rt: HostRuntime) -> Result<(), Memory> {
     Ok(())
 }
 
-/// Files with a malformed line: their bytes, the number of that line, and what is malformed.
+/// Files with a malformed line: their bytes, the number of the line, and the cause.
 const MALFORMED: [(&[u8], u64, Cause); 14] = [
     (b"L; 7\n", 1, Cause::NoExpectation),
     (b"@Levels: 127\n", 1, Cause::LevelItem),

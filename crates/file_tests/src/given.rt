@@ -1,4 +1,4 @@
-//! What rows are made of: the files of a few characters and their tables, and verdicts.
+//! What the tests share: the tables of a few characters, verdicts, and judges of bytes and of sources.
 use bidtests::judge::Judge;
 use bidtests::reader::{ReadFault, judge_reader};
 use bidtests::verdict::{Cause, Place, Verdict};
@@ -14,7 +14,7 @@ use units::memory::Memory;
 use units::slice_source::SliceSource;
 use units::source::ByteSource;
 
-/// The tables of the small files.
+/// Returns the tables of the small files.
 pub fn tables(alloc: Global) -> Result<Tables, TableFault> {
     Ok(Tables::new(
         ClassTable::read(alloc, &mut SliceSource::new(CLASSES))?,
@@ -23,17 +23,17 @@ pub fn tables(alloc: Global) -> Result<Tables, TableFault> {
     ))
 }
 
-/// Yes with these numbers.
+/// Returns the verdict `Yes` with these numbers.
 pub fn yes(rows: u64, cases: u64) -> Verdict {
     Verdict::Yes { rows, cases }
 }
 
-/// Malformed at this line.
+/// Returns the verdict `Malformed` at this line.
 pub fn malformed(line: u64, cause: Cause) -> Verdict {
     Verdict::Malformed { line, cause }
 }
 
-/// Wrong at this line and place.
+/// Returns the verdict `Wrong` at this line and place.
 pub fn wrong(line: u64, direction: Direction, place: Place) -> Verdict {
     Verdict::Wrong {
         line,
@@ -42,7 +42,7 @@ pub fn wrong(line: u64, direction: Direction, place: Place) -> Verdict {
     }
 }
 
-/// The verdict on bytes that are fed in pieces of this size, with empty pieces between.
+/// Returns the verdict on bytes in pieces of this size, with empty pieces between them.
 pub fn fed(mut judge: Judge<'_>, bytes: &[u8], size: usize) -> Verdict {
     for piece in bytes.chunks(size.max(1)) {
         judge.feed(piece);
@@ -51,12 +51,12 @@ pub fn fed(mut judge: Judge<'_>, bytes: &[u8], size: usize) -> Verdict {
     judge.finish()
 }
 
-/// The verdict of a new judge of files of classes on bytes that are fed so.
+/// Returns the verdict on such pieces of a file of classes.
 pub fn classes_fed(alloc: Global, bytes: &[u8], size: usize) -> Result<Verdict, Memory> {
     Ok(fed(Judge::for_classes(alloc)?, bytes, size))
 }
 
-/// The verdict of a new judge of files of characters, by the tables, on bytes that are fed so.
+/// Returns the verdict on such pieces of a file of characters, with the small tables.
 pub fn characters_fed(alloc: Global, bytes: &[u8], size: usize) -> Result<Verdict, TableFault> {
     let tables = tables(alloc)?;
     match Judge::for_characters(alloc, &tables) {
@@ -65,7 +65,7 @@ pub fn characters_fed(alloc: Global, bytes: &[u8], size: usize) -> Result<Verdic
     }
 }
 
-/// What a new judge of files of classes answers on what a source hands out.
+/// Returns what a judge of files of classes returns for this source.
 pub fn classes_judged(
     alloc: Global,
     source: &mut impl ByteSource,
@@ -73,7 +73,7 @@ pub fn classes_judged(
     Ok(judge_reader(Judge::for_classes(alloc)?, source))
 }
 
-/// What a new judge of files of characters, by the tables, answers on what a source hands out.
+/// Returns what a judge of files of characters, with the small tables, returns for this source.
 pub fn characters_judged(
     alloc: Global,
     source: &mut impl ByteSource,
@@ -85,8 +85,8 @@ pub fn characters_judged(
     }
 }
 
-/// 4,096 bytes: behind this one, each is 197 times the one before it, plus the index of that one, in the last eight
-/// bits.
+/// Returns 4,096 bytes that begin with this one. Each of the others is 197 times the byte before it, plus the index of
+/// that byte, modulo 256.
 pub fn arbitrary(first: u8) -> [u8; 4096] {
     let mut bytes = [0; 4096];
     let mut byte = first;

@@ -1,4 +1,4 @@
-//! How bytes come to a judge: in pieces, on long lines, from sources, and with memory refused.
+//! How a judge gets its bytes: in pieces, on long lines, from sources, and with failing allocations.
 use crate::classes_rows::{WRONG_UNDER_RTL, WRONG_UNDER_RTL_VERDICT};
 use crate::given::{classes_fed, classes_judged, malformed, yes};
 use bidtests::judge::Judge;
@@ -16,7 +16,8 @@ const LONG_ROW_VERDICT: Verdict = Verdict::Wrong {
     place: Place::Levels(1),
 };
 
-/// The third line has 65,535 bytes: 32,767 times `L`, with single blanks between, then `;2`, and LF.
+/// Passes a file whose third line has 65,535 bytes: 32,767 times `L`, with single blanks between them, then `;2`, and
+/// LF.
 fn feed_long_row(judge: &mut Judge<'_>) {
     for byte in b"@Levels: 0\n@Reorder: 0\n" {
         judge.feed(&[*byte]);
@@ -30,14 +31,14 @@ fn feed_long_row(judge: &mut Judge<'_>) {
     }
 }
 
-/// So many times `a`, each in a piece of its own.
+/// Passes `a` so many times, each in a piece of its own.
 fn feed_letters(judge: &mut Judge<'_>, count: usize) {
     for _ in 0..count {
         judge.feed(b"a");
     }
 }
 
-/// The verdict on these bytes, so many times `a`, and then these.
+/// Returns the verdict on these bytes, so many times `a`, and then these bytes.
 fn letters_between(
     alloc: Global,
     start: &[u8],
@@ -51,7 +52,6 @@ fn letters_between(
     Ok(judge.finish())
 }
 
-/// The verdict on these bytes, in two pieces.
 fn in_two_pieces(alloc: Global, first: &[u8], rest: &[u8]) -> Result<Verdict, Memory> {
     let mut judge = Judge::for_classes(alloc)?;
     judge.feed(first);
@@ -81,7 +81,7 @@ fn lines_up_to_the_longest(rt: HostRuntime) -> Result<(), Memory> {
     Ok(())
 }
 
-/// A line may be over-long before it ends: 65,537 times `a`.
+/// A line may be too long before it ends: 65,537 times `a`.
 #[test]
 fn a_line_without_end(rt: HostRuntime) -> Result<(), Memory> {
     let verdict = letters_between(rt.alloc(), b"a", 65_535, b"a")?;
@@ -110,14 +110,14 @@ fn making_a_judge_succeeds(rt: HostRuntime) {
     assert!(&rt; classes_fed(rt.alloc(), b"", 1).is_ok());
 }
 
-/// The verdict on the file with the long row.
 fn long_row_verdict(alloc: Global) -> Result<Verdict, Memory> {
     let mut judge = Judge::for_classes(alloc)?;
     feed_long_row(&mut judge);
     Ok(judge.finish())
 }
 
-/// Passes whichever growth is refused: in making the judge it is answered as memory, and later there is none.
+/// Passes whichever allocation fails: a failure in creating the judge is returned as `Memory`, and nothing is allocated
+/// later.
 #[test]
 fn no_growth_comes_after_making(rt: HostRuntime) {
     if let Ok(verdict) = long_row_verdict(rt.alloc()) {

@@ -1,5 +1,5 @@
-//! Tests of test files of both kinds, their judges and reports, and of sources of bytes. They stand here, and not beside
-//! what they test, so that no crate is proved a second time with its tests.
+//! Tests of test files of both kinds, their judges and reports, and of sources of bytes. They are in a crate of their
+//! own, so that no crate is proved a second time with its tests.
 #![tactic(auto)]
 
 #[cfg(test)]

@@ -1,4 +1,4 @@
-//! Sources that fail, of files of both kinds.
+//! Sources that fail, with files of both kinds.
 use crate::given::{characters_judged, classes_judged, wrong};
 use bidtests::reader::ReadFault;
 use bidtests::verdict::Place;
@@ -13,7 +13,7 @@ const CLASSES_FILE: &[u8] = b"@Levels: 0\n@Reorder: 0\nL; 7\n";
 
 const CHARACTERS_FILE: &[u8] = b"0061;0;0;0;0\n0061;0;1;0;0\n";
 
-/// A read past the limit of the reader fails, and leaves no verdict.
+/// A read past the limit of the reader fails, so there is no verdict.
 #[test]
 fn a_reader_is_read_up_to_its_limit(rt: HostRuntime) -> Result<(), Memory> {
     for most in 0..=28 {

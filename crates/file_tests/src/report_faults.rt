@@ -1,5 +1,5 @@
-//! The order of the faults of a report that is printed as its file is read, where a write fails before the source does,
-//! and how far the source is read then.
+//! The order of errors if a report is printed while its file is read and a write fails before the source does, and how
+//! far the source is then read.
 use bidtests::kind::Kind;
 use printing::written::Written;
 use report::print::{ReportFault, print_report};
@@ -13,7 +13,7 @@ use units::limits::Limits;
 use units::slice_source::SliceSource;
 use units::source::ByteSource;
 
-/// Fails at each write and at each flush, by an error of this kind.
+/// Fails at each write and at each flush, with an error of this kind.
 #[derive(Drop)]
 struct Failing {
     kind: ErrorKind,
@@ -29,19 +29,19 @@ impl Write for Failing {
     }
 }
 
-/// Kinds of a write that fails though somebody may read what is written.
+/// Kinds of write errors after which somebody may still read the output.
 const KINDS: [ErrorKind; 3] = [
     ErrorKind::StorageFull,
     ErrorKind::ConnectionReset,
     ErrorKind::Other,
 ];
 
-/// The lists of a file of classes, by which a row of one letter is wrong, and such a row.
+/// The lists of a file of classes. A row of one letter is wrong with them.
 const LISTS: &[u8] = b"@Levels: 1\n@Reorder: 0\n";
 
 const ROW: &[u8] = b"L; 4\n";
 
-/// A file of so many wrong rows, of 5 bytes each after 23 bytes.
+/// Returns a file with so many wrong rows, of 5 bytes each, after 23 bytes.
 fn wrong_rows(alloc: Global, rows: usize) -> Result<Vec<u8>, AllocError> {
     let mut file = Vec::from_slice(alloc, LISTS)?;
     for _ in 0..rows {
@@ -50,7 +50,7 @@ fn wrong_rows(alloc: Global, rows: usize) -> Result<Vec<u8>, AllocError> {
     Ok(file)
 }
 
-/// Prints the report on what the source gives, with all wrong cases.
+/// Prints the report on this source, with all wrong cases.
 fn printed<S: ByteSource, W: Write>(
     alloc: Global,
     source: &mut S,
@@ -105,7 +105,7 @@ fn says_else_that_a_write_failed(rt: HostRuntime) -> Result<(), Fail> {
     Ok(())
 }
 
-/// A source of more than one read is left where it is as soon as nobody reads what is written.
+/// If nobody reads the output any more, the rest of a source is not read.
 #[test]
 fn reads_no_further_where_nobody_reads(rt: HostRuntime) -> Result<(), Fail> {
     let alloc = rt.alloc();

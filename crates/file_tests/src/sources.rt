@@ -23,7 +23,7 @@ impl Read for Interrupted {
     }
 }
 
-/// Fails at each read, by an error of this kind.
+/// Fails at each read, with an error of this kind.
 #[derive(Drop)]
 struct Failing {
     kind: io::ErrorKind,
@@ -35,7 +35,7 @@ impl Read for Failing {
     }
 }
 
-/// Reads into the buffer as often as there are answers, and expects these.
+/// Reads into the buffer once for each expected result, and compares the results.
 fn answers(
     rt: &impl Abort,
     source: &mut impl ByteSource,

@@ -1,4 +1,4 @@
-//! The line that is printed of a verdict.
+//! The line that is printed for a verdict.
 use bidtests::verdict::{Cause, Place, Verdict};
 use bidtests::verdict_line::print_verdict;
 use std::alloc::Global;
@@ -49,7 +49,7 @@ fn prints_each_form_of_verdict(rt: HostRuntime) {
     }
 }
 
-/// Numbers of rows and of lines, and where a place is.
+/// Numbers of rows and of lines, and indices of places.
 const NUMBERS: [u64; 13] = [
     255,
     256,
@@ -66,7 +66,6 @@ const NUMBERS: [u64; 13] = [
     18_446_744_073_709_551_615,
 ];
 
-/// Expects that the line of a verdict is written.
 fn is_printed(rt: &impl Abort, alloc: Global, verdict: Verdict) {
     let mut out = Vec::new(alloc);
     assert!(rt; print_verdict(&mut out, &verdict).is_ok(), "{verdict:?}");
