@@ -1,4 +1,4 @@
-//! The row of a case in a file of characters as it was printed at first: each item by a `write!` of its own.
+//! The first implementation of the row of a case in a file of characters: it writes each item with its own `write!`.
 use crate::class_rows_in_pieces::{print_levels, print_names, print_positions};
 use lines::layout::Layout;
 use rows::letter::Letter;
@@ -6,7 +6,6 @@ use std::io;
 use std::io::Write;
 use units::level::{Direction, Level};
 
-/// The number that names a direction.
 fn number_of(direction: Direction) -> &'static str {
     match direction {
         Direction::Ltr => "0",
@@ -16,7 +15,7 @@ fn number_of(direction: Direction) -> &'static str {
     }
 }
 
-/// Writes the level of the first paragraph, where there is one.
+/// Writes the level of the first paragraph, if there is one.
 fn print_para<W: Write>(w: &mut W, layout: &Layout<'_>) -> io::Result<()> {
     match layout.para_levels() {
         [first, ..] => write!(w, "{}", first.level().get()),
@@ -24,7 +23,7 @@ fn print_para<W: Write>(w: &mut W, layout: &Layout<'_>) -> io::Result<()> {
     }
 }
 
-/// Writes a level, or `x` where the position is removed.
+/// Writes a level, or `x` if the position is removed.
 fn print_first_level<W: Write>(w: &mut W, level: Option<Level>) -> io::Result<()> {
     match level {
         Some(level) => write!(w, "{}", level.get()),
@@ -32,7 +31,7 @@ fn print_first_level<W: Write>(w: &mut W, level: Option<Level>) -> io::Result<()
     }
 }
 
-/// Writes the levels, a blank between each two.
+/// Writes the levels, separated by blanks.
 fn print_levels_between<W: Write>(w: &mut W, levels: &[Option<Level>]) -> io::Result<()> {
     if let [first, others @ ..] = levels {
         print_first_level(w, *first)?;
@@ -41,7 +40,8 @@ fn print_levels_between<W: Write>(w: &mut W, levels: &[Option<Level>]) -> io::Re
     Ok(())
 }
 
-/// Writes the positions of a line, the first of them behind a blank where others have begun.
+/// Writes the positions of a line, separated by blanks. If there are positions before them, the first one is after a
+/// blank too.
 fn print_line_positions<W: Write>(w: &mut W, order: &[usize], begun: bool) -> io::Result<()> {
     if begun {
         return print_positions(w, order);
@@ -53,12 +53,12 @@ fn print_line_positions<W: Write>(w: &mut W, order: &[usize], begun: bool) -> io
     Ok(())
 }
 
-/// Whether a position was written, in an earlier line or in this one.
+/// Returns whether a position was written, in an earlier line or in this one.
 fn has_begun(begun: bool, order: &[usize]) -> bool {
     begun || !order.is_empty()
 }
 
-/// Writes the orders of all lines, one behind another, a blank between each two positions.
+/// Writes the orders of all lines, one after the other, with all positions separated by blanks.
 fn print_orders_between<W: Write>(w: &mut W, layout: &Layout<'_>) -> io::Result<()> {
     let mut begun = false;
     for k in 0..layout.line_count() {
@@ -69,7 +69,6 @@ fn print_orders_between<W: Write>(w: &mut W, layout: &Layout<'_>) -> io::Result<
     Ok(())
 }
 
-/// Writes the fields of the levels and of the order.
 fn print_levels_and_order<W: Write>(w: &mut W, layout: &Layout<'_>) -> io::Result<()> {
     print_levels_between(w, layout.levels())?;
     write!(w, ";")?;
@@ -83,7 +82,7 @@ fn print_layout<W: Write>(w: &mut W, layout: &Layout<'_>) -> io::Result<()> {
     print_levels_and_order(w, layout)
 }
 
-/// Writes the fields of the row of a text under a direction, of which this is the layout.
+/// Writes the fields of the row of a text with this layout, under this direction.
 fn print_fields<W: Write>(
     w: &mut W,
     text: &[Letter],
@@ -96,7 +95,7 @@ fn print_fields<W: Write>(
     print_layout(w, layout)
 }
 
-/// Writes the row of a text under a direction, of which this is the layout.
+/// Writes the row of a text with this layout, under this direction.
 pub fn print_character_case<W: Write>(
     w: &mut W,
     text: &[Letter],

@@ -1,11 +1,11 @@
-//! The lines of a case in a file of classes as they were printed at first: each item by a `write!` of its own.
+//! The first implementation of the lines of a case in a file of classes: it writes each item with its own `write!`.
 use lines::layout::Layout;
 use rows::letter::Letter;
 use std::io::Write;
 use std::{fmt, io};
 use units::level::{Direction, Level};
 
-/// A letter, named by its class, or by its code point in upper-case hex digits, at least four.
+/// A letter that is printed as its class, or as its code point with at least four upper-case hex digits.
 #[derive(Clone, Copy)]
 struct Name(Letter);
 
@@ -21,7 +21,7 @@ impl fmt::Display for Name {
     }
 }
 
-/// Writes a level, or `x` where the position is removed, behind a blank.
+/// Writes a blank, and then a level, or `x` if the position is removed.
 fn print_level<W: Write>(w: &mut W, level: Option<Level>) -> io::Result<()> {
     match level {
         Some(level) => write!(w, " {}", level.get()),
@@ -29,7 +29,7 @@ fn print_level<W: Write>(w: &mut W, level: Option<Level>) -> io::Result<()> {
     }
 }
 
-/// Writes each level behind a blank.
+/// Writes the levels, each after a blank.
 pub fn print_levels<W: Write>(w: &mut W, levels: &[Option<Level>]) -> io::Result<()> {
     for level in levels {
         print_level(w, *level)?;
@@ -37,7 +37,7 @@ pub fn print_levels<W: Write>(w: &mut W, levels: &[Option<Level>]) -> io::Result
     Ok(())
 }
 
-/// Writes each position behind a blank.
+/// Writes the positions, each after a blank.
 pub fn print_positions<W: Write>(w: &mut W, order: &[usize]) -> io::Result<()> {
     for position in order {
         write!(w, " {position}")?;
@@ -45,7 +45,7 @@ pub fn print_positions<W: Write>(w: &mut W, order: &[usize]) -> io::Result<()> {
     Ok(())
 }
 
-/// Writes the orders of all lines, one behind another.
+/// Writes the orders of all lines, one after the other.
 fn print_orders<W: Write>(w: &mut W, layout: &Layout<'_>) -> io::Result<()> {
     for k in 0..layout.line_count() {
         print_positions(w, layout.line(k).order)?;
@@ -53,7 +53,7 @@ fn print_orders<W: Write>(w: &mut W, layout: &Layout<'_>) -> io::Result<()> {
     Ok(())
 }
 
-/// Writes the names of these letters, each behind a blank.
+/// Writes the names of these letters, each after a blank.
 fn print_names_behind<W: Write>(w: &mut W, text: &[Letter]) -> io::Result<()> {
     for letter in text {
         let name = Name(*letter);
@@ -62,7 +62,7 @@ fn print_names_behind<W: Write>(w: &mut W, text: &[Letter]) -> io::Result<()> {
     Ok(())
 }
 
-/// Writes the names of a text's letters, a blank between each two.
+/// Writes the names of a text's letters, separated by blanks.
 pub fn print_names<W: Write>(w: &mut W, text: &[Letter]) -> io::Result<()> {
     if let [first, others @ ..] = text {
         let first = Name(*first);
@@ -72,7 +72,6 @@ pub fn print_names<W: Write>(w: &mut W, text: &[Letter]) -> io::Result<()> {
     Ok(())
 }
 
-/// The bit that names a direction.
 fn bit_of(direction: Direction) -> &'static str {
     match direction {
         Direction::Auto => "1",
@@ -82,28 +81,25 @@ fn bit_of(direction: Direction) -> &'static str {
     }
 }
 
-/// Writes the line of the levels.
 fn print_levels_line<W: Write>(w: &mut W, levels: &[Option<Level>]) -> io::Result<()> {
     write!(w, "@Levels:")?;
     print_levels(w, levels)?;
     writeln!(w)
 }
 
-/// Writes the line of the order.
 fn print_order_line<W: Write>(w: &mut W, layout: &Layout<'_>) -> io::Result<()> {
     write!(w, "@Reorder:")?;
     print_orders(w, layout)?;
     writeln!(w)
 }
 
-/// Writes the row.
 fn print_row_line<W: Write>(w: &mut W, text: &[Letter], direction: Direction) -> io::Result<()> {
     print_names(w, text)?;
     let bit = bit_of(direction);
     writeln!(w, "; {bit}")
 }
 
-/// Writes the lines of a text under a direction, of which this is the layout: its levels, its order, and its row.
+/// Writes the lines of a text with this layout, under this direction: its levels, its order, and its row.
 pub fn print_class_case<W: Write>(
     w: &mut W,
     text: &[Letter],

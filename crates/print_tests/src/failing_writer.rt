@@ -1,29 +1,29 @@
-//! A writer that fails, in one of several manners, and holds what it took.
+//! A writer that fails, in one of several manners, and stores what it took.
 use std::io::{self, ErrorKind, Write};
 
-/// The most bytes that such a writer holds.
+/// The maximum number of bytes that such a writer stores.
 pub const MOST_HELD: usize = 2048;
 
-/// How a writer takes what it is given.
+/// How a writer takes the bytes that it is given.
 #[derive(Clone, Copy, Debug, PartialEq, Eq)]
 pub enum Manner {
-    /// Holds so many bytes, and fails with a call of `write` whose bytes don't all fit, of which it takes none.
+    /// Takes so many bytes in all. It fails with a call of `write` whose bytes don't all fit, and takes none of them.
     Holds(usize),
-    /// Takes so many bytes in a call, and fails with a longer one, of which it takes none.
+    /// Takes up to so many bytes in a call. It fails with a longer call, and takes none of its bytes.
     Short(usize),
     /// Takes so many bytes of each call.
     Parts(usize),
-    /// Takes so many bytes, and then none of any call.
+    /// Takes so many bytes in all, and then none of any call.
     Ends(usize),
-    /// Takes so many bytes, of a call the part that fits, and then fails.
+    /// Takes so many bytes in all, of the last call only the part that fits, and then fails.
     Fills(usize),
-    /// Fails with the call of this number, counted from 1, and takes all others whole.
+    /// Fails with the call of this number, counted from 1, and takes all bytes of the others.
     FailsOnce(usize),
-    /// Is interrupted at each second call, and takes all others whole.
+    /// Is interrupted at each second call, and takes all bytes of the others.
     Interrupted,
 }
 
-/// A writer of some manner.
+/// A writer with one of these manners.
 #[derive(Drop)]
 pub struct FailingWriter {
     manner: Manner,
@@ -33,7 +33,7 @@ pub struct FailingWriter {
 }
 
 impl FailingWriter {
-    /// A writer to which nothing was written.
+    /// Creates a writer without output.
     pub fn new(manner: Manner) -> Self {
         FailingWriter {
             manner,
@@ -43,17 +43,17 @@ impl FailingWriter {
         }
     }
 
-    /// What it took.
+    /// Returns the bytes that it took.
     pub fn held(&self) -> &[u8] {
         &self.bytes[..self.len.min(MOST_HELD)]
     }
 
-    /// How often `write` was called.
+    /// Returns the number of calls of `write`.
     pub fn calls(&self) -> usize {
         self.calls
     }
 
-    /// How many bytes it takes of a call with so many.
+    /// Returns the number of bytes that it takes from a call with so many.
     fn taken(&self, len: usize) -> Result<usize, ErrorKind> {
         match self.manner {
             Manner::Holds(most) if len > most.saturating_sub(self.len) => {

@@ -1,4 +1,4 @@
-//! The tables by which texts are printed, the texts, and what is known of a paragraph before it is printed.
+//! The tables with which texts are printed, the texts, and their paragraphs with units and breaks.
 use std::alloc::Global;
 use std::num::NonZeroU16;
 use std::test::Fail;
@@ -11,7 +11,7 @@ use ucdfiles::tables::Tables;
 use units::bracket::Unit;
 use units::slice_source::SliceSource;
 
-/// The tables of the small files.
+/// Returns the tables of the small files.
 pub fn tables(alloc: Global) -> Result<Tables, TableFault> {
     Ok(Tables::new(
         ClassTable::read(alloc, &mut SliceSource::new(CLASSES))?,
@@ -41,7 +41,7 @@ pub const PARAGRAPHS: [&[char]; 4] = [
 /// The characters of which long texts are made.
 pub const REPEATED: [char; 6] = ['a', '\u{5D0}', '\u{202A}', '\u{20AC}', '\u{10900}', '1'];
 
-/// These characters so many times, one behind another.
+/// Returns these characters, repeated so many times.
 pub fn repeated(alloc: Global, characters: &[char], times: usize) -> Result<Vec<char>, Fail> {
     let mut text = Vec::new(alloc);
     for _ in 0..times {
@@ -50,7 +50,7 @@ pub fn repeated(alloc: Global, characters: &[char], times: usize) -> Result<Vec<
     Ok(text)
 }
 
-/// The text of these paragraphs.
+/// Returns the text of these paragraphs.
 pub fn joined(alloc: Global, paragraphs: &[&[char]]) -> Result<Vec<char>, Fail> {
     let mut text = Vec::new(alloc);
     for paragraph in paragraphs {
@@ -59,7 +59,7 @@ pub fn joined(alloc: Global, paragraphs: &[&[char]]) -> Result<Vec<char>, Fail> 
     Ok(text)
 }
 
-/// A paragraph with its units, and where its lines break.
+/// A paragraph with its units and its breaks.
 #[derive(Drop)]
 pub struct Paragraph<'t> {
     pub chars: &'t [char],
@@ -67,7 +67,7 @@ pub struct Paragraph<'t> {
     pub breaks: Vec<usize>,
 }
 
-/// The breaks at every so many positions of a paragraph, but before no separator.
+/// Returns the breaks after each so many positions of a paragraph, except before separators.
 fn breaks_at(alloc: Global, units: &[Unit], columns: usize) -> Result<Vec<usize>, Fail> {
     let mut breaks = Vec::new(alloc);
     for (p, unit) in units.iter().enumerate() {
@@ -78,7 +78,7 @@ fn breaks_at(alloc: Global, units: &[Unit], columns: usize) -> Result<Vec<usize>
     Ok(breaks)
 }
 
-/// A paragraph with its units by these tables, and breaks at columns where such are asked for.
+/// Returns a paragraph with its units from these tables, and with breaks at columns, if there are columns.
 fn paragraph_of<'t>(
     alloc: Global,
     tables: &Tables,
@@ -95,7 +95,7 @@ fn paragraph_of<'t>(
     })
 }
 
-/// These paragraphs with their units by these tables, and breaks at columns where such are asked for.
+/// Returns these paragraphs with their units from these tables, and with breaks at columns, if there are columns.
 pub fn paragraphs<'t>(
     alloc: Global,
     tables: &Tables,

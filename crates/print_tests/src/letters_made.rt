@@ -1,4 +1,4 @@
-//! Letters made of any number of classes or characters.
+//! Letters of any number of classes or characters.
 use crate::given::tables;
 use rows::letters::{character_letters, class_letters};
 use std::alloc::Global;
@@ -7,19 +7,19 @@ use std::test::Fail;
 use ucdfiles::tables::Tables;
 use units::class::Class;
 
-/// How many letters are made: a power of two, or one more or less.
+/// Numbers of letters: a power of two, or one more or less.
 const SIZES: [usize; 9] = [
     255, 256, 257, 65_535, 65_536, 65_537, 1_048_575, 1_048_576, 1_048_577,
 ];
 
-/// Expects letters of the first of these classes.
+/// Expects that the letters of the first of these classes can be made.
 fn classes_make(rt: &impl Abort, alloc: Global, classes: &[Class], size: usize) {
     assert!(rt; size <= classes.len());
     let letters = class_letters(alloc, &classes[..size]);
     assert!(rt; letters.is_ok(), "{size}");
 }
 
-/// Expects letters of the first of these characters.
+/// Expects that the letters of the first of these characters can be made.
 fn characters_make(
     rt: &impl Abort,
     alloc: Global,

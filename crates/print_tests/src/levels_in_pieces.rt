@@ -1,4 +1,5 @@
-//! The text of `levels` as it was printed at first: each line by a `writeln!`, which writes each piece by itself.
+//! The first implementation of the text of `levels`: it writes each line with a `writeln!`, which writes each piece by
+//! itself.
 use crate::given::Paragraph;
 use lines::breaks::Breaks;
 use lines::lay_out::lay_out_into;
@@ -11,7 +12,7 @@ use units::bracket::Unit;
 use units::class::Class;
 use units::level::{Direction, Level, ParaLevel};
 
-/// A character, shown as its code point in upper-case hex digits, at least four.
+/// A character that is printed as its code point, with at least four upper-case hex digits.
 #[derive(Clone, Copy)]
 struct CodePoint(char);
 
@@ -22,7 +23,7 @@ impl fmt::Display for CodePoint {
     }
 }
 
-/// A level after L1, shown as its number, or as x where the position was removed (X9).
+/// A level after L1 that is printed as its number, or as x if the position was removed (X9).
 #[derive(Clone, Copy)]
 struct ShownLevel(Option<Level>);
 
@@ -35,7 +36,7 @@ impl fmt::Display for ShownLevel {
     }
 }
 
-/// Writes the line of a position of the text: where it stands, its code point, original class and level after L1.
+/// Writes the line of a position: its index in the text, its code point, original class and level after L1.
 fn print_position<W: Write>(
     w: &mut W,
     position: usize,
@@ -55,7 +56,7 @@ fn print_paragraph<W: Write>(w: &mut W, number: usize, level: ParaLevel) -> io::
     writeln!(w, "paragraph {number} level {level}")
 }
 
-/// Writes the lines of the positions of a paragraph behind so many characters.
+/// Writes the lines of the positions of a paragraph. There are so many characters before it.
 fn print_positions<W: Write>(
     w: &mut W,
     passed: usize,
@@ -69,7 +70,6 @@ fn print_positions<W: Write>(
     Ok(())
 }
 
-/// The level of the first paragraph.
 fn level_of_first(paras: &[ParaLevel]) -> ParaLevel {
     match paras.first() {
         Some(level) => *level,
@@ -77,7 +77,7 @@ fn level_of_first(paras: &[ParaLevel]) -> ParaLevel {
     }
 }
 
-/// Writes the paragraph of this number, behind so many characters, by its layout.
+/// Writes the paragraph of this number with its layout. There are so many characters before it.
 fn print_one_paragraph<W: Write>(
     w: &mut W,
     number: usize,
@@ -90,7 +90,7 @@ fn print_one_paragraph<W: Write>(
     print_positions(w, passed, chars, units, layout.levels())
 }
 
-/// Lays out the paragraph of this number, behind so many characters, and writes its levels.
+/// Lays out the paragraph of this number, and writes its levels. There are so many characters before it.
 fn print_levels_of<W: Write>(
     w: &mut W,
     number: usize,

@@ -1,6 +1,6 @@
-//! Tests of what a failing writer holds of a printed text, compared with what it held when each piece of the text was
-//! written by itself. They are here, and not beside what they test, so that no crate is proved a second time with its
-//! tests.
+//! Tests of the bytes that a failing writer has taken of a printed text. They are compared with those of the first
+//! implementation, which wrote each piece of the text by itself. The tests are in a crate of their own, so that no
+//! crate is proved a second time with its tests.
 #![tactic(auto)]
 
 #[cfg(test)]

@@ -1,4 +1,4 @@
-//! What a failing writer holds of a text that is printed, compared with what it held at first.
+//! The bytes that a failing writer takes of a printed text, compared with those of the first implementation.
 use crate::failing_writer::{FailingWriter, MOST_HELD, Manner};
 use printing::fault::PrintFault;
 use std::io::ErrorKind;
@@ -7,7 +7,7 @@ use std::process::Abort;
 /// The outcome of printing: an error has its kind, if the call returns one.
 pub type Outcome = Result<(), Option<ErrorKind>>;
 
-/// The outcome of a call whose error doesn't say how the writer failed.
+/// Returns the outcome of a call whose error doesn't state how the writer failed.
 pub fn untold(answer: Result<(), PrintFault>) -> Outcome {
     match answer {
         Ok(()) => Ok(()),
@@ -16,19 +16,20 @@ pub fn untold(answer: Result<(), PrintFault>) -> Outcome {
     }
 }
 
-/// A text that is printed as it was at first, and as it is now.
+/// A text that is printed by the first implementation and by the present one.
 pub trait Printed {
-    /// Writes it as at first, piece by piece.
+    /// Writes the text with the first implementation, in pieces.
     fn in_pieces<R: Abort>(&self, rt: &R, w: &mut FailingWriter) -> Outcome;
 
-    /// Writes it as it is written now.
+    /// Writes the text with the present implementation.
     fn now<R: Abort>(&self, rt: &R, w: &mut FailingWriter) -> Outcome;
 
-    /// Whether all of its bytes are handed over: no failure is returned then that has passed by the next call.
+    /// Returns whether all bytes are passed to the writer even if one call fails. Such a failure, which has passed by
+    /// the next call, isn't returned.
     fn is_handed_over(&self) -> bool;
 }
 
-/// Expects that a writer of this manner holds the same bytes now as at first, with the same outcome.
+/// Expects that a writer of this manner takes the same bytes from both implementations, with the same outcome.
 fn agrees<P: Printed, R: Abort>(rt: &R, printed: &P, manner: Manner) {
     let mut first = FailingWriter::new(manner);
     let mut now = FailingWriter::new(manner);
@@ -38,7 +39,8 @@ fn agrees<P: Printed, R: Abort>(rt: &R, printed: &P, manner: Manner) {
     assert_eq!(rt; now.held(), first.held(), "{manner:?}");
 }
 
-/// Expects the same of writers of each manner that doesn't fail once, for each number of bytes up to the whole text's.
+/// Expects the same of writers of each manner except `FailsOnce`, for each number of bytes up to that of the whole
+/// text.
 fn agree_up_to<P: Printed, R: Abort>(rt: &R, printed: &P, most: usize) {
     for bytes in 0..most {
         agrees(rt, printed, Manner::Holds(bytes));
@@ -52,8 +54,8 @@ fn agree_up_to<P: Printed, R: Abort>(rt: &R, printed: &P, most: usize) {
     agrees(rt, printed, Manner::Interrupted);
 }
 
-/// Expects that a writer that fails once, with the call of this number, holds the whole text if no error is returned,
-/// and otherwise what it took before it failed.
+/// Expects that a writer that fails once, with the call of this number, has the whole text if no error is returned, and
+/// otherwise what it took before it failed.
 fn loses_nothing<P: Printed, R: Abort>(rt: &R, printed: &P, whole: &[u8], call: usize) {
     let mut w = FailingWriter::new(Manner::FailsOnce(call));
     let answer = printed.now(rt, &mut w);
@@ -65,8 +67,9 @@ fn loses_nothing<P: Printed, R: Abort>(rt: &R, printed: &P, whole: &[u8], call: 
     assert!(rt; whole.starts_with(w.held()), "{call}");
 }
 
-/// Expects that writers of each manner hold of a text what they held at first, with the same outcome. Of those that
-/// fail once it expects that no byte is lost: the outcome differs from that at first, which was an error.
+/// Expects that writers of each manner take the same bytes from both implementations, with the same outcome. Writers
+/// that fail once are the exception: the outcome of the first implementation was an error, so this expects only that no
+/// byte is lost.
 pub fn is_printed_as_at_first<P: Printed, R: Abort>(rt: &R, printed: &P) {
     let mut w = FailingWriter::new(Manner::Parts(MOST_HELD));
     assert_eq!(rt; printed.now(rt, &mut w), Ok(()));

@@ -1,4 +1,4 @@
-//! The text of `reorder` as it was printed at first: each character by a `write!` of its own.
+//! The first implementation of the text of `reorder`: it writes each character with its own `write!`.
 ghost use Rattle.std.specs.Prelude.{◌≡◌, ◌<◌, length};
 ghost use Rattle.lines.specs.Layouts.{view_of};
 
@@ -15,7 +15,7 @@ use units::bracket::Unit;
 use units::class::Class;
 use units::level::Direction;
 
-/// Writes a character in UTF-8 as it is shown, unless a paragraph separator stands there.
+/// Writes a character in UTF-8 as it is shown, unless it is a paragraph separator.
 fn print_shown<W: Write>(w: &mut W, class: Class, character: char) -> io::Result<()> {
     if class.is_separator() {
         return Ok(());
@@ -23,7 +23,7 @@ fn print_shown<W: Write>(w: &mut W, class: Class, character: char) -> io::Result
     write!(w, "{character}")
 }
 
-/// Writes the line with the number `k` from left to right, and LF.
+/// Writes the line with index `k` from left to right, and LF.
 fn print_line<W: Write>(
     w: &mut W,
     mirrors: &MirrorTable,
@@ -43,7 +43,7 @@ fn print_line<W: Write>(
     writeln!(w)
 }
 
-/// Writes the lines of a text, each from left to right as it is shown (L2, L4), and LF behind each.
+/// Writes the lines of a text, each from left to right as it is shown (L2, L4), and LF after each.
 fn print_lines<W: Write>(
     w: &mut W,
     mirrors: &MirrorTable,
@@ -60,7 +60,7 @@ fn print_lines<W: Write>(
     Ok(())
 }
 
-/// Writes the lines of a paragraph by its layout.
+/// Writes the lines of a paragraph with its layout.
 fn print_laid_out<W: Write>(
     w: &mut W,
     mirrors: &MirrorTable,

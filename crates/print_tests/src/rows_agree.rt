@@ -1,4 +1,4 @@
-//! Rows of both kinds at writers that fail.
+//! Rows of both kinds, printed to writers that fail.
 ghost use Rattle.std.specs.Prelude.{IfSome};
 ghost use Rattle.lines.specs.Scratches.{IsFilled};
 
@@ -29,7 +29,7 @@ const DIRECTIONS: [Direction; 4] = [
     Direction::AutoRtl,
 ];
 
-/// A text of two paragraphs, with letters of which some are removed, and code points of one to six hex digits.
+/// A text of two paragraphs: some of its letters are removed, and its code points have one to six hex digits.
 const ROW: [char; 14] = [
     '\u{202A}',
     'a',
@@ -47,7 +47,6 @@ const ROW: [char; 14] = [
     '\u{10900}',
 ];
 
-/// The layout of a text.
 fn laid_out(alloc: Global, text: &[Unit], direction: Direction) -> Option<Scratch>
     ensures { IfSome result (λ room. IsFilled room) }
 {
@@ -59,14 +58,13 @@ fn laid_out(alloc: Global, text: &[Unit], direction: Direction) -> Option<Scratc
     }
 }
 
-/// The letters of a text, as rows name them, with what is known of them.
+/// The letters of a text, as rows name them, with their units.
 #[derive(Drop)]
 struct Row {
     letters: Vec<Letter>,
     units: Vec<Unit>,
 }
 
-/// The row of a text.
 fn row_of(alloc: Global, naming: Naming<'_>, text: &[char]) -> Result<Row, AllocError> {
     let mut letters = Vec::new(alloc);
     let mut units = Vec::new(alloc);
@@ -78,7 +76,7 @@ fn row_of(alloc: Global, naming: Naming<'_>, text: &[char]) -> Result<Row, Alloc
     Ok(Row { letters, units })
 }
 
-/// The outcome of a call whose error says how the writer failed.
+/// Returns the outcome of a call whose error states how the writer failed.
 fn told(answer: io::Result<()>) -> Outcome {
     match answer {
         Ok(()) => Ok(()),
@@ -124,7 +122,7 @@ struct CharacterRows<'t> {
 }
 
 impl CharacterRows<'_> {
-    /// Writes the row under a direction as at first.
+    /// Writes the row under a direction with the first implementation.
     fn row_in_pieces<R: Abort>(
         &self,
         rt: &R,
@@ -159,7 +157,7 @@ impl Printed for CharacterRows<'_> {
     }
 }
 
-/// Positions, each behind a blank.
+/// Positions, each after a blank.
 #[derive(Drop)]
 struct Positions<'t> {
     order: &'t [usize],
@@ -179,7 +177,8 @@ impl Printed for Positions<'_> {
     }
 }
 
-/// Expects that the lines of a text in a file of classes are printed as at first, under each of these directions.
+/// Expects that both implementations print the same lines of a text in a file of classes, under each of these
+/// directions.
 fn class_lines_agree<R: Abort>(
     rt: &R,
     alloc: Global,
@@ -201,7 +200,7 @@ fn class_lines_agree<R: Abort>(
     Ok(())
 }
 
-/// Expects that the rows of a text in a file of characters are printed as at first, under these directions.
+/// Expects that both implementations print the same rows of a text in a file of characters, under these directions.
 fn character_rows_agree<R: Abort>(
     rt: &R,
     alloc: Global,

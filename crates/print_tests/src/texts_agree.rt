@@ -1,4 +1,4 @@
-//! Levels, and texts as they are shown, at writers that fail.
+//! Levels, and texts as they are shown, printed to writers that fail.
 use crate::failing_writer::FailingWriter;
 use crate::given::{PARAGRAPHS, Paragraph, REPEATED, joined, paragraphs, repeated, tables};
 use crate::printed::{Outcome, Printed, is_printed_as_at_first, untold};
@@ -101,7 +101,7 @@ impl Printed for ReadText<'_> {
     }
 }
 
-/// These characters in UTF-8.
+/// Returns these characters in UTF-8.
 fn encoded(alloc: Global, chars: &[char]) -> Result<String, AllocError> {
     let mut text = String::new(alloc);
     for character in chars {
@@ -110,7 +110,7 @@ fn encoded(alloc: Global, chars: &[char]) -> Result<String, AllocError> {
     Ok(text)
 }
 
-/// Expects that a text of these paragraphs is printed as at first, also while it is read.
+/// Expects that both implementations print a text of these paragraphs alike, also while the text is read.
 fn agree<R: Abort>(rt: &R, alloc: Global, given: &[&[char]], form: Form) -> Result<(), Fail> {
     let tables = tables(alloc)?;
     let chars = joined(alloc, given)?;
