@@ -1,4 +1,4 @@
--- What a search for a separator says of the pieces round it.
+-- What a search for a separator proves about the pieces around it.
 use Rattle.std.proofs.Common.{◌≡◌, ℕ, suc, ◌+◌, ◌-◌, ◌≤◌, ◌==◌, Bool, List, [], ◌∷◌, length, get_or, take, drop, refl, sym, ap, ◌∙◌, arith, None, Some}
 use Rattle.std.specs.List.{position_or_len, before_first, after_first, slice_split}
 use Rattle.std.proofs.lemmas.Bool.{false_from_ne_true}

@@ -29,7 +29,7 @@ pub some_bytes : (xs : List ℕ) → 0 < length xs → has_bytes xs ≡ true
 some_bytes [] h = absurd (omega arith)
 some_bytes (x ∷ xs) h = refl
 
--- an item is first where nothing blank stands before it
+-- an item is first if no blank is before it
 pub items-one : (field xs : List ℕ) → xs ≡ without_blanks_before field → 0 < length xs → IsFirstByte is_blank xs None → items_of field ≡ xs ∷ []
 items-one field xs is some none =
     sym (items-trimmed field) ∙ ap items_of (sym is) ∙ ap (filter has_bytes) (pieces-none is_blank xs none) ∙ rw (some_bytes xs some) refl

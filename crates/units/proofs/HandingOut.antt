@@ -1,4 +1,4 @@
--- What a source over a reader hands out, at a call that reads.
+-- What a source over a reader returns, at a call that reads.
 use Rattle.std.specs.Prelude.{◌≡◌, ◌<◌, ℕ, ◌+◌, List, [], Option, length, refl}
 use Rattle.std.specs.Io.KnownBytes.{Consumes}
 use Rattle.std.proofs.Common.{arith, ap}
@@ -28,7 +28,7 @@ HandsOut-taken before after left left' state state' bytes is works taken falls =
   gives_no_more = λ h. absurd (from-open state is h);
 }
 
--- a source that had not failed fails, by an error or by more bytes than may come
+-- a source that had not failed fails: the reader returned an error, or more bytes than allowed
 pub HandsOut-failed : (before after : Option (List ℕ)) (left : ℕ) (state : State) (unread : Unread) → state ≡ Open
     → (unread ≡ TooLarge → (more : List ℕ) × Consumes before after more × (left < length more))
     → HandsOut before after left left state (Failed unread) []

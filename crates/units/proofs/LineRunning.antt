@@ -1,4 +1,4 @@
--- The lines before an over-long line that has just become so.
+-- The lines before a line that has just become over-long.
 use Rattle.std.proofs.Common.{◌≡◌, ◌≢◌, ℕ, ◌+◌, ◌-◌, ◌<◌, ◌≤◌, List, [], ◌∷◌, ◌++◌, length, take, flat_map, get_or, All, refl, sym, ap, ◌∙◌, arith, length-append, append_assoc, inl, inr}
 use Rattle.std.proofs.lemmas.List.Elements.{All-head, All-tail, All-same, All-push, All-append, All-nil}
 use Rattle.std.proofs.lemmas.List.{take_more, append-nil}
@@ -14,7 +14,7 @@ not_later ys os first tail each e long =
     let at : get_or ys (length os) [] ≡ first = ap (λ (l : List (List ℕ)). get_or l (length os) []) e ∙ get_or-append_seam os first tail [] in
     omega (arith, (each (length os) [] inside).short, ap length at, long)
 
--- lines up to the first that is over-long, of lists where short ones may stand behind it: the same lines
+-- if only one line of a list may be over-long, the lines before it are determined
 same_before : (lines others : List (List ℕ)) (y : List ℕ) (ys : List (List ℕ)) (first : List ℕ) (tail : List (List ℕ))
     → All IsLine lines → All IsLine ys → longest_line < length first → lines ++ y ∷ ys ≡ others ++ first ∷ tail → others ≡ lines
 same_before [] [] y ys first tail each short long e = refl

@@ -1,4 +1,4 @@
--- What a cutter stands for, step by step.
+-- What a line splitter represents, step by step.
 use Rattle.std.proofs.Common.{◌≡◌, ◌≢◌, ℕ, ◌+◌, ◌<◌, ◌≤◌, List, [], ◌∷◌, ◌++◌, length, flat_map, take, refl, sym, ap, ◌∙◌, subst, arith, append_assoc, length-append, append-nil, eq-eqb, get_or, None, Some}
 use Rattle.std.proofs.lemmas.Bool.{eqb-true}
 use Rattle.std.proofs.lemmas.List.{length-take, get_or-take, take_more, take_all}
@@ -74,7 +74,7 @@ never_failed c b lines rest e s cut =
     let h = subst P e s.holds in
     never_both b s.lines lines rest h.0 cut
 
--- a cutter that has not failed stands for no bytes with an over-long line
+-- a line splitter that has not failed does not represent bytes with an over-long line
 pub never_long : (c : Cutting) (b : List ℕ) (lines : List (List ℕ)) → c.phase ≡ Within → StandsFor c b → IsTooLongAfter b lines → ⊥
 never_long c b lines e s over =
     let P : Phase → Type 0 = λ p. HoldsAfter p c.done c.held b s.lines in
@@ -91,7 +91,7 @@ fails_or_ends Within e f = absurd (f refl)
 fails_or_ends Ended e f = absurd (e refl)
 fails_or_ends Failed e f = refl
 
--- what `memchr` tells of a piece
+-- what the result of `memchr` proves about a piece
 pub feeds_none : (piece : List ℕ) → IsFirstByte (is_byte 10) piece None → HasNoFeed piece
 feeds_none piece h = All-from_get_or (λ x. x ≢ 10) piece 0 (λ i lt e. h i (omega arith) lt (eq-eqb _ _ e))
 

@@ -1,4 +1,4 @@
--- What holds of options, whatever they hold.
+-- Facts about options, whatever they contain.
 use Rattle.std.proofs.Common.{◌≡◌, Option, None, Some, false, refl}
 use Rattle.std.specs.Option.{is_some, option_or}
 

@@ -1,9 +1,9 @@
--- What the searches for a position answer.
+-- What the searches for a position return.
 use Rattle.std.proofs.Common.{◌≡◌, ℕ, zero, suc, ◌+◌, ◌<◌, ◌≤◌, Bool, true, false, cond, [], ◌∷◌, ◌++◌, length, get_or, Option, Some, None, refl, ap, ◌∙◌, arith}
 use Rattle.std.proofs.lemmas.Bool.{ltb-true, lt-ltb}
 use Rattle.units.specs.Positions.{positions_from, first_from, last_below, is_before, same_position}
 
--- the first answer, or the second where it is none
+-- the first position, or the second if the first is none
 abbrev pub or_else : Option ℕ → Option ℕ → Option ℕ
 or_else None b = b
 or_else (Some a) b = Some a
@@ -13,7 +13,7 @@ pub first_from_more : (test : ℕ → Bool) (start count : ℕ) → first_from t
 first_from_more test start zero = let e : start + 0 ≡ start = omega arith in rw e refl
 first_from_more test start (suc count) = grind (arith, first_from_more test (start + 1) count)
 
--- the answer passes, lies in the stretch, and none before it passes
+-- the position passes the test and is in the range, and no position before it in the range passes
 pub record IsFirst (test : ℕ → Bool) (start : ℕ) (count : ℕ) (at : ℕ) : Type 0 where
   pub from : start ≤ at
   pub within : at < start + count
@@ -28,7 +28,7 @@ pub first_from_none : (test : ℕ → Bool) (start count : ℕ) → first_from t
 first_from_none test start zero e q a b = absurd (omega arith)
 first_from_none test start (suc count) e q a b = grind (arith, first_from_none test (start + 1) count)
 
--- and these facts fix the answer
+-- these facts determine the position
 pub first_from_is : (test : ℕ → Bool) (start count at : ℕ) → start ≤ at → at < start + count → test at ≡ true → ((q : ℕ) → start ≤ q → q < at → test q ≡ false) → first_from test start count ≡ Some at
 first_from_is test start zero at a b holds before = absurd (omega arith)
 first_from_is test start (suc count) at a b holds before = grind (arith, first_from_is test (start + 1) count at)
@@ -79,7 +79,7 @@ pub positions_from-next : (start count : ℕ) → positions_from start (suc coun
 positions_from-next start zero = ap (λ k. k ∷ []) (omega arith)
 positions_from-next start (suc count) = ap (λ r. start ∷ r) (positions_from-next (start + 1) count ∙ ap (λ k. positions_from (start + 1) count ++ k ∷ []) (omega arith))
 
--- its length, and what stands in it
+-- its length and its elements
 pub length-positions_from : (start count : ℕ) → length (positions_from start count) ≡ count
 length-positions_from start zero = refl
 length-positions_from start (suc count) = ap suc (length-positions_from (start + 1) count)

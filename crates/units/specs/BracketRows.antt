@@ -50,13 +50,13 @@ pub closer_pops_nothing : laid_out (plain L ∷ opens 1 ∷ shuts 2 ∷ plain R 
 unfolding layouts_compute
 closer_pops_nothing = refl
 
--- only the opposite stands inside, and the context before is the opposite
+-- only the opposite direction is inside, and the context before is the opposite
 pub opposite_inside : laid_out (plain R ∷ opens 1 ∷ plain L ∷ shuts 1 ∷ plain R ∷ []) Rtl
     ≡ (Some 1 ∷ Some 1 ∷ Some 2 ∷ Some 1 ∷ Some 1 ∷ [], 4 ∷ 3 ∷ 2 ∷ 1 ∷ 0 ∷ [])
 unfolding layouts_compute
 opposite_inside = refl
 
--- only the opposite stands inside, and the context before is the embedding direction
+-- only the opposite direction is inside, and the context before is the embedding direction
 pub embedding_before : laid_out (plain L ∷ opens 1 ∷ plain R ∷ shuts 1 ∷ []) Ltr
     ≡ (Some 0 ∷ Some 0 ∷ Some 1 ∷ Some 0 ∷ [], 0 ∷ 1 ∷ 2 ∷ 3 ∷ [])
 unfolding layouts_compute
@@ -74,13 +74,13 @@ pub brackets_apart : laid_out (plain L ∷ opens 8 ∷ plain R ∷ shuts 9 ∷ p
 unfolding layouts_compute
 brackets_apart = refl
 
--- a pair, and then n pairs in one another
+-- a pair, and then n nested pairs
 abbrev pub deep : ℕ → List BidiUnit
 deep n =
     (plain L ∷ opens 1 ∷ plain R ∷ shuts 1 ∷ plain R ∷ plain L ∷ [])
     ++ replicate n (opens 1) ++ (plain R ∷ []) ++ replicate n (shuts 1) ++ (plain R ∷ [])
 
--- 63 open brackets have room
+-- 63 open brackets fit the limit
 pub all_pair : laid_out (deep 63) Ltr
     ≡ (
       levels (0 ∷ 0 ∷ 1 ∷ 0 ∷ 1 ∷ 0 ∷ []) ++ replicate 63 (Some 0) ++ Some 1 ∷ replicate 63 (Some 0) ++ Some 1 ∷ [],
@@ -89,7 +89,7 @@ pub all_pair : laid_out (deep 63) Ltr
 unfolding layouts_compute
 all_pair = refl
 
--- the 64th has none: the pairs stop there, and the first pair is kept
+-- the 64th does not: the search stops there, and the first pair still counts
 pub stopped : laid_out (deep 64) Ltr
     ≡ (
       levels (0 ∷ 0 ∷ 1 ∷ 0 ∷ 1 ∷ 0 ∷ []) ++ replicate 64 (Some 0) ++ Some 1 ∷ replicate 64 (Some 1) ++ Some 1 ∷ [],

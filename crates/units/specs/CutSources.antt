@@ -1,7 +1,7 @@
 -- Sources that fail after some bytes.
 use Rattle.std.specs.Prelude.{ℕ, Bool, true, false, List}
 
--- the bytes that are left before the failure, and whether it has come
+-- the bytes that remain before the failure, and whether the source has failed
 pub record CutSource : Type 0 where
   pub left : List ℕ
   pub has_failed : Bool

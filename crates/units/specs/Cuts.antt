@@ -1,20 +1,20 @@
--- What a cut of bytes hands out.
+-- What a cut of bytes returns.
 use Rattle.std.specs.Prelude.{Option, ℕ, ◌≡◌, ◌==◌, List, [], Some, None, MatchOption}
 use Rattle.std.specs.List.{before_first, after_first}
 use Rattle.std.specs.Borrow.{Bor}
 use Rattle.units.specs.Text.{cut_at, fields_of}
 
--- the pieces of what stands behind a separator
+-- the pieces of the bytes after a separator
 abbrev pub pieces_behind : ℕ → Option (Bor (List ℕ)) → List (List ℕ)
 pieces_behind separator None = []
 pieces_behind separator (Some rest) = cut_at separator rest.now
 
--- the fields of what stands behind a `;`
+-- the fields of the bytes after a `;`
 abbrev pub fields_behind : Option (Bor (List ℕ)) → List (List ℕ)
 fields_behind None = []
 fields_behind (Some rest) = fields_of rest.now
 
--- what stands behind the first separator; none where all bytes stand before it
+-- the bytes after the first separator; none if there is no separator
 abbrev pub IsBehindFirst : ℕ → List ℕ → Option (Bor (List ℕ)) → Type 0
 IsBehindFirst separator bytes behind =
     MatchOption behind (before_first (λ b. b == separator) bytes ≡ bytes) (λ rest. rest.now ≡ after_first (λ b. b == separator) bytes)

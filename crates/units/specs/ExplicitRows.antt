@@ -19,7 +19,7 @@ pub nested_isolates : explicit_of standard.depth (RLI ∷ RLI ∷ PDI ∷ R ∷ 
 unfolding explicit_levels_compute
 nested_isolates = refl
 
--- an override holds for an initiator and its PDI, and not inside
+-- an override applies to an initiator and its PDI, and not inside
 pub override_around_isolate : explicit_of standard.depth (RLO ∷ LRI ∷ EN ∷ PDI ∷ PDF ∷ []) 0
     ≡ None ∷ Some (1, R) ∷ Some (2, EN) ∷ Some (1, R) ∷ None ∷ []
 unfolding explicit_levels_compute
@@ -31,45 +31,45 @@ pub unmatched_pdi : explicit_of standard.depth (RLE ∷ PDI ∷ L ∷ []) 0
 unfolding explicit_levels_compute
 unmatched_pdi = refl
 
--- an embedding in an isolate that was refused closes with it, and the PDF after it closes the last embedding around
+-- an embedding in an overflow isolate closes with the isolate, and the PDF after it closes the last embedding around
 pub refused_in_refused : explicit_of standard.depth
     (replicated 62 (RLE ∷ LRE ∷ []) ++ RLE ∷ LRI ∷ LRE ∷ PDI ∷ PDF ∷ L ∷ []) 0
     ≡ replicate 125 None ++ Some (125, LRI) ∷ None ∷ Some (125, PDI) ∷ None ∷ Some (124, L) ∷ []
 unfolding explicit_levels_compute
 refused_in_refused = refl
 
--- the 125th initiator has level 125, the 126th is refused
+-- the 125th initiator has level 125, the 126th overflows
 pub deepest_level : laid_out (map plain (replicated 62 (RLE ∷ LRE ∷ []) ++ RLE ∷ LRE ∷ L ∷ [])) Ltr
     ≡ (replicate 126 None ++ Some 126 ∷ [], 126 ∷ [])
 unfolding layouts_compute
 deepest_level = refl
 
--- each PDF closes one of the refused
+-- each PDF closes one of the overflow embeddings
 pub refused_ones_close : laid_out
     (map plain (replicated 62 (RLE ∷ LRE ∷ []) ++ RLE ∷ LRE ∷ RLE ∷ PDF ∷ PDF ∷ L ∷ [])) Ltr
     ≡ (replicate 129 None ++ Some 126 ∷ [], 129 ∷ [])
 unfolding layouts_compute
 refused_ones_close = refl
 
--- inside a refused initiator every one is refused, though the level alone would be allowed
+-- inside an initiator that overflows every initiator overflows, even if its level alone would be allowed
 pub refused_inside_refused : laid_out (map plain (replicated 62 (RLE ∷ LRE ∷ []) ++ LRE ∷ RLE ∷ L ∷ [])) Ltr
     ≡ (replicate 126 None ++ Some 124 ∷ [], 126 ∷ [])
 unfolding layouts_compute
 refused_inside_refused = refl
 
--- a removed position has no level, and stands in no order
+-- a removed position has no level and is in no order
 pub removed_alone_auto : laid_out (map plain (LRE ∷ [])) Auto
     ≡ (None ∷ [], [])
 unfolding layouts_compute
 removed_alone_auto = refl
 
--- a removed position has no level, and stands in no order
+-- a removed position has no level and is in no order
 pub removed_alone_ltr : laid_out (map plain (LRE ∷ [])) Ltr
     ≡ (None ∷ [], [])
 unfolding layouts_compute
 removed_alone_ltr = refl
 
--- a removed position has no level, and stands in no order
+-- a removed position has no level and is in no order
 pub removed_alone_rtl : laid_out (map plain (LRE ∷ [])) Rtl
     ≡ (None ∷ [], [])
 unfolding layouts_compute
@@ -81,32 +81,32 @@ pub pdi_closes_no_embedding : laid_out (map plain (RLE ∷ PDI ∷ L ∷ [])) Lt
 unfolding layouts_compute
 pdi_closes_no_embedding = refl
 
--- a PDF inside an isolate that was refused closes nothing outside it
+-- a PDF inside an overflow isolate closes nothing outside it
 pub pdf_in_refused_isolate :
     (laid_out (map plain (replicated 62 (RLE ∷ LRE ∷ []) ++ RLE ∷ LRI ∷ PDF ∷ PDI ∷ L ∷ [])) Ltr).0
     ≡ replicate 125 None ++ Some 125 ∷ None ∷ Some 125 ∷ Some 126 ∷ []
 unfolding layouts_compute
 pdf_in_refused_isolate = refl
 
--- PDF closes the last embedding that is open, and an override holds on outside it
+-- PDF closes the last open embedding, and the override outside it stays in effect
 pub embeddings_in_override : (laid_out (map plain (RLO ∷ LRE ∷ L ∷ PDF ∷ PDI ∷ LRE ∷ L ∷ PDF ∷ [])) Ltr).0
     ≡ None ∷ None ∷ Some 2 ∷ None ∷ Some 1 ∷ None ∷ Some 2 ∷ None ∷ []
 unfolding layouts_compute
 embeddings_in_override = refl
 
--- FSI acts as RLI where R stands first inside it; it does not decide the paragraph level
+-- FSI acts as RLI if R is the first strong class inside it; it does not decide the paragraph level
 pub first_strong_isolate : laid_out (map plain (FSI ∷ R ∷ PDI ∷ L ∷ [])) Auto
     ≡ (Some 0 ∷ Some 1 ∷ Some 0 ∷ Some 0 ∷ [], 0 ∷ 1 ∷ 2 ∷ 3 ∷ [])
 unfolding layouts_compute
 first_strong_isolate = refl
 
--- what stands in an inner isolate decides nothing for the outer one
+-- the content of an inner isolate decides nothing for the outer one
 pub isolate_in_isolate : laid_out (map plain (FSI ∷ FSI ∷ R ∷ PDI ∷ PDI ∷ L ∷ [])) Auto
     ≡ (Some 0 ∷ Some 2 ∷ Some 3 ∷ Some 2 ∷ Some 0 ∷ Some 0 ∷ [], 0 ∷ 1 ∷ 2 ∷ 3 ∷ 4 ∷ 5 ∷ [])
 unfolding layouts_compute
 isolate_in_isolate = refl
 
--- nor does what stands after the PDI
+-- the classes after the PDI decide nothing for the isolate either
 pub nothing_strong_inside : laid_out (map plain (FSI ∷ ON ∷ PDI ∷ R ∷ [])) Ltr
     ≡ (Some 0 ∷ Some 2 ∷ Some 0 ∷ Some 1 ∷ [], 0 ∷ 1 ∷ 2 ∷ 3 ∷ [])
 unfolding layouts_compute

@@ -1,4 +1,4 @@
--- What a source over a reader hands out.
+-- What a source over a reader returns.
 use Rattle.std.specs.Prelude.{◌≡◌, ℕ, ◌+◌, ◌<◌, List, [], ◌++◌, Option, None, Some, length, refl}
 use Rattle.std.specs.Io.KnownBytes.{Consumes, IsAtEnd}
 use Rattle.std.proofs.Common.{arith, length-append, append-nil, append_assoc, sym, ap, subst, ◌∙◌}
@@ -8,8 +8,8 @@ use Rattle.units.specs.declared.unread.Unread.{Unread}
 use Rattle.units.specs.declared.unread.Unread.TheVariants.{TooLarge, Other}
 use Rattle.units.specs.Joined.{splits_joined}
 
--- a source over a reader: what the reader still gives, where it is known, how many bytes may still come, and where the
--- source stands
+-- a source over a reader: the bytes that the reader still gives, if they are known, how many bytes may still come, and
+-- the state of the source
 pub record Reading : Type 0 where
   pub remaining : Option (List ℕ)
   pub left : ℕ
@@ -36,12 +36,13 @@ unread_of (Failed unread) = unread
 abbrev pub Begins : Option (List ℕ) → List ℕ → Type 0
 Begins known bytes = (rest : Option (List ℕ)) × Consumes known rest bytes
 
--- behind these bytes a reader gives more than so many
+-- after these bytes a reader gives more than this number of bytes
 abbrev pub GivesTooMany : Option (List ℕ) → List ℕ → ℕ → Type 0
 GivesTooMany known bytes left = (more : List ℕ) × Begins known (bytes ++ more) × (left < length more)
 
--- a source handed out these bytes, the first of what its reader gives, and took no others unless it has failed; once it
--- has failed it hands out nothing, stays as it is and asks its reader no more; what it calls too large is
+-- a source returned these bytes, the first of those that its reader gives, and took no others unless it has failed.
+-- After a failure it returns nothing, stays unchanged and does not call its reader. If it fails with `TooLarge`, the
+-- reader does give too many bytes.
 pub record HandsOut (before after : Option (List ℕ)) (left left' : ℕ) (state state' : State)
     (bytes : List ℕ) : Type 0 where
   pub first : Begins before bytes
@@ -81,7 +82,7 @@ first-joined a b (Failed unread) xs ys f g c n =
 joined-nothing : (xs ys : List ℕ) → xs ≡ [] → ys ≡ [] → xs ++ ys ≡ []
 joined-nothing xs ys e f = rw (e, f) refl
 
--- more than so many behind both
+-- after both byte lists the reader gives more than this number of bytes
 too_many-behind : (a b : Option (List ℕ)) (xs ys : List ℕ) (n : ℕ) → Consumes a b xs → GivesTooMany b ys n
     → GivesTooMany a (xs ++ ys) n
 too_many-behind a b xs ys n f g = (

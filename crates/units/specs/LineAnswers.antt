@@ -1,4 +1,4 @@
--- What a cutter that stands for a byte list answers.
+-- What a line splitter that represents a byte list returns.
 use Rattle.std.specs.Prelude.{◌≡◌, ℕ, ◌+◌, ◌<◌, ◌≤◌, List, [], ◌∷◌, ◌++◌, length, take, Option, None, Some, ◌⊎◌}
 use Rattle.std.specs.Borrow.{Bor}
 use Rattle.units.specs.Text.{longest_line}
@@ -6,7 +6,7 @@ use Rattle.units.specs.Lines.{HasNoFeed, EndsAtFeed, CutsInto, IsTooLongAfter, s
 use Rattle.units.specs.declared.line_cut.Cut.{Cut}
 use Rattle.units.specs.declared.line_cut.Cut.TheVariants.{More, Line, TooLong}
 
--- the answer to a piece of which so many bytes were used, after these bytes
+-- the cut that is returned for a piece of which this number of bytes was used, after these bytes
 abbrev pub AnswersPiece : List ℕ → List ℕ → ℕ → Cut → Type 0
 AnswersPiece bytes piece used More =
     HasNoFeed piece × (used ≡ length piece) × (ended_lines (bytes ++ take used piece) ≡ ended_lines bytes)

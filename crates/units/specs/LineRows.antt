@@ -6,7 +6,7 @@ use Rattle.units.specs.RowWords.{plain, levels, laid_out, line, layouts_compute}
 use Rattle.units.specs.declared.class.Class.TheVariants.{L, R, EN, B, WS, RLO}
 use Rattle.units.specs.declared.level.Direction.TheVariants.{Auto, Ltr}
 
--- a space at the end of the line is reset, by its own class, though an override made it R
+-- a space at the end of the line is reset because of its own class, although an override made it R
 pub reset_by_own_class : laid_out (map plain (L ∷ RLO ∷ R ∷ WS ∷ [])) Ltr
     ≡ (Some 0 ∷ None ∷ Some 1 ∷ Some 0 ∷ [], 0 ∷ 2 ∷ 3 ∷ [])
 unfolding layouts_compute
@@ -24,7 +24,7 @@ pub unbroken : layout_of standard (map plain (R ∷ WS ∷ R ∷ [])) Ltr ([])
 unfolding layouts_compute
 unbroken = refl
 
--- a break behind the space: it is reset
+-- a break after the space: it is reset
 pub broken_after_space : layout_of standard (map plain (R ∷ WS ∷ R ∷ [])) Ltr (2 ∷ [])
     ≡ record {
       paras = 0 ∷ [];

@@ -18,7 +18,7 @@ pub record EndsAtFeed (used : ℕ) (piece : List ℕ) : Type 0 where
 abbrev pub EndsByFeed : ℕ → List ℕ → Type 0
 EndsByFeed used piece = HasNoFeed (take (used - 1) piece)
 
--- the bytes used of a piece are those through its first line feed, or all where it has none
+-- the bytes used of a piece are those through its first line feed, or all if it has none
 abbrev pub UsesOneLine : ℕ → List ℕ → Type 0
 UsesOneLine used piece = EndsAtFeed used piece ⊎ (HasNoFeed piece × (used ≡ length piece))
 
@@ -46,19 +46,19 @@ pub record IsTooLongAfter (bytes : List ℕ) (lines : List (List ℕ)) : Type 0 
   pub feeds : HasNoFeed long
   pub above : longest_line < length long
 
--- the greatest number that is counted to
+-- the greatest number that a count reaches
 abbrev pub most_counted : ℕ
 most_counted = 2 ^ 64 - 1
 
--- a number that stays where it would pass that
+-- a number that stays at that limit instead of passing it
 abbrev pub saturated : ℕ → ℕ
 saturated n = min n most_counted
 
--- the number of the line before which k lines stand: lines are numbered from 1
+-- the number of the line after k lines: lines are numbered from 1
 abbrev pub line_number : ℕ → ℕ
 line_number k = saturated (k + 1)
 
--- the pieces between line feeds, the last of which has not ended and may be empty
+-- the pieces between line feeds; the last one has not ended and may be empty
 abbrev pub cut_lines : List ℕ → List (List ℕ)
 cut_lines bytes = cut_at 10 bytes
 

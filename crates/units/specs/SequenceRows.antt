@@ -6,19 +6,19 @@ use Rattle.units.specs.RowWords.{plain, sequence, laid_out, explicit_levels_comp
 use Rattle.units.specs.declared.class.Class.TheVariants.{L, R, AL, ON, LRE, PDF, LRI, RLI, FSI, PDI}
 use Rattle.units.specs.declared.level.Direction.TheVariants.{Ltr}
 
--- no sequence joins across an embedding
+-- no sequence continues across an embedding
 pub parted_by_embedding : sequences_of (leveled_of standard.depth (R ∷ ON ∷ LRE ∷ L ∷ PDF ∷ ON ∷ R ∷ []) 0)
     ≡ sequence (0 ∷ 1 ∷ []) 0 L L 7 ∷ sequence (3 ∷ []) 2 L L 7 ∷ sequence (5 ∷ 6 ∷ []) 0 L L 7 ∷ []
 unfolding explicit_levels_compute
 parted_by_embedding = refl
 
--- a sequence goes on behind the PDI
+-- a sequence continues after the PDI
 pub joined_across_isolate : sequences_of (leveled_of standard.depth (R ∷ ON ∷ LRI ∷ L ∷ PDI ∷ ON ∷ R ∷ []) 0)
     ≡ sequence (0 ∷ 1 ∷ 2 ∷ 4 ∷ 5 ∷ 6 ∷ []) 0 L L 7 ∷ sequence (3 ∷ []) 2 L L 7 ∷ []
 unfolding explicit_levels_compute
 joined_across_isolate = refl
 
--- at the end of an initiator without a match stands the paragraph level
+-- at the end of an initiator without a match is the paragraph level
 pub open_isolate : sequences_of (leveled_of standard.depth (L ∷ RLI ∷ R ∷ []) 0)
     ≡ sequence (0 ∷ 1 ∷ []) 0 L L 3 ∷ sequence (2 ∷ []) 1 R R 3 ∷ []
 unfolding explicit_levels_compute
@@ -30,7 +30,7 @@ pub open_isolate_after_al : (laid_out (map plain (AL ∷ FSI ∷ R ∷ [])) Ltr)
 unfolding layouts_compute
 open_isolate_after_al = refl
 
--- an embedding parts what stands before it and after it
+-- an embedding separates the positions before it from those after it
 pub not_joined : laid_out (map plain (R ∷ ON ∷ LRE ∷ L ∷ PDF ∷ ON ∷ R ∷ [])) Ltr
     ≡ (Some 1 ∷ Some 0 ∷ None ∷ Some 2 ∷ None ∷ Some 0 ∷ Some 1 ∷ [], 0 ∷ 1 ∷ 3 ∷ 5 ∷ 6 ∷ [])
 unfolding layouts_compute

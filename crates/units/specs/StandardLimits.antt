@@ -19,8 +19,7 @@ use Rattle.units.specs.declared.bracket.Bracket.{Bracket}
 use Rattle.units.specs.declared.bracket.Unit.{Unit as BidiUnit}
 use Rattle.units.specs.declared.level.Direction.{Direction}
 
--- X2 to X5c: the state inside the initiator at q, which is refused (it overflows) above level 125 and inside a refused
--- one
+-- X2 to X5c: the state inside the initiator at q; q overflows above level 125 and inside an initiator that overflows
 unfoldable pub entered_to_125 : List Class → State → ℕ → State
 entered_to_125 cs s q =
     let wanted = wanted_level cs s.level q in
@@ -83,7 +82,7 @@ standard_levels_of_sequence s us before =
 abbrev pub standard_levels_in : List BidiUnit → List Class → SequenceView → List (ℕ × ℕ)
 standard_levels_in us current s = zip s.positions (standard_levels_of_sequence s us (classes_at current s.positions))
 
--- X1 to I2: the resolved levels of a paragraph, none where a position is removed
+-- X1 to I2: the resolved levels of a paragraph, none if a position is removed
 unfoldable pub standard_resolved_levels : List BidiUnit → ℕ → List (Option ℕ)
 standard_resolved_levels us para_level =
     let cs = classes_of us in
@@ -101,6 +100,6 @@ unfoldable pub standard_layout : List BidiUnit → Direction → List ℕ → Te
 standard_layout text direction breaks =
     text_layout (classes_of text) breaks (para_levels_of text direction) (standard_text_levels text direction)
 
--- P1 to L2: by the standard limits the layout is that of the rules with the numbers in them
+-- P1 to L2: with the standard limits the layout is that of the rules with the numbers in them
 abbrev pub IsStandardLayout : List BidiUnit → Direction → List ℕ → Type 0
 IsStandardLayout text direction breaks = layout_of standard text direction breaks ≡ standard_layout text direction breaks

@@ -6,8 +6,8 @@ ghost use Rattle.units.specs.CutSources.{failures_when};
 use crate::source::{ByteSource, SourceFault};
 use std::marker::Model;
 
-/// Hands out the first bytes of a slice and then fails, for tests. Contracts see the bytes that are left, and whether
-/// it has failed.
+/// A source of the first bytes of a slice, which then fails, for tests. Contracts see the bytes that remain, and
+/// whether the source has failed.
 #[derive(Drop)]
 pub struct CutSource<'a> {
     left: &'a [u8],
@@ -26,7 +26,7 @@ impl<'a> Model for CutSource<'a> {
 }
 
 impl<'a> CutSource<'a> {
-    /// A source of the first `count` bytes.
+    /// Makes a source of the first `count` bytes.
     pub fn new(bytes: &'a [u8], count: usize) -> Self
         requires { count ≤ length bytes.now }
         ensures left { result.left ≡ take count bytes.now }

@@ -11,15 +11,15 @@ ghost use Rattle.units.specs.declared.limits.LimitFault.TheVariants.{Depth, Brac
 
 use std::marker::Model;
 
-/// How deep explicit levels go (BD2), and how many brackets can be open at once (BD16). The standard says 125 and 63;
-/// a caller may ask for less.
+/// The greatest explicit level (BD2), and the number of brackets that can be open at once (BD16). The standard sets 125
+/// and 63; a caller may set less.
 #[derive(Clone, Copy, Debug, PartialEq, Eq)]
 pub struct Limits {
     depth: u8,
     brackets: u8,
 }
 
-/// Limits are not allowed.
+/// The error for limits that are not allowed.
 #[derive(Clone, Copy, Debug, PartialEq, Eq)]
 pub enum LimitFault {
     /// The depth is 0, or above 125.
@@ -41,9 +41,9 @@ impl Model for Limits {
 }
 
 impl Limits {
-    /// These limits: explicit levels up to `depth` (1 to 125), and `brackets` open brackets (0 to 63; with 0 no pair
-    /// counts). `Depth` exactly if the depth is 0 or above 125; `Brackets` exactly if the depth is allowed and the
-    /// number of brackets is above 63.
+    /// Makes limits: explicit levels up to `depth` (1 to 125), and `brackets` open brackets (0 to 63; with 0 no pair
+    /// counts). Fails with `Depth` exactly if the depth is 0 or above 125. Fails with `Brackets` exactly if the depth
+    /// is allowed and the number of brackets is above 63.
     pub fn new(depth: u8, brackets: u8) -> Result<Limits, LimitFault>
         ensures limits { IfOk result (λ limits. limits ≡ record { depth = depth; brackets = brackets }) }
         ensures depth { result ≡ Err Depth ↔ ((depth ≡ 0) ⊎ (125 < depth)) }
@@ -58,7 +58,7 @@ impl Limits {
         Ok(Limits { depth, brackets })
     }
 
-    /// The limits of the standard: 125 levels, 63 open brackets.
+    /// Returns the limits of the standard: 125 levels, 63 open brackets.
     pub fn standard() -> Limits
         ensures { result ≡ standard }
     {
@@ -68,7 +68,7 @@ impl Limits {
         }
     }
 
-    /// The greatest explicit level, 1 to 125 (BD2).
+    /// Returns the greatest explicit level, 1 to 125 (BD2).
     pub fn depth(self) -> u8
         ensures value { result ≡ self.depth }
         ensures some { 1 ≤ result }
@@ -77,7 +77,7 @@ impl Limits {
         self.depth
     }
 
-    /// How many brackets can be open at once, 0 to 63 (BD16).
+    /// Returns how many brackets can be open at once, 0 to 63 (BD16).
     pub fn brackets(self) -> u8
         ensures value { result ≡ self.brackets }
         ensures within { result ≤ 63 }
@@ -87,7 +87,7 @@ impl Limits {
 }
 
 /// With the limits of the standard, the states inside initiators, the explicit levels, the bracket pairs and the
-/// layouts are those of the rules in which the numbers 125 and 63 stand.
+/// layouts are those of the rules that contain the numbers 125 and 63.
 pub fn standard_limits_are_the_standard()
     ensures states { (cs : List Class) (s : State) (q : ℕ) → entered standard.depth cs s q ≡ entered_to_125 cs s q }
     ensures levels { (cs : List Class) (para_level : ℕ)

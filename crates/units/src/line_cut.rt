@@ -6,34 +6,34 @@ ghost use Rattle.units.specs.Text.{longest_line};
 use memchr::memchr;
 use std::marker::Model;
 
-/// The bytes that a line may have before its line feed.
+/// The greatest number of bytes of a line before its line feed.
 pub const LONGEST_LINE: usize = 65_536;
 
-/// Where a cutter stands in its line.
+/// The state of a line splitter within its line.
 #[derive(Debug, Clone, Copy, PartialEq, Eq)]
 pub enum Phase {
     /// The line has not ended.
     Within,
-    /// The line has ended, and was handed out.
+    /// The line has ended and was returned.
     Ended,
     /// A line was over-long.
     Failed,
 }
 
-/// What a piece brought.
+/// The effect of a piece.
 #[derive(Debug, Clone, Copy, PartialEq, Eq)]
 pub enum Cut<'c> {
     /// The piece is used up, and the line has not ended.
     More,
-    /// A line has ended: its number, from 1 and at most 2^64 - 1, and its bytes without the LF.
+    /// A line has ended: `number` counts from 1 up to at most 2^64 - 1, `text` is the line without its LF.
     Line { number: u64, text: &'c [u8] },
     /// The line of this number has more than 65,536 bytes before its LF.
     TooLong { number: u64 },
 }
 
-/// Cuts a stream of bytes, in whatever pieces it comes, into lines that LF ends. Takes no memory: the line that has
-/// begun is held in a buffer of its own. Contracts see the byte lists that it stands for: those that were handed
-/// over, joined.
+/// Splits a stream of bytes, in pieces of any size, into lines that LF ends. It takes no memory: the line that has
+/// begun is stored in a buffer of its own. Contracts see the byte lists that the line splitter represents: the pieces
+/// that it was given, joined.
 #[derive(Drop)]
 pub struct LineCut {
     buffer: [u8; LONGEST_LINE],
@@ -54,7 +54,7 @@ impl Model for LineCut {
     ghost invariant = { λ s. s.len ≤ longest_line };
 }
 
-// Writes the bytes from a place on.
+// Writes the bytes at this index.
 fn put(buffer: &mut [u8], at: usize, bytes: &[u8])
     requires { at + length bytes.now ≤ length buffer.old }
     ensures { take (at + length bytes.now) buffer.new ≡ take at buffer.old ++ bytes.now }
@@ -69,7 +69,7 @@ impl LineCut {
     ghost use Rattle.std.specs.Borrow.{sem};
     ghost use Rattle.std.specs.Io.BufRead.{Rests};
 
-    /// A cutter before the first byte.
+    /// Makes a line splitter before the first byte.
     pub fn new() -> Self
         ensures { StandsFor result [] }
     {
@@ -81,7 +81,7 @@ impl LineCut {
         }
     }
 
-    // A line that has ended makes room for the next.
+    // Begins the next line if a line has ended.
     fn begin(&mut self)
         ensures stands { (b : List ℕ) → StandsFor self.old b → StandsFor self.new b }
         ensures open { self.new.phase ≢ Phase.Ended }
@@ -92,7 +92,7 @@ impl LineCut {
         }
     }
 
-    // More of a line.
+    // Stores more bytes of a line.
     fn hold(&mut self, text: &[u8])
         requires within { self.old.phase ≡ Phase.Within }
         requires feeds { HasNoFeed text.now }
@@ -107,7 +107,7 @@ impl LineCut {
         }
     }
 
-    // The line feed of a line.
+    // Ends a line with its line feed.
     fn end(&mut self)
         requires { self.old.phase ≢ Phase.Ended }
         ensures stands { GoesOn self.old (10 ∷ []) self.new }
@@ -119,7 +119,7 @@ impl LineCut {
         }
     }
 
-    // Takes the piece through its first LF, or whole, and answers how many bytes were used.
+    // Takes the piece through its first LF, or whole, and returns how many bytes were used.
     fn advance(&mut self, piece: &[u8]) -> usize
         ensures used { result ≤ length piece.now }
         ensures stands { GoesOn self.old (take result piece.now) self.new }
@@ -153,9 +153,8 @@ impl LineCut {
         &self.buffer[..self.len]
     }
 
-    /// Takes the piece through its first LF, or whole where it has none, and answers how many of its bytes were used
-    /// and what they brought. Once a line has been over-long, each piece is used whole and the same `TooLong` is
-    /// answered.
+    /// Takes the piece through its first LF, or whole if it has none. Returns how many of its bytes were used, and
+    /// their effect. After an over-long line, each piece is used whole and the same `TooLong` is returned.
     pub fn take(&mut self, piece: &[u8]) -> (usize, Cut<'_>)
         ensures used { result.0 ≤ length piece.now }
         ensures some { 0 < length piece.now → 0 < result.0 }
@@ -181,8 +180,8 @@ impl LineCut {
         }
     }
 
-    /// The number and the bytes of the line that has begun and not ended, if it has a byte. None after an over-long
-    /// line.
+    /// Returns the number and the bytes of the line that has begun and not ended, if it has a byte. Returns `None`
+    /// after an over-long line.
     pub fn finish(&self) -> Option<(u64, &[u8])>
         ensures last { (b : List ℕ) → StandsFor self.now b → Finishes b result }
         ensures short { IfSome result (λ last. length last.1.now ≤ longest_line) }
@@ -201,7 +200,7 @@ impl LineCut {
     }
 }
 
-/// A cutting into lines is the one that the bytes have, whatever the pieces were.
+/// Bytes have only one cutting into lines, whatever the pieces are.
 pub fn reads_as_its_lines()
     ensures { (bytes : List ℕ) (lines : List (List ℕ)) (rest : List ℕ)
         → CutsInto bytes lines rest → cut_lines bytes ≡ lines ++ rest ∷ [] }

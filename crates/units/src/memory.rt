@@ -1,6 +1,6 @@
 use std::alloc::AllocError;
 
-/// Memory was refused: a list could not be given the room that it was to have.
+/// Memory was refused: a list could not get the capacity that it needs.
 #[derive(Clone, Copy, Debug, PartialEq, Eq)]
 pub struct Memory;
 

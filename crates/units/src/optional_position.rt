@@ -20,14 +20,14 @@ impl Model for OptionalPosition {
 }
 
 impl OptionalPosition {
-    /// No position.
+    /// Returns no position.
     pub fn none() -> Self
         ensures { result ≡ None }
     {
         OptionalPosition { number: u32::MAX }
     }
 
-    /// This position.
+    /// Returns this position.
     pub fn some(position: usize) -> Self
         requires { position < u32.MAX }
         ensures { result ≡ Some position }
@@ -37,7 +37,7 @@ impl OptionalPosition {
         }
     }
 
-    /// The position, if there is one.
+    /// Returns the position, if there is one.
     pub fn get(self) -> Option<usize>
         ensures { result ≡ self }
     {

@@ -7,19 +7,19 @@ use crate::unread::Unread;
 use std::io::Read;
 use std::marker::Model;
 
-/// Where a source over a reader stands.
+/// The state of a source over a reader.
 #[derive(Debug, Clone, Copy, PartialEq, Eq)]
 pub enum State {
     /// The next read asks the reader.
     Open,
-    /// The reader has ended; it is asked no more.
+    /// The reader has ended; it is not called again.
     Ended,
-    /// The reader has failed, or passed the limit, for this reason; it is asked no more.
+    /// The reader has failed, or has passed the limit, for this reason; it is not called again.
     Failed(Unread),
 }
 
-/// Hands out what a reader gives, at most so many bytes of it. Each error of the reader is a failure, `Interrupted`
-/// too, and so is a byte past the limit.
+/// A source of the bytes of a reader, up to a limit. Each error of the reader is a failure, `Interrupted` too, and so
+/// is a byte past the limit.
 #[derive(Drop)]
 pub struct ReaderSource<R: Read + Drop> {
     reader: R,
@@ -41,7 +41,7 @@ impl<R: Read + Drop> Model for ReaderSource<R> {
 }
 
 impl<R: Read + Drop> ReaderSource<R> {
-    /// A source over this reader that hands out at most so many bytes.
+    /// Makes a source over this reader that returns at most `most` bytes.
     pub fn new(reader: R, most: u64) -> Self
         ensures reader { result.remaining ≡ R.remaining reader }
         ensures left { result.left ≡ most }
@@ -54,8 +54,8 @@ impl<R: Read + Drop> ReaderSource<R> {
         }
     }
 
-    /// Why a read failed: by the error of the reader, or `TooLarge` where it passed the limit. Where none has failed,
-    /// it is `Other`.
+    /// Returns why a read failed: the reason of the reader's error, or `TooLarge` if the reader passed the limit.
+    /// Returns `Other` if no read has failed.
     pub fn unread(&self) -> Unread
         ensures { result ≡ unread_of self.now.state }
     {

@@ -5,7 +5,7 @@ ghost use Rattle.units.specs.Joined.{splits_joined};
 use crate::source::{ByteSource, SourceFault};
 use std::marker::Model;
 
-/// Hands out a slice, and never fails. Contracts see it as the bytes that are left.
+/// A source of the bytes of a slice, which never fails. Contracts see the bytes that remain.
 #[derive(Drop)]
 pub struct SliceSource<'a> {
     left: &'a [u8],
@@ -18,7 +18,7 @@ impl<'a> Model for SliceSource<'a> {
 }
 
 impl<'a> SliceSource<'a> {
-    /// A source of these bytes.
+    /// Makes a source of these bytes.
     pub fn new(bytes: &'a [u8]) -> Self
         ensures { result ≡ bytes.now }
     {

@@ -3,8 +3,8 @@ ghost use Rattle.std.specs.Prelude.{◌≡◌, ℕ, ◌+◌, ◌<◌};
 use std::marker::Model;
 use std::sync::ledger::{Blank, Book, Ledger, Share};
 
-/// How many steps were taken: turns of loops, recursive calls, and items that an iterator or a call of std passes.
-/// The count stands in the contracts alone and takes no bytes when the program runs.
+/// The number of steps taken: iterations of loops, recursive calls, and items that an iterator or a call of std passes.
+/// The count exists in the contracts only and takes no bytes when the program runs.
 #[derive(Drop)]
 pub struct Steps<L: Ledger> {
     book: Book<L>,
@@ -20,8 +20,8 @@ impl<L: Ledger> Model for Steps<L> {
 }
 
 impl<L: Ledger> Steps<L> {
-    /// No step yet. The blank gives the count its name (`Blank::new(1)`, in a function over `L: Ledger` that is
-    /// called with `Brand`).
+    /// Makes a count of zero steps. The blank gives the count its name (`Blank::new(1)`, in a function over `L: Ledger`
+    /// that is called with `Brand`).
     pub fn new(blank: Blank) -> Self
         requires name { blank.name ≡ L.name }
         requires parts { blank.parts ≡ L.parts }
@@ -32,14 +32,14 @@ impl<L: Ledger> Steps<L> {
         Steps { book, share }
     }
 
-    /// One step more.
+    /// Counts one step.
     pub fn tick(&mut self)
         ensures { self.new ≡ self.old + 1 }
     {
         self.book.add(&mut self.share, 1);
     }
 
-    /// `n` steps more.
+    /// Counts `n` steps.
     pub fn add(&mut self, n: usize)
         ensures { self.new ≡ self.old + n }
     {

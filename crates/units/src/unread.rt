@@ -8,7 +8,7 @@ use std::io::ErrorKind;
 pub enum Unread {
     /// There is no such file.
     Missing,
-    /// There is no leave to read it.
+    /// Reading it is not permitted.
     Forbidden,
     /// It is a folder.
     Folder,
@@ -19,7 +19,7 @@ pub enum Unread {
 }
 
 impl Unread {
-    /// The reason that an error of this kind says. That something passes a limit is said by no error.
+    /// Returns the reason for an error of this kind. No kind of error means that a limit is passed.
     pub fn by_kind(kind: ErrorKind) -> Self
         ensures missing { (result ≡ Unread.Missing) ↔ ((kind ≡ ErrorKind.NotFound) ⊎ (kind ≡ ErrorKind.NotADirectory)) }
         ensures forbidden { (result ≡ Unread.Forbidden) ↔ (kind ≡ ErrorKind.PermissionDenied) }

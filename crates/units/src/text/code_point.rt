@@ -15,7 +15,7 @@ fn hex_digit(byte: u8) -> Option<u32>
     }
 }
 
-/// A code point: 4 to 6 upper-case hex digits, at most 10FFFF.
+/// Reads a code point: 4 to 6 upper-case hex digits, at most 10FFFF.
 pub fn code_point(field: &[u8]) -> Option<u32>
     ensures { result ≡ code_point_of field.now }
 {
@@ -33,7 +33,7 @@ pub fn code_point(field: &[u8]) -> Option<u32>
 }
 
 #[tactic(auto, using(crate::proofs::Ranges::range_pieces))]
-/// The ends of a code point or of a range `cp..cp`.
+/// Reads the ends of a code point or of a range `cp..cp`.
 pub fn ends(field: &[u8]) -> Option<(u32, u32)>
     ensures { result ≡ ends_of field.now }
 {

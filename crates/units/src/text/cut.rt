@@ -7,7 +7,7 @@ ghost use Rattle.units.specs.Cuts.{IsBehindFirst, pieces_behind, fields_behind};
 use crate::text::trim::trim;
 use memchr::memchr;
 
-/// What stands before the first separator, and what stands behind it.
+/// Returns the bytes before the first separator, and the bytes after it.
 pub fn cut(bytes: &[u8], separator: u8) -> (&[u8], Option<&[u8]>)
     ensures pieces { cut_at separator bytes.now ≡ result.0.now ∷ pieces_behind separator result.1 }
     ensures before { result.0.now ≡ before_first (λ b. b == separator) bytes.now }
@@ -21,7 +21,7 @@ pub fn cut(bytes: &[u8], separator: u8) -> (&[u8], Option<&[u8]>)
     }
 }
 
-/// The first field, and what stands behind its `;`.
+/// Returns the first field, and the bytes after its `;`.
 pub fn cut_field(content: &[u8]) -> (&[u8], Option<&[u8]>)
     ensures fields { fields_of content.now ≡ result.0.now ∷ fields_behind result.1 }
     ensures short { length result.0.now ≤ length content.now }
@@ -31,7 +31,7 @@ pub fn cut_field(content: &[u8]) -> (&[u8], Option<&[u8]>)
     (trim(field), rest)
 }
 
-/// The fields of a content that has two.
+/// Returns the fields of a content that has two.
 pub fn two_fields(content: &[u8]) -> Option<(&[u8], &[u8])>
     ensures fields { MatchOption result (length (fields_of content.now) ≢ 2)
         (λ f. fields_of content.now ≡ f.0.now ∷ f.1.now ∷ []) }
@@ -45,7 +45,7 @@ pub fn two_fields(content: &[u8]) -> Option<(&[u8], &[u8])>
     }
 }
 
-/// The fields of a content that has three.
+/// Returns the fields of a content that has three.
 pub fn three_fields(content: &[u8]) -> Option<(&[u8], &[u8], &[u8])>
     ensures { MatchOption result (length (fields_of content.now) ≢ 3)
         (λ f. fields_of content.now ≡ f.0.now ∷ f.1.now ∷ f.2.now ∷ []) }

@@ -5,14 +5,14 @@ ghost use Rattle.units.specs.Text.{is_blank as blank_of, items_of};
 
 use crate::text::trim::{is_blank, trim_start};
 
-// Where the first blank stands. Items are short, so bytes are looked at one by one.
+// The index of the first blank. Items are short, so bytes are compared one by one.
 fn first_blank(bytes: &[u8]) -> Option<usize>
     ensures { IsFirstByte blank_of bytes.now result }
 {
     bytes.iter().position(|byte| is_blank(*byte))
 }
 
-/// The first item, and what stands behind it and the blank that ends it.
+/// Returns the first item, and the bytes after it and the blank that ends it.
 pub fn next_item(field: &[u8]) -> Option<(&[u8], &[u8])>
     ensures items { MatchOption result (items_of field.now ≡ [])
         (λ cut. items_of field.now ≡ cut.0.now ∷ items_of cut.1.now) }

@@ -22,7 +22,7 @@ fn begins_number(item: &[u8]) -> bool
     }
 }
 
-/// `0`, or decimal digits of which the first is not `0`, with a value of at most this.
+/// Reads a number: `0`, or decimal digits that begin with another digit than `0`. The value is at most `greatest`.
 pub fn number(item: &[u8], greatest: u32) -> Option<u32>
     requires { greatest ≤ 65535 }
     ensures { result ≡ number_up_to greatest item.now }

@@ -5,7 +5,7 @@ ghost use Rattle.units.specs.Text.{is_blank as blank_of, without_blanks_before, 
 
 use memchr::memchr;
 
-/// Space, tab and CR.
+/// Returns whether the byte is a space, a tab or a CR.
 pub fn is_blank(byte: u8) -> bool
     ensures { result ≡ blank_of byte }
 {
@@ -24,7 +24,7 @@ fn blanks_behind(bytes: &[u8]) -> usize
     bytes.iter().rev().take_while(|b| is_blank(**b)).count()
 }
 
-/// The bytes without the blanks in front.
+/// Returns the bytes without the blanks in front.
 pub fn trim_start(bytes: &[u8]) -> &[u8]
     ensures rest { result.now ≡ without_blanks_before bytes.now }
     ensures short { length result.now ≤ length bytes.now }
@@ -32,7 +32,7 @@ pub fn trim_start(bytes: &[u8]) -> &[u8]
     &bytes[blanks_before(bytes)..]
 }
 
-/// The bytes without the blanks at the end.
+/// Returns the bytes without the blanks at the end.
 pub fn trim_end(bytes: &[u8]) -> &[u8]
     ensures rest { result.now ≡ without_blanks_behind bytes.now }
     ensures short { length result.now ≤ length bytes.now }
@@ -40,7 +40,7 @@ pub fn trim_end(bytes: &[u8]) -> &[u8]
     &bytes[..bytes.len() - blanks_behind(bytes)]
 }
 
-/// The bytes without the blanks at both ends.
+/// Returns the bytes without the blanks at both ends.
 pub fn trim(bytes: &[u8]) -> &[u8]
     ensures rest { result.now ≡ trimmed bytes.now }
     ensures short { length result.now ≤ length bytes.now }
@@ -48,7 +48,7 @@ pub fn trim(bytes: &[u8]) -> &[u8]
     trim_end(trim_start(bytes))
 }
 
-/// What stands before the first `#`, without the blanks at its ends.
+/// Returns the bytes before the first `#`, without the blanks at their ends.
 pub fn content(line: &[u8]) -> &[u8]
     ensures content { result.now ≡ content_of line.now }
     ensures short { length result.now ≤ length line.now }
