@@ -1,4 +1,4 @@
--- What a line says, by its content and its comment.
+-- What a line states: its content and its comment decide it.
 use Rattle.std.proofs.Common.{◌≡◌, ℕ, ◌<◌, ◌≤◌, ◌==◌, false, List, [], ◌∷◌, length, refl, arith}
 use Rattle.std.specs.List.{before_first, after_first}
 use Rattle.std.specs.Prelude.{nat_lt}

@@ -1,4 +1,4 @@
--- The lines of a byte list, by its cutting into lines: all but the last, and the last where it counts.
+-- The lines of a byte list, from its cutting into lines: all but the last, and the last if it counts.
 use Rattle.std.proofs.Common.{◌≡◌, ℕ, ◌<◌, Bool, true, List, [], ◌∷◌, ◌++◌, length, flat_map, All, refl, sym, ap, ◌∙◌, arith, append_assoc, append-nil}
 use Rattle.units.specs.Text.{longest_line, cut_at, lines_with, lines_of, has_bytes}
 use Rattle.units.specs.Lines.{CutsInto, IsLine, IsTooLongAfter, ended}
@@ -28,13 +28,13 @@ lines_with-ended counts lines more each =
     ap (lines_with counts) (cut_lines-ended lines more each ∙ ap (λ ls. lines ++ ls) s.2) ∙ lines_with-append counts lines s.0 s.1
     ∙ ap (λ ls. lines ++ lines_with counts ls) (sym s.2)
 
--- what follows changes none of the lines that have ended
+-- the bytes after them change none of the lines that have ended
 pub lines_with-more : (counts : List ℕ → Bool) (bytes : List ℕ) (lines : List (List ℕ)) (more : List ℕ) → CutsInto bytes lines []
     → lines_with counts (cut_at 10 (bytes ++ more)) ≡ lines ++ lines_with counts (cut_at 10 more)
 lines_with-more counts bytes lines more whole =
     ap (λ v. lines_with counts (cut_at 10 (v ++ more))) (whole.whole ∙ append-nil (flat_map ended lines)) ∙ lines_with-ended counts lines more whole.each
 
--- nor an over-long one that counts
+-- and they don't change an over-long line that counts
 pub lines_with-long : (counts : List ℕ → Bool) → ((line : List ℕ) → longest_line < length line → counts line ≡ true) → (bytes : List ℕ) (lines : List (List ℕ)) (more : List ℕ) → IsTooLongAfter bytes lines
     → (long : List ℕ) × (later : List (List ℕ)) × (longest_line < length long) × (lines_with counts (cut_at 10 (bytes ++ more)) ≡ lines ++ long ∷ later)
 lines_with-long counts do_count bytes lines more over =
@@ -52,7 +52,7 @@ lines_with-long counts do_count bytes lines more over =
           ∙ ap (λ ls. lines ++ ls) w.1,
     )
 
--- where the last line has ended, the lines are those that have ended
+-- if the last line has ended, the lines are those that have ended
 pub lines_of-ended : (bytes : List ℕ) (lines : List (List ℕ)) → CutsInto bytes lines [] → lines_of bytes ≡ lines
 lines_of-ended bytes lines whole = lines_with-whole has_bytes bytes lines [] whole ∙ append-nil lines
 

@@ -16,7 +16,7 @@ pub is-table : (spans : List (Span Bracket)) (table : Stages Bracket) → ((c : 
 unfolding bracket_by
 is-table spans table looks c le = looks c No le
 
--- what the spans before a place hold has class ON
+-- the code points of the spans before an index have class ON
 abbrev pub HoldsNeutrals : Stages Class → List (Span Bracket) → ℕ → Type 0
 HoldsNeutrals classes spans n = (k : ℕ) (d : Span Bracket) → k < n → (c : ℕ) → holds c (get_or spans k d) ≡ true → class_by classes c ≡ ON
 

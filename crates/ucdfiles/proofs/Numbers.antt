@@ -1,4 +1,4 @@
--- Numbers of decompositions: one more, and the map that holds them.
+-- Numbers of decompositions: one more, and the map that stores them.
 use Rattle.std.proofs.Common.{◌≡◌, ℕ, ◌+◌, true, false, cond, None, Some, List, [], ◌∷◌, length, map, refl, sym, ap, ◌∙◌, arith, ◌⊎◌, inl, inr}
 use Rattle.std.proofs.lemmas.Bool.{cases_Bool}
 use Rattle.std.proofs.Common.{Ordering, Less, Equal, Greater}
@@ -12,11 +12,11 @@ use Rattle.std.proofs.lemmas.Map.Text.{is_eq-slice_cmp}
 use Rattle.ucdfiles.specs.Keys.{number_in, IsNumbering, Keeps}
 
 module _ {K : Type 0} (items : K → List ℕ) where
-  -- the entries, by what their keys hold
+  -- the entries, with the contents of their keys
   abbrev pub read : List (K × ℕ) → List (List ℕ × ℕ)
   read es = map (λ (e : K × ℕ). (items e.0, e.1)) es
 
-  -- keys are compared by what they hold
+  -- keys are compared by their contents
   abbrev pub compared : K → K → Ordering
   compared a b = slice_cmp nat_cmp (items a) (items b)
 

@@ -1,4 +1,4 @@
--- One cut of a cutter, and what it does to a table.
+-- One cut of a line splitter, and its effect on a table.
 use Rattle.std.proofs.Common.{◌≡◌, ℕ, ◌+◌, ◌<◌, ◌≤◌, inl, inr, List, [], ◌∷◌, ◌++◌, length, take, Option, Some, sym, ap, ◌∙◌, subst, arith, append_assoc}
 use Rattle.std.specs.Option.{option_map}
 use Rattle.units.specs.LineCutting.{Cutting, StandsFor}

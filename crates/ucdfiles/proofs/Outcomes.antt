@@ -1,4 +1,4 @@
--- What a reader says at each of its ends.
+-- What a reader returns at each of its exits.
 use Rattle.std.proofs.Common.{◌≡◌, ◌≢◌, ◌<◌, ◌≤◌, ℕ, ◌⊎◌, inl, inr, List, [], ◌++◌, length, length-append, take, arith, Option, None, Some, Result, Ok, Err}
 use Rattle.std.proofs.lemmas.List.{length-take-le}
 use Rattle.std.specs.Prelude.{IfErr, OnOk}

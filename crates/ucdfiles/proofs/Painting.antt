@@ -1,4 +1,4 @@
--- Spans laid over values, and the values that they leave.
+-- Spans laid over values, and the resulting values.
 use Rattle.std.proofs.Common.{◌≡◌, ℕ, suc, ◌+◌, ◌<◌, ◌≤◌, Bool, true, Option, None, Some, List, [], ◌∷◌, ◌++◌, length, get_or, reverse, refl, ap, ◌∙◌, arith}
 use Rattle.std.specs.List.{find}
 use Rattle.std.specs.Cmp.Lexicographic.{pointwise}
@@ -16,7 +16,7 @@ module _ {V : Type 0} where
   value_over_all-push c [] span v = refl
   value_over_all-push c (s ∷ spans) span v = value_over_all-push c spans span (value_over c s v)
 
-  -- the values before a place are painted, the others as they were
+  -- the values before an index are painted, the others are unchanged
   pub record IsPaintedUpTo (first : ℕ) (span : Span V) (n : ℕ) (old new : List V) : Type 0 where
     pub size : length new ≡ length old
     pub done : (k : ℕ) (d : V) → k < n → k < length old → get_or new k d ≡ value_over (first + k) span (get_or old k d)
@@ -32,7 +32,7 @@ module _ {V : Type 0} where
       → ((k : ℕ) (d : V) → k < length mid → get_or new k d ≡ value_over (first + k) span (get_or mid k d)) → IsPaintedBy first (spans ++ span ∷ []) old new
   painted-more first spans span old mid new h size values = grind (arith, value_over_all-push)
 
-  -- what the last span that holds a code point gives, else the first of two, else the second
+  -- the value of the first span, else of the second, else the given value
   unwrap_or-both : (a b : Option (Span V)) (v : V) → unwrap_or (value_by None a) (unwrap_or (value_by None b) v) ≡ unwrap_or (value_by None (option_or a b)) v
   unwrap_or-both None b v = refl
   unwrap_or-both (Some s) b v = refl
@@ -40,7 +40,7 @@ module _ {V : Type 0} where
   value_over-find : (c : ℕ) (s : Span V) (v : V) → value_over c s v ≡ unwrap_or (value_by None (find (holds c) (s ∷ []))) v
   value_over-find c s v = grind arith
 
-  -- the last span that holds a code point gives it its value
+  -- the last span that contains a code point determines its value
   pub value_over_all-last : (c : ℕ) (spans : List (Span V)) (v : V) → value_over_all c spans v ≡ unwrap_or (value_by None (find (holds c) (reverse spans))) v
   value_over_all-last c [] v = refl
   value_over_all-last c (s ∷ spans) v =
@@ -52,11 +52,11 @@ module _ {V : Type 0} where
     apart = λ i j d less lt. rising.apart (suc i) (suc j) d (omega arith) (omega arith);
   }
 
-  -- of spans in order, those behind one that holds a code point don't
+  -- if the first of some spans in order contains a code point, the spans after it don't
   none_behind : (c : ℕ) (s : Span V) (spans : List (Span V)) → IsRising (s ∷ spans) → holds c s ≡ true → find (holds c) spans ≡ None
   none_behind c s spans rising held = find-none (holds c) spans (λ k d lt. not_held_before c (get_or spans k d) (omega (arith, leb-true c s.last ((and_parts _ _ held).1), rising.apart 0 (suc k) d (omega arith) (omega arith))))
 
-  -- so the one that holds it gives it its value
+  -- so the span that contains it determines its value
   pub value_over_all-rising : (c : ℕ) (spans : List (Span V)) (v : V) → IsRising spans → value_over_all c spans v ≡ unwrap_or (value_by (find (holds c) spans) None) v
   value_over_all-rising c [] v rising = refl
   value_over_all-rising c (s ∷ spans) v rising =
@@ -70,7 +70,7 @@ module _ {V : Type 0} where
   pub painted-value : (c : ℕ) (spans defaults : List (Span V)) (v : V) → IsRising spans → value_over_all c spans (value_over_all c defaults v) ≡ unwrap_or (value_in spans defaults c) v
   painted-value c spans defaults v rising = grind (arith, value_over_all-rising, value_over_all-last, either)
 
-  -- spans of which the same hold a code point give it the same value
+  -- if the same span of two lists contains a code point, both lists give it the same value
   pub value_in-find : (c : ℕ) (some spans defaults : List (Span V)) → find (holds c) some ≡ find (holds c) spans → value_in some defaults c ≡ value_in spans defaults c
   value_in-find c some spans defaults same = ap (λ o. value_by o (find (holds c) (reverse defaults))) same
 

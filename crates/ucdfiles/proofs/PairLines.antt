@@ -1,4 +1,4 @@
--- What a line of pairs says, by its content.
+-- What a line of pairs states: its content decides it.
 use Rattle.std.proofs.Common.{◌≡◌, ℕ, ◌<◌, ◌≤◌, ◌==◌, true, false, List, [], ◌∷◌, length, refl, sym, ap, ◌∙◌, arith, Result}
 use Rattle.std.specs.Prelude.{nat_lt}
 use Rattle.std.proofs.lemmas.Bool.{le-ltb, eqb-true, eqb-false}

@@ -1,4 +1,4 @@
--- Spans in order: where one that holds a code point stands, and one more among them.
+-- Spans in order: the position of the span that contains a code point, and one more span among them.
 use Rattle.std.proofs.Common.{◌≡◌, ℕ, suc, ◌+◌, ◌-◌, ◌<◌, ◌≤◌, Bool, true, false, ltb, leb, ◌||◌, None, List, [], ◌∷◌, ◌++◌, length, map, get_or, take, drop, insert, refl, sym, ap, ◌∙◌, arith, inl, inr}
 use Rattle.std.specs.List.{find, list_any, AllWithin}
 use Rattle.std.specs.List.Sorted.{IsPartitionedBy}
@@ -46,7 +46,7 @@ module _ {V : Type 0} where
   pub not_held_before : (code : ℕ) (r : Span V) → code < r.first → holds code r ≡ false
   not_held_before code r lt = let e : leb r.first code ≡ false = lt-leb _ _ lt in rw e refl
 
-  -- the spans from a place on begin above a code point below the first of them
+  -- the spans from an index on begin above a code point that is below the first of them
   all_above : (rs : List (Span V)) (n code : ℕ) → IsRising rs → (n < length rs → (d : Span V) → code < (get_or rs n d).first) → (k : ℕ) (d : Span V) → n ≤ k → k < length rs → code < (get_or rs k d).first
   all_above rs n code rising above k d le lt = grind (arith, eq-or-lt_of_le)
 
@@ -56,7 +56,7 @@ module _ {V : Type 0} where
   apart-holds : (code : ℕ) (a b : Span V) → holds code a ≡ true → overlaps a b ≡ false → holds code b ≡ false
   apart-holds code a b ha apart = false_from_ne_true (holds code b) (λ hb. false≢true (sym apart ∙ overlaps-holds code a b ha hb))
 
-  -- where a span meets none of these, none of these holds a code point of it
+  -- if a span overlaps none of these, none of these contains a code point of it
   pub find-apart : (code : ℕ) (span : Span V) (rs : List (Span V)) → holds code span ≡ true → list_any (overlaps span) rs ≡ false → find (holds code) rs ≡ None
   find-apart code span [] held none = refl
   find-apart code span (r ∷ rs) held none = grind (arith, or_parts, apart-holds, find-apart code span rs held)
@@ -82,7 +82,7 @@ module _ {V : Type 0} where
   pub Adds-insert : (rs : List (Span V)) (at : ℕ) (span : Span V) → at ≤ length rs → list_any (overlaps span) rs ≡ false → Adds rs span (insert rs at span)
   Adds-insert rs at span le none = grind (arith, finds-insert, meets-insert, length-insert)
 
-  -- none of the spans in order meets one that ends before those from a place on begin
+  -- a span that ends before the spans from an index on begin, and begins after the earlier ones end, overlaps none
   pub overlaps-none : (rs : List (Span V)) (n : ℕ) (span : Span V) → IsRising rs → n ≤ length rs → AllWithin (λ (r : Span V). r.last < span.first) rs 0 n → (n < length rs → (d : Span V) → span.last < (get_or rs n d).first)
       → list_any (overlaps span) rs ≡ false
   overlaps-none rs n span rising le below above =
@@ -91,7 +91,7 @@ module _ {V : Type 0} where
         | inr high ↦ let e : leb (get_or rs k d).first span.last ≡ false = lt-leb _ _ (all_above rs n span.last rising above k d high lt) in rw e (and_right (leb span.first (get_or rs k d).last) false refl)
       ])
 
-  -- what is known of an element at a place is known of it whatever stands for one past the end
+  -- a fact about an element at an index doesn't depend on the default that is read past the end
   pub begins_above : (rs : List (Span V)) (n code : ℕ) (d : Span V) → code < (get_or rs n d).first → n < length rs → (e : Span V) → code < (get_or rs n e).first
   begins_above rs n code d above lt e = omega (arith, above, ap (λ (r : Span V). r.first) (get_or_default rs n d e lt))
 
@@ -132,7 +132,7 @@ module _ {V : Type 0} where
         ];
       }
 
-  -- spans that end before a code point don't hold it
+  -- spans that end before a code point don't contain it
   pub find-drop : (rs : List (Span V)) (m code : ℕ) → AllWithin (λ (r : Span V). r.last < code) rs 0 m → find (holds code) (drop m rs) ≡ find (holds code) rs
   find-drop rs m code below =
       let front : find (holds code) (take m rs) ≡ None = find-none (holds code) (take m rs) (λ k d lt. (
@@ -140,7 +140,7 @@ module _ {V : Type 0} where
       ap (holds code) (get_or-take m rs k d low) ∙ not_held_behind code (get_or rs k d) (below k d (omega arith) low))) in
       sym (ap (find (holds code)) (sym (take-append-drop m rs)) ∙ find-append (holds code) (take m rs) (drop m rs) ∙ rw front refl)
 
-  -- nor do those that begin after it
+  -- spans that begin after it don't either
   pub find-take : (rs : List (Span V)) (n code : ℕ) → AllWithin (λ (r : Span V). code < r.first) rs n (length rs) → find (holds code) (take n rs) ≡ find (holds code) rs
   find-take rs n code above =
       let back : find (holds code) (drop n rs) ≡ None = find-none (holds code) (drop n rs) (λ k d lt. (
@@ -150,12 +150,12 @@ module _ {V : Type 0} where
 
 -- spans with other values
 module _ {V W : Type 0} (value : V → W) where
-  -- hold what they held
+  -- contain the same code points
   pub find-revalued : (c : ℕ) (spans : List (Span V)) → find (holds c) (map (revalued value) spans) ≡ option_map (revalued value) (find (holds c) spans)
   find-revalued c [] = refl
   find-revalued c (s ∷ spans) = grind (arith, find-revalued c spans)
 
-  -- and stand as they stood
+  -- and are in the same order
   pub rising-revalued : (none : V) (spans : List (Span V)) → IsRising spans → IsRising (map (revalued value) spans)
   rising-revalued none spans rising =
       let size : length (map (revalued value) spans) ≡ length spans = length-map spans (revalued value) in

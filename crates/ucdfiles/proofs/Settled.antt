@@ -1,21 +1,21 @@
--- The settled lines of a byte list, by its cutting into lines.
+-- The lines of a byte list that no later bytes change, from its cutting into lines.
 use Rattle.std.proofs.Common.{◌≡◌, ℕ, ◌<◌, false, List, [], ◌∷◌, ◌++◌, length, ◌∙◌, append-nil}
 use Rattle.std.proofs.lemmas.Bool.{lt-ltb, le-ltb}
 use Rattle.units.specs.Text.{longest_line, settled_lines, is_over_long}
 use Rattle.units.specs.Lines.{CutsInto, IsTooLongAfter}
 use Rattle.ucdfiles.proofs.LinesWith.{lines_with-long, lines_with-more, lines_with-whole}
 
--- the lines that have ended are settled, and no others
+-- these are the lines that have ended, if none is over-long
 pub settled-whole : (bytes : List ℕ) (lines : List (List ℕ)) (rest : List ℕ) → CutsInto bytes lines rest → settled_lines bytes ≡ lines
 settled-whole bytes lines rest whole =
     let short : is_over_long rest ≡ false = le-ltb _ _ whole.partial.short in
     lines_with-whole is_over_long bytes lines rest whole ∙ rw short (append-nil lines)
 
--- what follows changes none of the lines that have ended
+-- the bytes after them change none of the lines that have ended
 pub settled-more : (bytes : List ℕ) (lines : List (List ℕ)) (more : List ℕ) → CutsInto bytes lines [] → (later : List (List ℕ)) × (settled_lines (bytes ++ more) ≡ lines ++ later)
 settled-more bytes lines more whole = (settled_lines more, lines_with-more is_over_long bytes lines more whole)
 
--- nor an over-long one
+-- and they don't change an over-long line
 pub settled-long : (bytes : List ℕ) (lines : List (List ℕ)) (more : List ℕ) → IsTooLongAfter bytes lines
     → (long : List ℕ) × (later : List (List ℕ)) × (longest_line < length long) × (settled_lines (bytes ++ more) ≡ lines ++ long ∷ later)
 settled-long = lines_with-long is_over_long (λ line above. lt-ltb _ _ above)

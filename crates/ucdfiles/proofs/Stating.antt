@@ -1,4 +1,4 @@
--- One more line, and what is stated with it.
+-- One more line, and the statements with it.
 use Rattle.std.proofs.Common.{◌≡◌, ℕ, None, List, [], ◌∷◌, ◌++◌, map, refl, sym, ap, ◌∙◌, arith, length-append, append-nil, subst}
 use Rattle.std.proofs.lemmas.List.{map-append}
 use Rattle.std.proofs.lemmas.List.Folds.{find-append, list_any-append}
@@ -24,7 +24,7 @@ module _ {V : Type 0} where
   defaults_of-push (Data span ∷ lines) line = defaults_of-push lines line
   defaults_of-push (Default span ∷ lines) line = ap (λ ss. span ∷ ss) (defaults_of-push lines line)
 
-  -- the fault of a line behind those that state this
+  -- the fault of a line after the lines that state this
   fault-same : (taken : Fault) (stated : Stated V) (lines : List (FileLine V)) (said : FileLine V) → IsStatedBy stated lines → stated_fault taken stated said ≡ fault_behind taken lines said
   fault-same taken stated lines Silent h = refl
   fault-same taken stated lines (Faulty fault) h = refl
@@ -58,6 +58,6 @@ module _ {V : Type 0} where
           let P : List (FileLine V) → Type 0 = λ ls. IsStatedBy new ls in subst P (sym (map-append says lines (line ∷ []) ∙ ap (λ l. map says lines ++ l ∷ []) e)) made.1,
         )
 
-    -- what all lines state gives each code point its value
+    -- the statements of all lines determine the value of each code point
     pub value_in-stands : (stated : Stated V) (lines : List (List ℕ)) (c : ℕ) → AreStatedBy says stated lines → value_in stated.data_lines stated.default_lines c ≡ value_stated (map says lines) c
     value_in-stands stated lines c s = rw (s.finds c, s.defaults) refl

@@ -1,4 +1,4 @@
--- DerivedBidiClass.txt: what a line says by itself, and the classes that the lines state.
+-- DerivedBidiClass.txt: what a line states by itself, and the classes that the lines state.
 use Rattle.std.specs.Prelude.{◌≡◌, ◌≤◌, Option, ℕ, nat_lt, nat_eq, if◌then◌else◌, ◌==◌, List, [], ◌∷◌, length, Some, None, Result, Ok, Err, drop, codes}
 use Rattle.std.specs.List.{starts_with, after_first}
 use Rattle.std.specs.Option.{option_or, unwrap_or}
@@ -28,26 +28,26 @@ abbrev pub range_read : Option (ℕ × ℕ) → Option Class → Result (Span Cl
 range_read None class = Err CodePoint
 range_read (Some ends) class = if nat_lt ends.1 ends.0 then Err Backwards else with_class ends class
 
--- what two fields say: a code point or a range, and the name of a class
+-- what two fields state: a code point or a range, and the name of a class
 abbrev pub range_in : (List ℕ → Option Class) → List (List ℕ) → Result (Span Class) Fault
 range_in named (range ∷ name ∷ []) = range_read (ends_of range) (named name)
 range_in named _ = Err Fields
 
--- what a comment says: a default if it begins with `@missing:`
+-- what a comment states: a default if it begins with `@missing:`
 abbrev pub comment_says : List ℕ → FileLine Class
 comment_says comment =
     if starts_with nat_eq comment (codes "@missing:") then span_says Default (range_in class_of_name (fields_of (content_of (drop 9 comment)))) else Silent
 
--- what a line with this content says: only where that is empty its comment is read
+-- what a line with this content states: its comment is read only if the content is empty
 abbrev pub class_content_says : List ℕ → List ℕ → FileLine Class
 class_content_says line [] = comment_says (without_blanks_before (after_first (λ b. b == 35) line))
 class_content_says line (b ∷ bs) = span_says Data (range_in class_of_short (fields_of (b ∷ bs)))
 
--- what a line says
+-- what a line states
 unfoldable pub class_line_says : List ℕ → FileLine Class
 class_line_says line = if nat_lt longest_line (length line) then Faulty LineTooLong else class_content_says line (content_of line)
 
--- the fault of a line behind the earlier ones
+-- the fault of a line after the earlier ones
 abbrev pub class_fault : List (List ℕ) → List ℕ → Option Fault
 class_fault earlier line = line_fault class_line_says Overlap earlier line
 
@@ -55,12 +55,12 @@ class_fault earlier line = line_fault class_line_says Overlap earlier line
 unfoldable pub class_file_fault : List ℕ → Option TableFault
 class_file_fault bytes = file_fault class_line_says Overlap bytes
 
--- the class of a code point: that of the one data line that holds it, else that of the last default line that holds it,
--- else L
+-- the class of a code point: that of the one data line that contains it, else that of the last default line that
+-- contains it, else L
 unfoldable pub class_of : List ℕ → ℕ → Class
 class_of bytes c = unwrap_or (value_of class_line_says bytes c) L
 
--- the bytes are not faulty, and these are the classes of the code points by them
+-- the bytes are not faulty, and these are the classes that they state for the code points
 pub record StatesClasses (bytes : List ℕ) (classes : ℕ → Class) : Type 0 where
   pub faultless : class_file_fault bytes ≡ None
   pub stated : (c : ℕ) → c ≤ 0x10FFFF → classes c ≡ class_of bytes c

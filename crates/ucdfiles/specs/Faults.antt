@@ -19,7 +19,7 @@ fault_at kind.BracketKind line = BracketKind line
 fault_at kind.LineTooLong line = LineTooLong line
 fault_at kind.TooMany line = TooMany line
 
--- a line of this number is refused for this: memory, or the fault that it has
+-- the error for a line with this number: memory, or the line's fault
 abbrev pub RefusesAt : ℕ → Option Fault → TableFault → Type 0
 RefusesAt number fault e = (e ≡ Memory) ⊎ (option_map (λ f. fault_at f number) fault ≡ Some e)
 
@@ -55,12 +55,12 @@ line_of_fault Memory = None
 abbrev pub over_long_line : Fault
 over_long_line = kind.LineTooLong
 
--- the fault of the line with so many lines before it
+-- the fault of the line after this number of lines
 abbrev pub fault_of_line : ℕ → Option Fault → Option TableFault
 fault_of_line index None = None
 fault_of_line index (Some fault) = Some (fault_at fault (line_number index))
 
--- the fault of the first faulty one of these lines, each of which is looked at behind the earlier ones
+-- the fault of the first faulty line; a line is checked against the earlier ones
 abbrev pub first_fault : (List (List ℕ) → List ℕ → Option Fault) → List (List ℕ) → List (List ℕ) → Option TableFault
 first_fault fault earlier [] = None
 first_fault fault earlier (line ∷ lines) = option_or (fault_of_line (length earlier) (fault earlier line)) (first_fault fault (earlier ++ line ∷ []) lines)

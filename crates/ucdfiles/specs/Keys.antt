@@ -20,11 +20,11 @@ pub record IsNumbering (numbers : List (List ℕ × ℕ)) : Type 0 where
   pub apart : (a b : List ℕ) (n : ℕ) → number_in numbers a ≡ Some n → number_in numbers b ≡ Some n → a ≡ b
   pub below : (a : List ℕ) (n : ℕ) → number_in numbers a ≡ Some n → n < length numbers
 
--- what had a number keeps it
+-- each decomposition that had a number still has it
 abbrev pub Keeps : List (List ℕ × ℕ) → List (List ℕ × ℕ) → Type 0
 Keeps old new = (a : List ℕ) (n : ℕ) → number_in old a ≡ Some n → number_in new a ≡ Some n
 
--- the key of a character, by the number of its decomposition
+-- the key of a character: the number of its decomposition
 abbrev pub key_in : List (List ℕ × ℕ) → ℕ → Key
 key_in numbers a = record { 0 = unwrap_or (number_in numbers (nfd (a ∷ []))) 0 }
 

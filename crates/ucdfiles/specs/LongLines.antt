@@ -1,5 +1,5 @@
--- An over-long line is faulty, whatever stands before it: proofs of the law `over_long` of the tables that are read
--- line by line. They stand here since an impl may cite no other place.
+-- An over-long line is faulty, whatever lines are before it: proofs of the property `over_long` of the tables that are
+-- read line by line. They are in specs because an impl may cite no other place.
 use Rattle.std.specs.Prelude.{◌≡◌, ℕ, ◌<◌, List, length, map, Some, true, refl, nat_lt, Result}
 use Rattle.std.proofs.Common.{ap}
 use Rattle.std.proofs.lemmas.Bool.{lt-ltb}
@@ -13,21 +13,21 @@ use Rattle.ucdfiles.specs.Statements.{fault_behind, line_fault}
 use Rattle.ucdfiles.specs.ClassFile.{class_line_says, class_fault}
 use Rattle.ucdfiles.specs.PairFiles.{pair_line_says}
 
--- of DerivedBidiClass.txt, by itself
+-- a line of DerivedBidiClass.txt, by itself
 pub class_line_says-long : (line : List ℕ) → longest_line < length line → class_line_says line ≡ Faulty over_long_line
 unfolding class_line_says
 class_line_says-long line lt = let e : nat_lt longest_line (length line) ≡ true = lt-ltb _ _ lt in rw e refl
 
--- and behind the earlier ones
+-- a line of DerivedBidiClass.txt, after the earlier ones
 pub class_fault-long : (lines : List (List ℕ)) (line : List ℕ) → longest_line < length line → class_fault lines line ≡ Some over_long_line
 class_fault-long lines line lt = ap (fault_behind Overlap (map class_line_says lines)) (class_line_says-long line lt)
 
--- of the files of pairs, by itself
+-- a line of the files of pairs, by itself
 pub pair_line_says-long : {V : Type 0} (read : List (List ℕ) → Result (Span V) Fault) (line : List ℕ) → longest_line < length line → pair_line_says read line ≡ Faulty over_long_line
 unfolding pair_line_says
 pair_line_says-long read line lt = let e : nat_lt longest_line (length line) ≡ true = lt-ltb _ _ lt in rw e refl
 
--- and behind the earlier ones
+-- a line of the files of pairs, after the earlier ones
 pub pair_fault-long : {V : Type 0} (read : List (List ℕ) → Result (Span V) Fault) (lines : List (List ℕ)) (line : List ℕ) → longest_line < length line
     → line_fault (pair_line_says read) Twice lines line ≡ Some over_long_line
 pair_fault-long read lines line lt = ap (fault_behind Twice (map (pair_line_says read) lines)) (pair_line_says-long read line lt)

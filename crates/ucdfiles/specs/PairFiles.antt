@@ -1,5 +1,5 @@
--- BidiBrackets.txt and BidiMirroring.txt: what a line says by itself, and the brackets and mirror images that the lines
--- state.
+-- BidiBrackets.txt and BidiMirroring.txt: what a line states by itself, and the brackets and mirror images that the
+-- lines state.
 use Rattle.std.specs.Prelude.{◌≡◌, ◌≤◌, ◌↔◌, Option, ℕ, Bool, ◌&&◌, nat_le, nat_lt, if◌then◌else◌, List, [], ◌∷◌, length, Some, None, Result, Ok, Err, codes}
 use Rattle.std.specs.Str.{bytes_eq}
 use Rattle.unicode_normalization.specs.Forms.{nfd}
@@ -51,7 +51,7 @@ bracket_chars (Some char) (Some paired) side = bracket_read char paired side
 bracket_chars (Some char) None side = Err CodePoint
 bracket_chars None paired side = Err CodePoint
 
--- what three fields say: a bracket, its paired bracket, and its side
+-- what three fields state: a bracket, its paired bracket, and its side
 abbrev pub bracket_in : List (List ℕ) → Result (Span SidedBracket) Fault
 bracket_in (char ∷ paired ∷ side ∷ []) = bracket_chars (char_of char) (char_of paired) (side_named side)
 bracket_in _ = Err Fields
@@ -62,25 +62,25 @@ mirror_chars (Some char) (Some image) = Ok (single char image)
 mirror_chars (Some char) None = Err CodePoint
 mirror_chars None image = Err CodePoint
 
--- what two fields say: a character and its mirror image
+-- what two fields state: a character and its mirror image
 abbrev pub mirror_in : List (List ℕ) → Result (Span ℕ) Fault
 mirror_in (char ∷ image ∷ []) = mirror_chars (char_of char) (char_of image)
 mirror_in _ = Err Fields
 
--- what a content says: an empty one nothing
+-- what a content states: an empty one nothing
 abbrev pub pair_content_says : {V : Type 0} → (List (List ℕ) → Result (Span V) Fault) → List ℕ → FileLine V
 pair_content_says read [] = Silent
 pair_content_says read (b ∷ bs) = span_says Data (read (fields_of (b ∷ bs)))
 
--- what a line says, by what its fields say
+-- what a line states: its fields decide it
 unfoldable pub pair_line_says : {V : Type 0} → (List (List ℕ) → Result (Span V) Fault) → List ℕ → FileLine V
 pair_line_says read line = if nat_lt longest_line (length line) then Faulty LineTooLong else pair_content_says read (content_of line)
 
--- the fault of a line of BidiBrackets.txt behind the earlier ones
+-- the fault of a line of BidiBrackets.txt after the earlier ones
 abbrev pub bracket_fault : List (List ℕ) → List ℕ → Option Fault
 bracket_fault earlier line = line_fault (pair_line_says bracket_in) Twice earlier line
 
--- the fault of a line of BidiMirroring.txt behind the earlier ones
+-- the fault of a line of BidiMirroring.txt after the earlier ones
 abbrev pub mirror_fault : List (List ℕ) → List ℕ → Option Fault
 mirror_fault earlier line = line_fault (pair_line_says mirror_in) Twice earlier line
 
@@ -92,15 +92,15 @@ bracket_file_fault bytes = file_fault (pair_line_says bracket_in) Twice bytes
 unfoldable pub mirror_file_fault : List ℕ → Option TableFault
 mirror_file_fault bytes = file_fault (pair_line_says mirror_in) Twice bytes
 
--- the side of a bracket, and the character whose key it has, by the one line whose first field it is
+-- the side of a bracket, and the character whose key it has, from the one line whose first field it is
 unfoldable pub bracket_of : List ℕ → ℕ → Option SidedBracket
 bracket_of bytes c = value_of (pair_line_says bracket_in) bytes c
 
--- the mirror image of a character, by the one line whose first field it is
+-- the mirror image of a character, from the one line whose first field it is
 unfoldable pub mirror_of : List ℕ → ℕ → Option ℕ
 mirror_of bytes c = value_of (pair_line_says mirror_in) bytes c
 
--- the bytes are not faulty, and these are the mirror images of the characters by them
+-- the bytes are not faulty, and these are the mirror images that they state for the characters
 pub record StatesMirrors (bytes : List ℕ) (glyphs : ℕ → Option ℕ) : Type 0 where
   pub faultless : mirror_file_fault bytes ≡ None
   pub stated : (c : ℕ) → c ≤ 0x10FFFF → glyphs c ≡ mirror_of bytes c
@@ -110,7 +110,7 @@ abbrev pub bracket_with : BracketSide → Key → Bracket
 bracket_with Open key = bracket.Open key
 bracket_with Close key = bracket.Close key
 
--- the bracket of a character by its line: none, or one with the key of the stated character
+-- the bracket that a character's line states: none, or one with the key of the stated character
 abbrev pub bracket_stated : (ℕ → Key) → Option SidedBracket → Bracket
 bracket_stated key None = bracket.No
 bracket_stated key (Some stated) = bracket_with stated.side (key stated.keyed_by)
@@ -119,12 +119,12 @@ bracket_stated key (Some stated) = bracket_with stated.side (key stated.keyed_by
 abbrev pub IsEquivalent : ℕ → ℕ → Type 0
 IsEquivalent a b = nfd (a ∷ []) ≡ nfd (b ∷ [])
 
--- some line keys a bracket by this character
+-- some line states that a bracket has the key of this character
 abbrev pub IsKeyed : List ℕ → ℕ → Type 0
 IsKeyed bytes a = (c : ℕ) × (stated : SidedBracket) × (c ≤ 0x10FFFF) × (bracket_of bytes c ≡ Some stated) × (stated.keyed_by ≡ a)
 
--- BD14 to BD16: the bytes are not faulty, and these are the brackets of the characters by them; keys are equal exactly
--- if their characters are canonically equivalent
+-- BD14 to BD16: the bytes are not faulty, and these are the brackets that they state for the characters; keys are equal
+-- exactly if their characters are canonically equivalent
 pub record StatesBrackets (bytes : List ℕ) (brackets : ℕ → Bracket) : Type 0 where
   pub faultless : bracket_file_fault bytes ≡ None
   pub key : ℕ → Key

@@ -1,4 +1,4 @@
--- A table that is made of the lines of a source.
+-- A table made from the lines of a source.
 use Rattle.std.specs.Prelude.{Option, ℕ, ◌≡◌, ◌≢◌, ◌<◌, ◌⊎◌, List, [], ◌∷◌, ◌++◌, length, Some, None, Result, Ok, Err}
 use Rattle.units.specs.Text.{lines_of, settled_lines}
 use Rattle.units.specs.LineCutting.{Cutting, StandsFor}
@@ -10,7 +10,7 @@ use Rattle.ucdfiles.specs.declared.fault.TableFault.{TableFault}
 use Rattle.ucdfiles.specs.declared.fault.TableFault.TheVariants.{Read, Memory, LineTooLong}
 use Rattle.ucdfiles.specs.Faults.{RefusesAt, first_fault}
 
--- a cutter and a table that were handed these bytes, in any pieces, and no line that ended was faulty
+-- a line splitter and a table that were given these bytes, in any pieces; no line that ended was faulty
 pub record Reads (stands : List (List ℕ) → Type 0) (fault : List (List ℕ) → List ℕ → Option Fault) (cutter : Cutting) (bytes : List ℕ) : Type 0 where
   pub cuts : StandsFor cutter bytes
   pub lines : List (List ℕ)
@@ -19,37 +19,37 @@ pub record Reads (stands : List (List ℕ) → Type 0) (fault : List (List ℕ) 
   pub table : stands lines
   pub faultless : first_fault fault [] lines ≡ None
 
--- a line behind those of a table has no fault, and is put behind them
+-- a line after those of a table has no fault, and the table takes it
 abbrev pub TakesLine : (List (List ℕ) → Type 0) → (List (List ℕ) → Type 0) → (List (List ℕ) → List ℕ → Option Fault) → List ℕ → Type 0
 TakesLine before after fault line =
     (lines : List (List ℕ)) → before lines → (fault lines line ≡ None) × after (lines ++ line ∷ [])
 
--- why a line of this number behind those of a table is refused
+-- the error for a line with this number after those of a table
 abbrev pub IsLineRefusal : (List (List ℕ) → Type 0) → (List (List ℕ) → List ℕ → Option Fault) → ℕ → List ℕ → TableFault → Type 0
 IsLineRefusal before fault number line e = (lines : List (List ℕ)) → before lines → RefusesAt number (fault lines line) e
 
--- what a line that was cut does to a table
+-- the effect on a table of a line that was cut
 abbrev pub IsCut : (List (List ℕ) → Type 0) → (List (List ℕ) → Type 0) → (List (List ℕ) → List ℕ → Option Fault) → Cut → Type 0
 IsCut before after fault More = (lines : List (List ℕ)) → before lines → after lines
 IsCut before after fault (Line number text) = TakesLine before after fault text.now
 IsCut before after fault (TooLong number) = ⊥
 
--- why a line that was cut is refused
+-- the error for a line that was cut
 abbrev pub IsRefusal : (List (List ℕ) → Type 0) → (List (List ℕ) → List ℕ → Option Fault) → Cut → TableFault → Type 0
 IsRefusal before fault More e = ⊥
 IsRefusal before fault (Line number text) e = IsLineRefusal before fault number text.now e
 IsRefusal before fault (TooLong number) e = e ≡ LineTooLong number
 
--- a growth was refused, or this is the fault of the first faulty of the settled lines
+-- a growth was refused, or this is the fault of the first faulty line among those that no later bytes change
 abbrev pub RefusesBytes : (List (List ℕ) → List ℕ → Option Fault) → List ℕ → TableFault → Type 0
 RefusesBytes fault bytes e = (e ≡ Memory) ⊎ (first_fault fault [] (settled_lines bytes) ≡ Some e)
 
--- a cutter and a table that were handed some bytes were handed this piece behind them
+-- a line splitter and a table that were given some bytes are given this piece after them
 abbrev pub ReadsOn : (List (List ℕ) → Type 0) → (List (List ℕ) → Type 0) → (List (List ℕ) → List ℕ → Option Fault) → Cutting → Cutting → List ℕ → Type 0
 ReadsOn before after fault old new piece =
     (b : List ℕ) → Reads before fault old b → Reads after fault new (b ++ piece)
 
--- all lines of the bytes that were handed over, the last one too, state the table
+-- all lines of the bytes, the last one too, state the table
 abbrev pub EndsFaultless : (List (List ℕ) → Type 0) → (List (List ℕ) → Type 0) → (List (List ℕ) → List ℕ → Option Fault) → Cutting → Type 0
 EndsFaultless before after fault cutter =
     (b : List ℕ) → Reads before fault cutter b → (first_fault fault [] (lines_of b) ≡ None) × after (lines_of b)
@@ -59,21 +59,21 @@ abbrev pub EndsFaulty : (List (List ℕ) → Type 0) → (List (List ℕ) → Li
 EndsFaulty before fault cutter e =
     (b : List ℕ) → Reads before fault cutter b → (e ≡ Memory) ⊎ (first_fault fault [] (lines_of b) ≡ Some e)
 
--- what a reader says of the bytes that its source handed out; it asks for memory only behind a read that did not fail
+-- a reader fails with this fault after these bytes of its source; with `Memory` only after a read that succeeded
 pub record IsFault (fault : List (List ℕ) → List ℕ → Option Fault) (ended : Type 0) (bytes : List ℕ) (e : TableFault) : Type 0 where
   pub read : e ≡ Read → first_fault fault [] (settled_lines bytes) ≡ None
   pub memory : e ≡ Memory → ended ⊎ (0 < length bytes)
   pub other : e ≢ Read → RefusesBytes fault bytes e ⊎ (ended × (first_fault fault [] (lines_of bytes) ≡ Some e))
 
--- what a reader answers: all lines state the table, or a fault
+-- what a reader returns: the table that all lines state, or a fault
 abbrev pub IsOutcome : (List (List ℕ) → Type 0) → (List (List ℕ) → List ℕ → Option Fault) → Type 0 → Result (Unit {0}) TableFault → List ℕ → Type 0
 IsOutcome stands fault ended (Ok done) bytes = ended × (first_fault fault [] (lines_of bytes) ≡ None) × stands (lines_of bytes)
 IsOutcome stands fault ended (Err e) bytes = IsFault fault ended bytes e
 
--- a source came to this state, and this is so of the bytes that it handed out on the way
+-- a source reached this state, and this property holds of the bytes that it returned on the way
 abbrev pub OfBytes : {S : Type 0} → (List ℕ → S → Type 0) → S → (List ℕ → Type 0) → Type 0
 OfBytes gives now P = (given : List ℕ) × gives given now × P given
 
--- a source came to this state and has ended, and this is so of all bytes that it handed out on the way
+-- a source reached this state and has ended, and this property holds of all bytes that it returned on the way
 abbrev pub OfAllBytes : {S : Type 0} → (List ℕ → S → Type 0) → (S → Type 0) → S → (List ℕ → Type 0) → Type 0
 OfAllBytes gives ended now P = (given : List ℕ) × gives given now × ended now × P given

@@ -1,4 +1,4 @@
--- Spans of code points: which hold one, which meet, and the value that they give.
+-- Spans of code points: which contain one, which overlap, and the value that they give.
 use Rattle.std.specs.Prelude.{Option, ℕ, Bool, ◌&&◌, nat_le, ◌<◌, ◌≤◌, ◌≡◌, ◌+◌, if◌then◌else◌, List, [], ◌∷◌, ◌++◌, length, reverse, Some, None, slice_index_or, All}
 use Rattle.std.specs.List.{find, list_any}
 use Rattle.ucdfiles.specs.declared.fault.Fault.{Fault}
@@ -21,12 +21,12 @@ most_data = 65536
 abbrev pub most_defaults : ℕ
 most_defaults = 1024
 
--- the fault of a data line behind such ones: there are enough of them, or one has a code point of it, which is called
--- Overlap or Twice
+-- the fault of a data line after these: there are too many, or an earlier one has one of its code points (`Overlap` or
+-- `Twice`)
 abbrev pub data_fault : {V : Type 0} → Fault → List (Span V) → Span V → Option Fault
 data_fault taken earlier span = if nat_le most_data (length earlier) then Some TooMany else if list_any (overlaps span) earlier then Some taken else None
 
--- the fault of a default line behind such ones, which may overlap
+-- the fault of a default line after these, which may overlap
 abbrev pub default_fault : {V : Type 0} → List (Span V) → Option Fault
 default_fault earlier = if nat_le most_defaults (length earlier) then Some TooMany else None
 
@@ -36,16 +36,16 @@ value_by (Some span) default = Some span.value
 value_by None (Some span) = Some span.value
 value_by None None = None
 
--- the value of the one data line that holds c, else of the last default line that holds it
+-- the value of the one data line that contains c, else of the last default line that contains it
 abbrev pub value_in : {V : Type 0} → List (Span V) → List (Span V) → ℕ → Option V
 value_in spans defaults c = value_by (find (holds c) spans) (find (holds c) (reverse defaults))
 
--- no span is turned round, and each lies wholly before the later ones
+-- each span's first code point is at most its last, and each span is wholly before the later ones
 pub record IsRising {V : Type 0} (spans : List (Span V)) : Type 0 where
   pub each : All (λ (s : Span V). s.first ≤ s.last) spans
   pub apart : (i j : ℕ) (d : Span V) → i < j → j < length spans → (slice_index_or spans i d).last < (slice_index_or spans j d).first
 
--- the new spans hold what the old ones and one more hold, in any order
+-- the new spans contain what the old ones and one more contain, in any order
 pub record Adds {V : Type 0} (old : List (Span V)) (span : Span V) (new : List (Span V)) : Type 0 where
   pub finds : (c : ℕ) → find (holds c) new ≡ find (holds c) (old ++ span ∷ [])
   pub meets : (other : Span V) → list_any (overlaps other) new ≡ list_any (overlaps other) (old ++ span ∷ [])

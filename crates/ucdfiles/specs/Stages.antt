@@ -3,7 +3,7 @@ use Rattle.std.specs.Prelude.{◌≡◌, ◌<◌, ◌≤◌, ◌+◌, ◌*◌, �
 use Rattle.ucdfiles.specs.declared.span.Span.{Span}
 use Rattle.ucdfiles.specs.Spans.{holds}
 
--- the value of a code point once a span is laid over it
+-- the value of a code point after a span is laid over it
 abbrev pub value_over : {V : Type 0} → ℕ → Span V → V → V
 value_over c span v = if holds c span then span.value else v
 
@@ -12,7 +12,7 @@ abbrev pub value_over_all : {V : Type 0} → ℕ → List (Span V) → V → V
 value_over_all c [] v = v
 value_over_all c (span ∷ spans) v = value_over_all c spans (value_over c span v)
 
--- the values from a code point on are those that were there, each changed so
+-- the values from a code point on are the previous ones, each changed by this function
 abbrev pub IsPainted : {V : Type 0} → ℕ → (ℕ → V → V) → List V → List V → Type 0
 IsPainted {V} first change old new =
     (k : ℕ) (d : V) → k < length old → slice_index_or new k d ≡ change (first + k) (slice_index_or old k d)
@@ -26,7 +26,7 @@ pub record Stages (V : Type 0) : Type 0 where
 abbrev pub stage_at : {V : Type 0} → Stages V → ℕ → V → V
 stage_at stages c none = slice_index_or stages.values (slice_index_or stages.numbers (c / 128) 0 * 128 + c % 128) none
 
--- the greatest number of blocks: as many as a number of two bytes names
+-- the greatest number of blocks: as many as two bytes can number
 abbrev pub most_blocks : ℕ
 most_blocks = 65536
 

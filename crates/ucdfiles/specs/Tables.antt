@@ -28,15 +28,15 @@ pub record TablesOf : Type 0 where
   pub brackets : Stages Bracket
   pub mirrors : Stages (Option ℕ)
 
--- what the algorithm knows of a code point by the tables: its class and its bracket
+-- the properties that the tables give a code point: its class and its bracket
 abbrev pub unit_by : TablesOf → ℕ → BidiUnit
 unit_by tables c = record { class = class_by tables.classes c; bracket = bracket_by tables.brackets c }
 
--- the units of a text by the tables
+-- the units that the tables give a text
 abbrev pub units_by : TablesOf → List ℕ → List BidiUnit
 units_by tables text = map (unit_by tables) text
 
--- the table gives each code point the bracket of the span that holds it, and none to the others
+-- the table gives each code point the bracket of the span that contains it, and none to the others
 abbrev pub IsTableOf : List (Span Bracket) → Stages Bracket → Type 0
 IsTableOf spans table = (c : ℕ) → c ≤ 0x10FFFF → bracket_by table c ≡ unwrap_or (value_in spans [] c) No
 

@@ -11,7 +11,7 @@ pub record UnitStages : Type 0 where
   pub classes : Stages Class
   pub brackets : Stages Bracket
 
--- those of the tables
+-- the stages of the tables
 abbrev pub unit_stages : TablesOf → UnitStages
 unit_stages tables = record { classes = tables.classes; brackets = tables.brackets }
 

@@ -80,12 +80,12 @@ pub empty_file : class_file_fault [] ≡ None
 unfolding classes_compute
 empty_file = refl
 
--- in which every character has L
+-- every character then has the class L
 pub empty_file_class : (c : ℕ) → class_of [] c ≡ L
 unfolding classes_compute
 empty_file_class c = refl
 
--- a surrogate may stand in a range
+-- a surrogate may be in a range
 pub surrogates : class_file_fault (codes "D800..DFFF ; L") ≡ None
 unfolding classes_compute
 surrogates = refl
@@ -119,22 +119,22 @@ pub data_before_defaults : class_of defaults 0x5D0 ≡ AN
 unfolding classes_compute
 data_before_defaults = refl
 
--- of default lines the last decides
+-- the last default line that contains the code point decides
 pub last_default : class_of defaults 0x5D1 ≡ R
 unfolding classes_compute
 last_default = refl
 
--- the first, where it is alone
+-- the first decides if no other contains it
 pub first_default : class_of defaults 0x41 ≡ L
 unfolding classes_compute
 first_default = refl
 
--- a line that has ended is settled
+-- no later bytes change a line that has ended
 pub ended_line : first_fault class_fault [] (settled_lines (codes "0041 ; XX" ++ lf)) ≡ Some (ClassName 1)
 unfolding classes_compute
 ended_line = refl
 
--- one that has begun is not
+-- later bytes can change a line that has begun
 pub begun_line : first_fault class_fault [] (settled_lines (codes "0041 ; XX")) ≡ None
 unfolding classes_compute
 begun_line = refl
@@ -214,7 +214,7 @@ parenthesis_square e = cc
 
 -- ---- BidiMirroring.txt
 
--- a surrogate has no image and is none
+-- a surrogate has no image and is no image
 pub mirror_surrogate : mirror_file_fault (codes "0028; D800") ≡ Some (CodePoint 1)
 unfolding pairs_compute
 mirror_surrogate = refl

@@ -1,4 +1,4 @@
-// The brackets, as BidiBrackets.txt states them.
+// The brackets that BidiBrackets.txt states.
 ghost use Rattle.std.specs.Prelude.{◌≡◌, ◌↔◌, ℕ, List, Err, IfOk, IfErr};
 
 use crate::fault::{Fault, TableFault};
@@ -31,7 +31,7 @@ impl LineTable for Statements<SidedBracket> {
     }
 }
 
-/// BD14 to BD16: the brackets of the characters, with their keys. Contracts see them by `bracket_by`.
+/// BD14 to BD16: the brackets of the characters, with their keys. Contracts see them through `bracket_by`.
 #[derive(Drop)]
 pub struct BracketTable {
     brackets: HeldStages<'static, Bracket>,
@@ -58,10 +58,10 @@ impl BracketTable {
     ghost use Rattle.ucdfiles.specs.Stages.{AreStages};
     ghost use Rattle.ucdfiles.specs.Tables.{bracket_by, IsTableOf};
 
-    /// The bracket table that the source's bytes state, read to the source's end; or the fault of the first faulty
-    /// line. `Read` is answered exactly if the source has failed, and then no line that is complete is faulty, and
-    /// none that has begun is over-long. `Memory` comes only behind a read that did not fail, so it hides no failure
-    /// from before the call. How far the source was read after a fault is not said.
+    /// Reads the source to its end and returns the bracket table that its bytes state. Fails with the fault of the
+    /// first faulty line. Fails with `Read` exactly if the source has failed; then no complete line is faulty, and no
+    /// line that has begun is over-long. Fails with `Memory` only after a read that succeeded, so `Memory` hides no
+    /// failure from before the call. After a fault, it is unspecified how far the source was read.
     pub fn read<S: ByteSource>(alloc: Global, source: &mut S) -> Result<BracketTable, TableFault>
         ensures read { (result ≡ Err TableFault.Read) ↔ (S.failures source.new ≡ 1) }
         ensures ok { IfOk result (λ table. OfAllBytes (S.gives source.old) S.ended source.new
@@ -83,7 +83,8 @@ impl BracketTable {
         }
     }
 
-    /// Makes the table of constants: two stages, and the brackets in the order of their code points. Allocates nothing.
+    /// Makes the table from constants: two stages, and the brackets in the order of their code points. Allocates
+    /// nothing.
     pub fn of_constants(
         numbers: &'static [u16],
         values: &'static [Bracket],
@@ -100,22 +101,22 @@ impl BracketTable {
     }
 
     #[tactic(auto, unfolding(crate::specs::Tables::bracket_by))]
-    /// The bracket of a character: `No` without a line, else `Open` with the key of its second field or `Close` with
-    /// the key of its first.
+    /// Returns the bracket of a character: `No` without a line, else `Open` with the key of its second field or `Close`
+    /// with the key of its first.
     pub fn bracket(&self, c: char) -> Bracket
         ensures { result ≡ bracket_by self.now c }
     {
         self.brackets.value(c)
     }
-    /// The brackets, in the order of their code points: a character has the bracket of the span that holds it, and
-    /// none where none does.
+    /// Returns the brackets, in the order of their code points: a character has the bracket of the span that contains
+    /// it, and no bracket if no span does.
     pub(crate) fn spans(&self) -> &[Span<Bracket>]
         ensures { IsTableOf result.now self.now }
     {
         self.spans.as_slice()
     }
 
-    /// Its stages, lent.
+    /// Borrows the stages.
     pub(crate) fn lent(&self) -> LentStages<'_, Bracket>
         ensures { result ≡ self.now }
     {

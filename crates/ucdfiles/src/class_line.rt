@@ -13,7 +13,7 @@ use units::text::code_point::ends;
 use units::text::cut::{cut, two_fields};
 use units::text::trim::{content, trim, trim_start};
 
-// The class of a short or long name.
+// Returns the class with this short or long name.
 fn class_named(name: &[u8]) -> Option<Class>
     ensures { result ≡ class_of_name name.now }
 {
@@ -60,7 +60,7 @@ fn comment_line(comment: &[u8]) -> FileLine<Class>
     }
 }
 
-/// What a line of DerivedBidiClass.txt says.
+/// Returns what a line of DerivedBidiClass.txt states.
 pub fn class_line(line: &[u8]) -> FileLine<Class>
     ensures value { class_line_says line.now ≡ result }
     ensures rising { IsRisingLine result }

@@ -1,4 +1,4 @@
-// The class of each character, as DerivedBidiClass.txt states it.
+// The classes that DerivedBidiClass.txt states.
 ghost use Rattle.std.specs.Prelude.{◌≡◌, ◌↔◌, ℕ, List, Err, IfOk, IfErr};
 
 use crate::class_line::class_line;
@@ -27,7 +27,7 @@ impl LineTable for Statements<Class> {
     }
 }
 
-/// The classes of the characters. Contracts see them by `class_by`.
+/// The classes of the characters. Contracts see them through `class_by`.
 #[derive(Drop)]
 pub struct ClassTable {
     classes: HeldStages<'static, Class>,
@@ -49,10 +49,10 @@ impl ClassTable {
     ghost use Rattle.ucdfiles.specs.Stages.{AreStages};
     ghost use Rattle.ucdfiles.specs.Tables.{class_by};
 
-    /// The class table that the source's bytes state, read to the source's end; or the fault of the first faulty
-    /// line. `Read` is answered exactly if the source has failed, and then no line that is complete is faulty, and
-    /// none that has begun is over-long. `Memory` comes only behind a read that did not fail, so it hides no failure
-    /// from before the call. How far the source was read after a fault is not said.
+    /// Reads the source to its end and returns the class table that its bytes state. Fails with the fault of the
+    /// first faulty line. Fails with `Read` exactly if the source has failed; then no complete line is faulty, and no
+    /// line that has begun is over-long. Fails with `Memory` only after a read that succeeded, so `Memory` hides no
+    /// failure from before the call. After a fault, it is unspecified how far the source was read.
     pub fn read<S: ByteSource>(alloc: Global, source: &mut S) -> Result<ClassTable, TableFault>
         ensures read { (result ≡ Err TableFault.Read) ↔ (S.failures source.new ≡ 1) }
         ensures ok { IfOk result (λ table. OfAllBytes (S.gives source.old) S.ended source.new
@@ -70,7 +70,7 @@ impl ClassTable {
         }
     }
 
-    /// Makes the table of constants in two stages. Allocates nothing.
+    /// Makes the table from constants in two stages. Allocates nothing.
     pub fn of_constants(numbers: &'static [u16], values: &'static [Class]) -> ClassTable
         requires { AreStages (record { numbers = numbers.now; values = values.now }) }
         ensures { result ≡ record { numbers = numbers.now; values = values.now } }
@@ -81,15 +81,15 @@ impl ClassTable {
     }
 
     #[tactic(auto, unfolding(crate::specs::Tables::class_by))]
-    /// The class of a character: that of the one data line that holds it, else that of the last `@missing` line that
-    /// holds it, else L.
+    /// Returns the class of a character: that of the one data line that contains it, else that of the last `@missing`
+    /// line that contains it, else L.
     pub fn class(&self, c: char) -> Class
         ensures { result ≡ class_by self.now c }
     {
         self.classes.value(c)
     }
 
-    /// Its stages, lent.
+    /// Borrows the stages.
     pub(crate) fn lent(&self) -> LentStages<'_, Class>
         ensures { result ≡ self.now }
     {

@@ -1,10 +1,10 @@
-// What is wrong with a file.
+// The faults of a file.
 ghost use Rattle.std.specs.Prelude.{◌≡◌};
 ghost use Rattle.ucdfiles.specs.Faults.{fault_at, name_of, line_of_fault};
 
 use thiserror::Error;
 
-/// What is wrong with a line of a property file; `TableFault` says when each comes.
+/// The fault of a line of a property file; `TableFault` documents when each occurs.
 #[derive(Clone, Copy, Debug, PartialEq, Eq)]
 pub enum Fault {
     CodePoint,
@@ -18,8 +18,8 @@ pub enum Fault {
     TooMany,
 }
 
-/// Why a property file states no table. A fault of a line has the line's number, counted from 1; it is the fault of
-/// the first faulty line, and the first of that line in the order in which its parts are looked at.
+/// Why a property file states no table. A fault of a line has the line's number, counted from 1. It is the fault of the
+/// first faulty line, and the first fault of that line in the order in which its parts are checked.
 #[derive(Clone, Copy, Debug, PartialEq, Eq, Error)]
 pub enum TableFault {
     /// A field is not 4 to 6 upper-case hex digits, or above 10FFFF, or a surrogate in a file of brackets or of
@@ -59,7 +59,7 @@ pub enum TableFault {
 }
 
 impl TableFault {
-    /// The fault's name, such as `Overlap`.
+    /// Returns the fault's name, such as `Overlap`.
     pub fn name(self) -> &'static str
         ensures { result.now ≡ name_of self }
     {
@@ -78,7 +78,7 @@ impl TableFault {
         }
     }
 
-    /// The number of the faulty line, counted from 1; none for `Read` and `Memory`.
+    /// Returns the number of the faulty line, counted from 1; `None` for `Read` and `Memory`.
     pub fn line(self) -> Option<u64>
         ensures { result ≡ line_of_fault self }
     {
@@ -97,7 +97,7 @@ impl TableFault {
     }
 }
 
-/// The fault of the line with this number.
+/// Returns the fault of the line with this number.
 pub fn at(fault: Fault, line: u64) -> TableFault
     ensures { result ≡ fault_at fault line }
 {

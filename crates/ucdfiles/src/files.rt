@@ -14,21 +14,21 @@ use std::alloc::Global;
 use thiserror::Error;
 use units::slice_source::SliceSource;
 
-/// Why the bytes of the three files state no tables: what is wrong with the first faulty one.
+/// Why the bytes of the three files state no tables: the fault of the first faulty file.
 #[derive(Clone, Copy, Debug, PartialEq, Eq, Error)]
 pub enum FileFault {
-    /// What is wrong with the file of the classes.
+    /// The fault of the file of the classes.
     #[error("DerivedBidiClass.txt: {0}")]
     Classes(TableFault),
-    /// What is wrong with the file of the brackets.
+    /// The fault of the file of the brackets.
     #[error("BidiBrackets.txt: {0}")]
     Brackets(TableFault),
-    /// What is wrong with the file of the mirror images.
+    /// The fault of the file of the mirror images.
     #[error("BidiMirroring.txt: {0}")]
     Mirrors(TableFault),
 }
 
-/// The classes that these bytes state.
+/// Reads the classes that these bytes state.
 fn read_classes(alloc: Global, bytes: &[u8]) -> Result<ClassTable, TableFault>
     ensures ok { IfOk result (λ table. StatesClasses bytes.now (class_by table)) }
     ensures err { IfErr result (IsFaulty class_fault bytes.now) }
@@ -37,7 +37,7 @@ fn read_classes(alloc: Global, bytes: &[u8]) -> Result<ClassTable, TableFault>
     ClassTable::read(alloc, &mut source)
 }
 
-/// The brackets that these bytes state.
+/// Reads the brackets that these bytes state.
 fn read_brackets(alloc: Global, bytes: &[u8]) -> Result<BracketTable, TableFault>
     ensures ok { IfOk result (λ table. StatesBrackets bytes.now (bracket_by table)) }
     ensures err { IfErr result (IsFaulty bracket_fault bytes.now) }
@@ -46,7 +46,7 @@ fn read_brackets(alloc: Global, bytes: &[u8]) -> Result<BracketTable, TableFault
     BracketTable::read(alloc, &mut source)
 }
 
-/// The mirror images that these bytes state.
+/// Reads the mirror images that these bytes state.
 fn read_mirrors(alloc: Global, bytes: &[u8]) -> Result<MirrorTable, TableFault>
     ensures ok { IfOk result (λ table. StatesMirrors bytes.now (glyph_by table)) }
     ensures err { IfErr result (IsFaulty mirror_fault bytes.now) }
@@ -56,9 +56,9 @@ fn read_mirrors(alloc: Global, bytes: &[u8]) -> Result<MirrorTable, TableFault>
 }
 
 impl Tables {
-    /// The tables that the bytes of the three files state: DerivedBidiClass.txt, BidiBrackets.txt and
-    /// BidiMirroring.txt; or what is wrong with the first of them that is faulty, which is never `Read`, since slices
-    /// are read without failing.
+    /// Reads the tables that the bytes of the three files state: DerivedBidiClass.txt, BidiBrackets.txt and
+    /// BidiMirroring.txt. Fails with the fault of the first faulty file. The fault is never `Read`, because reading a
+    /// slice can't fail.
     pub fn read(
         alloc: Global,
         classes: &[u8],

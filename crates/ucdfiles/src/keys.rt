@@ -1,4 +1,4 @@
-// BD16: keys of brackets, equal exactly where the canonical decompositions of their characters are.
+// BD16: keys of brackets; two keys are equal exactly if the canonical decompositions of their characters are.
 ghost use Rattle.std.specs.Prelude.{◌≡◌, ℕ, List, [], ◌∷◌, length, Some, IfOk, OnOk};
 ghost use Rattle.unicode_normalization.specs.Forms.{nfd};
 ghost use Rattle.ucdfiles.specs.Keys.{AreKeyed};
@@ -20,7 +20,7 @@ fn decomposition(alloc: Global, c: char) -> Result<Vec<char>, AllocError>
     Ok(decomposition)
 }
 
-/// A number for each canonical decomposition that came: the first has 0, and each new one the next.
+/// A number for each canonical decomposition so far: the first has 0, and each new one the next number.
 #[derive(Drop)]
 struct Numbering {
     numbers: BTreeMap<Vec<char>, u32>,
@@ -40,7 +40,7 @@ impl Model for Numbering {
 impl Numbering {
     ghost use Rattle.ucdfiles.specs.Keys.{IsNumbering, Keeps, number_in};
 
-    /// No number yet.
+    /// Makes a numbering without numbers.
     pub fn new(alloc: Global) -> Self
         ensures { result ≡ [] }
     {
@@ -49,14 +49,14 @@ impl Numbering {
         }
     }
 
-    // The number of the next new decomposition.
+    // Returns the number of the next new decomposition.
     fn next(&self) -> Result<u32, AllocError>
         ensures { IfOk result (λ n. n ≡ length self.now) }
     {
         u32::try_from(self.numbers.len()).map_err(|_| AllocError)
     }
 
-    /// The number of a character's canonical decomposition.
+    /// Returns the number of a character's canonical decomposition, and adds one if it is new.
     pub fn number(&mut self, alloc: Global, c: char) -> Result<u32, AllocError>
         ensures numbering { OnOk result (IsNumbering self.new) }
         ensures kept { OnOk result (Keeps self.old self.new) }
@@ -72,7 +72,7 @@ impl Numbering {
     }
 }
 
-/// The brackets of the same code points, in their order, with keys.
+/// Returns the brackets of the same code points, in the same order, with keys.
 pub fn keyed(alloc: Global, spans: &[Span<SidedBracket>]) -> Result<Vec<Span<Bracket>>, AllocError>
     requires { IsRising spans.now }
     ensures keyed { IfOk result (λ brackets. AreKeyed spans.now brackets.items) }

@@ -1,4 +1,4 @@
-// The mirror images, as BidiMirroring.txt states them.
+// The mirror images that BidiMirroring.txt states.
 ghost use Rattle.std.specs.Prelude.{◌≡◌, ◌↔◌, ℕ, List, map, Some, Err, IfOk, IfErr};
 ghost use Rattle.ucdfiles.specs.Spans.{IsRising, revalued};
 
@@ -28,7 +28,7 @@ impl LineTable for Statements<char> {
     }
 }
 
-// The same code points, each with an image that is there.
+// Returns the same code points, each with `Some` image.
 fn images(alloc: Global, spans: &[Span<char>]) -> Result<Vec<Span<Option<char>>>, AllocError>
     requires { IsRising spans.now }
     ensures items { IfOk result (λ images. images.items ≡ map (revalued Some) spans.now) }
@@ -45,7 +45,7 @@ fn images(alloc: Global, spans: &[Span<char>]) -> Result<Vec<Span<Option<char>>>
     Ok(images)
 }
 
-/// L4: the mirror images of the characters. Contracts see them by `glyph_by`.
+/// L4: the mirror images of the characters. Contracts see them through `glyph_by`.
 #[derive(Drop)]
 pub struct MirrorTable {
     glyphs: HeldStages<'static, Option<char>>,
@@ -67,10 +67,10 @@ impl MirrorTable {
     ghost use Rattle.ucdfiles.specs.Stages.{AreStages};
     ghost use Rattle.ucdfiles.specs.Tables.{glyph_by};
 
-    /// The mirror table that the source's bytes state, read to the source's end; or the fault of the first faulty
-    /// line. `Read` is answered exactly if the source has failed, and then no line that is complete is faulty, and
-    /// none that has begun is over-long. `Memory` comes only behind a read that did not fail, so it hides no failure
-    /// from before the call. How far the source was read after a fault is not said.
+    /// Reads the source to its end and returns the mirror table that its bytes state. Fails with the fault of the
+    /// first faulty line. Fails with `Read` exactly if the source has failed; then no complete line is faulty, and no
+    /// line that has begun is over-long. Fails with `Memory` only after a read that succeeded, so `Memory` hides no
+    /// failure from before the call. After a fault, it is unspecified how far the source was read.
     pub fn read<S: ByteSource>(alloc: Global, source: &mut S) -> Result<MirrorTable, TableFault>
         ensures read { (result ≡ Err TableFault.Read) ↔ (S.failures source.new ≡ 1) }
         ensures ok { IfOk result (λ table. OfAllBytes (S.gives source.old) S.ended source.new
@@ -91,7 +91,7 @@ impl MirrorTable {
         }
     }
 
-    /// Makes the table of constants in two stages. Allocates nothing.
+    /// Makes the table from constants in two stages. Allocates nothing.
     pub fn of_constants(numbers: &'static [u16], values: &'static [Option<char>]) -> MirrorTable
         requires { AreStages (record { numbers = numbers.now; values = values.now }) }
         ensures { result ≡ record { numbers = numbers.now; values = values.now } }
@@ -102,7 +102,7 @@ impl MirrorTable {
     }
 
     #[tactic(auto, unfolding(crate::specs::Tables::glyph_by))]
-    /// The mirror image of a character, if it has one.
+    /// Returns the mirror image of a character, if it has one.
     pub fn glyph(&self, c: char) -> Option<char>
         ensures { result ≡ glyph_by self.now c }
     {

@@ -12,7 +12,7 @@ use units::text::code_point::code_point;
 use units::text::cut::{three_fields, two_fields};
 use units::text::trim::content;
 
-// A code point that is no surrogate.
+// Reads a code point that is no surrogate.
 fn character(field: &[u8]) -> Option<char>
     ensures { result ≡ char_of field.now }
 {
@@ -29,7 +29,7 @@ fn side(field: &[u8]) -> Option<BracketSide>
     }
 }
 
-// A value for one character.
+// Returns a span of one character with this value.
 fn single<V>(c: char, value: V) -> Span<V>
     ensures first { result.first ≡ c }
     ensures last { result.last ≡ c }
@@ -68,7 +68,7 @@ fn bracket_span(content: &[u8]) -> Result<Span<SidedBracket>, Fault>
     Ok(single(bracket, SidedBracket { side, keyed_by }))
 }
 
-/// What a line of BidiMirroring.txt says.
+/// Returns what a line of BidiMirroring.txt states.
 pub fn mirror_line(line: &[u8]) -> FileLine<char>
     ensures value { pair_line_says mirror_in line.now ≡ result }
     ensures rising { IsRisingLine result }
@@ -86,7 +86,7 @@ pub fn mirror_line(line: &[u8]) -> FileLine<char>
     }
 }
 
-/// What a line of BidiBrackets.txt says.
+/// Returns what a line of BidiBrackets.txt states.
 pub fn bracket_line(line: &[u8]) -> FileLine<SidedBracket>
     ensures value { pair_line_says bracket_in line.now ≡ result }
     ensures rising { IsRisingLine result }

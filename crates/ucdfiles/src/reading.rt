@@ -11,15 +11,15 @@ use crate::fault::TableFault;
 use units::line_cut::{Cut, LineCut};
 use units::source::ByteSource;
 
-/// What is made of a file line by line.
+/// A table that is made from a file line by line.
 pub trait LineTable {
-    // It is what these lines state.
+    // The table is what these lines state.
     ghost stands: { Self → List (List ℕ) → Type 0 };
 
-    // The fault of a line behind these.
+    // The fault of a line after these.
     ghost fault: { List (List ℕ) → List ℕ → Option FaultKind };
 
-    /// One more line, with its number, counted from 1; or the fault of it.
+    /// Adds one more line, with its number, counted from 1. Fails with the line's fault, if it has one.
     fn add(&mut self, line: &[u8], number: u64) -> Result<(), TableFault>
         ensures ok { OnOk result (TakesLine (stands self.old) (stands self.new) fault line.now) }
         ensures err { IfErr result (IsLineRefusal (stands self.old) fault number line.now) }
@@ -57,7 +57,7 @@ fn feed<T: LineTable>(table: &mut T, cutter: &mut LineCut, piece: &[u8]) -> Resu
     Ok(())
 }
 
-// The line that the end of the bytes ends.
+// Adds the line that the end of the bytes ends.
 fn end<T: LineTable>(table: &mut T, cutter: &LineCut) -> Result<(), TableFault>
     ensures ok { OnOk result (EndsFaultless (T.stands table.old) (T.stands table.new) T.fault cutter.now) }
     ensures err { IfErr result (EndsFaulty (T.stands table.old) T.fault cutter.now) }

@@ -1,4 +1,4 @@
-// What a line of BidiBrackets.txt says of its character.
+// What a line of BidiBrackets.txt states about its character.
 ghost use Rattle.std.specs.Prelude.{◌≡◌};
 
 use units::bracket::{Bracket, Key};
@@ -24,7 +24,7 @@ pub struct SidedBracket {
 impl BracketSide {
     ghost use Rattle.ucdfiles.specs.PairFiles.{bracket_with};
 
-    /// The bracket of this side with this key.
+    /// Returns the bracket of this side with this key.
     pub fn with_key(self, key: Key) -> Bracket
         ensures { result ≡ bracket_with self key }
     {

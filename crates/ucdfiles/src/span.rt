@@ -1,4 +1,4 @@
-// What a line of a property file says.
+// What a line of a property file states.
 ghost use Rattle.std.specs.Prelude.{◌≡◌};
 
 use crate::fault::Fault;
@@ -17,7 +17,7 @@ pub struct Span<V> {
 impl<V> Span<V> {
     ghost use Rattle.ucdfiles.specs.Spans.{holds as holds_code};
 
-    /// Whether the code point is one of these.
+    /// Returns whether the span contains the code point.
     pub fn holds(&self, code: u32) -> bool
         ensures { result ≡ holds_code code self.now }
     {
@@ -25,10 +25,10 @@ impl<V> Span<V> {
     }
 }
 
-/// What a line says by itself.
+/// What a line states by itself.
 #[derive(Clone, Copy, Debug, Drop, PartialEq, Eq)]
 pub enum FileLine<V> {
-    /// Nothing: the line is empty, or has a comment alone.
+    /// Nothing: the line is empty, or has only a comment.
     Silent,
     /// A data line.
     Data(Span<V>),

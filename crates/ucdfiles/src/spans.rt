@@ -13,7 +13,7 @@ const MOST_DATA: usize = 65_536;
 /// The greatest number of default lines of a file.
 pub const MOST_DEFAULTS: usize = 1_024;
 
-// How many of the spans, in order, end before the code point.
+// Returns how many of the spans, in order, end before the code point.
 fn ended_before<V>(spans: &[Span<V>], code: u32) -> usize
     requires { IsRising spans.now }
     ensures bound { result ≤ length spans.now }
@@ -23,7 +23,7 @@ fn ended_before<V>(spans: &[Span<V>], code: u32) -> usize
     spans.partition_point(|span| span.last < code)
 }
 
-/// One more span, in order. `taken` names the fault of a code point that an earlier span has.
+/// Adds one more span, in order. `taken` is the fault if an earlier span has one of its code points.
 pub fn add_span<V: Copy>(
     spans: &mut Vec<Span<V>>,
     span: Span<V>,
@@ -51,7 +51,7 @@ pub fn add_span<V: Copy>(
     }
 }
 
-// How many of the spans, in order, begin up to the code point.
+// Returns how many of the spans, in order, begin at or before the code point.
 fn begun_by<V>(spans: &[Span<V>], code: u32) -> usize
     requires { IsRising spans.now }
     ensures bound { result ≤ length spans.now }
@@ -60,7 +60,7 @@ fn begun_by<V>(spans: &[Span<V>], code: u32) -> usize
     spans.partition_point(|span| span.first <= code)
 }
 
-/// The spans that do not end before the code point.
+/// Returns the spans that do not end before the code point.
 pub fn ending_from<V>(spans: &[Span<V>], code: u32) -> &[Span<V>]
     requires { IsRising spans.now }
     ensures rising { IsRising result.now }
@@ -70,7 +70,7 @@ pub fn ending_from<V>(spans: &[Span<V>], code: u32) -> &[Span<V>]
     &spans[ended..]
 }
 
-/// The spans that do not begin behind the code point.
+/// Returns the spans that do not begin after the code point.
 pub fn beginning_by<V>(spans: &[Span<V>], code: u32) -> &[Span<V>]
     requires { IsRising spans.now }
     ensures rising { IsRising result.now }

@@ -1,4 +1,4 @@
-// What the lines of a file have stated.
+// The statements of the lines of a file so far.
 ghost use Rattle.std.specs.Prelude.{◌≡◌, ◌≢◌, [], ◌∷◌, ◌++◌, None, OnOk, IfErr};
 ghost use Rattle.ucdfiles.specs.Faults.{RefusesAt};
 ghost use Rattle.ucdfiles.specs.Spans.{default_fault};
@@ -28,7 +28,7 @@ impl<V> Model for Statements<V> {
     ghost invariant = { λ t. IsRising t.data.items };
 }
 
-// One more default line.
+// Adds one more default line.
 fn add_default<V: Copy>(
     defaults: &mut Vec<Span<V>>,
     span: Span<V>,
@@ -52,7 +52,7 @@ impl<V: Copy> Statements<V> {
     ghost use Rattle.ucdfiles.specs.Statements.{IsStatedBy};
     ghost use Rattle.ucdfiles.specs.Spans.{IsRising};
 
-    /// No line yet.
+    /// Makes statements without lines.
     pub fn new(alloc: Global) -> Self
         ensures { IsStatedBy result [] }
     {
@@ -62,7 +62,8 @@ impl<V: Copy> Statements<V> {
         }
     }
 
-    /// What one more line says, with its number. `taken` names the fault of a code point that an earlier data line has.
+    /// Adds what one more line states. `taken` is the fault if an earlier data line has one of its code points;
+    /// `number` is the line's number.
     pub fn add_line(
         &mut self,
         line: FileLine<V>,
@@ -82,7 +83,7 @@ impl<V: Copy> Statements<V> {
         }
     }
 
-    /// The data lines, in the order of their code points.
+    /// Returns the data lines, in the order of their code points.
     pub fn data(&self) -> &[Span<V>]
         ensures value { result.now ≡ self.now.data_lines }
         ensures rising { IsRising result.now }
@@ -90,7 +91,7 @@ impl<V: Copy> Statements<V> {
         &self.data
     }
 
-    /// The default lines, in the order of the file.
+    /// Returns the default lines, in the order of the file.
     pub fn defaults(&self) -> &[Span<V>]
         ensures { result.now ≡ self.now.default_lines }
     {

@@ -34,7 +34,7 @@ impl Model for Tables {
     ghost invariant = { λ t. t.brackets_are_neutral ≡ true → AreNeutral t.classes t.brackets };
 }
 
-// Whether the span is one character, whose class is ON.
+// Returns whether the span is one character, whose class is ON.
 fn is_other_neutral(classes: &ClassTable, span: &Span<Bracket>) -> bool
     ensures { result ≡ true → (c : ℕ) → holds c span.now ≡ true → class_by classes.now c ≡ ON }
 {
@@ -44,7 +44,7 @@ fn is_other_neutral(classes: &ClassTable, span: &Span<Bracket>) -> bool
     }
 }
 
-// Whether the class of each bracket is known to be ON, as it is in the published files.
+// Returns whether the class of each bracket is known to be ON, as it is in the published files.
 fn are_neutral(classes: &ClassTable, brackets: &BracketTable) -> bool
     ensures { result ≡ true → AreNeutral classes.now brackets.now }
 {
@@ -56,8 +56,8 @@ fn are_neutral(classes: &ClassTable, brackets: &BracketTable) -> bool
     true
 }
 
-/// The classes and the brackets of characters, lent out of the tables for a text. Contracts see what gives a code point
-/// its unit, by `unit_by_stages`.
+/// The classes and the brackets of characters, borrowed from the tables for a text. Contracts see the stages that
+/// determine the unit of a code point (`unit_by_stages`).
 #[derive(Drop)]
 pub struct LentUnits<'a> {
     classes: LentStages<'a, Class>,
@@ -80,7 +80,7 @@ impl<'a> Model for LentUnits<'a> {
 impl<'a> LentUnits<'a> {
     ghost use Rattle.ucdfiles.specs.UnitStages.{unit_by_stages};
 
-    /// What the algorithm knows of a character: its class and its bracket.
+    /// Returns the properties of a character that the algorithm uses: its class and its bracket.
     pub fn unit(&self, c: char) -> Unit
         ensures { result ≡ unit_by_stages self.now c }
     {
@@ -94,7 +94,7 @@ impl<'a> LentUnits<'a> {
 
     #[tactic(auto, unfolding(crate::specs::Tables::class_by, crate::specs::Tables::bracket_by))]
     #[inline(always)]
-    /// Writes what the algorithm knows of a character, as `unit` says it, in the place of another unit.
+    /// Writes the class and the bracket of a character over another unit. They are those that `unit` returns.
     pub fn write_unit(&self, c: char, unit: &mut Unit)
         ensures { unit.new ≡ unit_by_stages self.now c }
     {
@@ -111,7 +111,7 @@ impl Tables {
     ghost use Rattle.ucdfiles.specs.Tables.{TablesOf, unit_by, units_by};
     ghost use Rattle.ucdfiles.specs.UnitStages.{UnitStages, unit_stages};
 
-    /// These three tables.
+    /// Makes tables from these three.
     pub fn new(classes: ClassTable, brackets: BracketTable, mirrors: MirrorTable) -> Self
         ensures { result ≡ record { classes = classes; brackets = brackets; mirrors = mirrors } }
     {
@@ -124,8 +124,8 @@ impl Tables {
         }
     }
 
-    /// Returns these three tables as `new` does, without its pass over the brackets: the caller knows that each bracket
-    /// has the class ON.
+    /// Makes tables as `new` does, without its pass over the brackets: the caller knows that each bracket has the class
+    /// ON.
     pub fn with_neutral_brackets(
         classes: ClassTable,
         brackets: BracketTable,
@@ -142,7 +142,7 @@ impl Tables {
         }
     }
 
-    /// The classes and the brackets, lent, for who looks up a text's characters one by one.
+    /// Borrows the classes and the brackets, to look up the characters of a text one by one.
     pub fn units(&self) -> LentUnits<'_>
         ensures { result ≡ unit_stages self.now }
     {
@@ -153,14 +153,14 @@ impl Tables {
         }
     }
 
-    /// What the algorithm knows of a character: its class and its bracket.
+    /// Returns the properties of a character that the algorithm uses: its class and its bracket.
     pub fn unit(&self, c: char) -> Unit
         ensures { result ≡ unit_by self.now c }
     {
         self.units().unit(c)
     }
 
-    /// Writes what the algorithm knows of each of these characters.
+    /// Writes the class and the bracket of each of these characters.
     #[inline(never)]
     pub fn look_up(&self, text: &[char], units: &mut [Unit])
         requires { length units.old ≡ length text.now }
@@ -172,7 +172,7 @@ impl Tables {
         }
     }
 
-    /// What the algorithm knows of each of these characters, in a list of its own.
+    /// Returns the class and the bracket of each of these characters, in a list of its own.
     pub fn units_of(&self, alloc: Global, text: &[char]) -> Result<Vec<Unit>, AllocError>
         ensures { IfOk result (λ units. units.items ≡ units_by self.now text.now) }
     {
@@ -185,7 +185,7 @@ impl Tables {
         Ok(units)
     }
 
-    /// The mirror images.
+    /// Returns the mirror images.
     pub fn mirrors(&self) -> &MirrorTable
         ensures { result.now ≡ self.now.mirrors }
     {

@@ -1,4 +1,4 @@
-// A value for each code point, found by two loads.
+// A value for each code point, read with two loads.
 ghost use Rattle.std.specs.Prelude.{◌≡◌, false, ◌<◌, ◌≤◌, ◌+◌, ◌*◌, ◌%◌, ℕ, length, true, IfOk, OnOk, slice_index_or};
 ghost use Rattle.std.specs.Prelude.{List, ◌++◌};
 ghost use Rattle.std.specs.List.{find};
@@ -11,14 +11,14 @@ use crate::spans::{beginning_by, ending_from};
 use std::alloc::{AllocError, Global};
 use std::marker::Model;
 
-/// How many code points a block has.
+/// The number of code points of a block.
 pub const BLOCK: usize = 128;
 
-/// How many blocks the code points have.
+/// The number of blocks of all code points.
 pub const BLOCKS: u32 = 8_704;
 
-/// The number of each block of 128 code points, and the values of the blocks; blocks that follow one another with the
-/// same values share them.
+/// The number of each block of 128 code points, and the values of the blocks; consecutive blocks with the same values
+/// share them.
 #[derive(Drop)]
 pub struct TwoStage<V> {
     numbers: Vec<u16>,
@@ -35,8 +35,8 @@ impl<V> Model for TwoStage<V> {
     ghost invariant = { λ t. AreStages (record { numbers = t.numbers.items; values = t.values.items }) };
 }
 
-// Which of so many code points, from `first` on, the span holds: those from the first number that is answered up to
-// the second.
+// Of `len` code points from `first` on, returns the range of those that the span contains: its start and its end,
+// which is not included.
 fn held_range<V>(span: &Span<V>, first: u32, len: usize) -> (usize, usize)
     ensures bound { result.1 ≤ len }
     ensures before { (k : ℕ) → k < result.0 → holds (first + k) span.now ≡ false }
@@ -74,7 +74,7 @@ fn paint_all<V: Copy>(block: &mut [V], first: u32, spans: &[Span<V>])
     }
 }
 
-// The spans that have a code point of the block that begins at `first`.
+// Returns the spans that have a code point of the block that begins at `first`.
 fn meeting<V>(spans: &[Span<V>], first: u32) -> &[Span<V>]
     requires rising { IsRising spans.now }
     requires first { first + 128 ≤ 0x110000 }
@@ -109,7 +109,7 @@ fn fill_block<V: Copy>(
     paint_all(block, first, meeting(spans, first));
 }
 
-// The number of a block: that of the last, if it has the same values, else one more.
+// Returns the number of a block: that of the last, if it has the same values, else one more.
 fn number_of<V: Copy + PartialEq>(values: &mut Vec<V>, block: &[V]) -> Result<u16, AllocError>
     requires exact { (x y : V) → V.eq x y ≡ true → x ≡ y }
     requires block { length block.now ≡ 128 }
@@ -132,7 +132,7 @@ fn number_of<V: Copy + PartialEq>(values: &mut Vec<V>, block: &[V]) -> Result<u1
 impl<V: Copy + PartialEq> TwoStage<V> {
     ghost use Rattle.ucdfiles.specs.Stages.{Stages};
 
-    /// The values of the spans, else of the last default that holds a code point, else `none`.
+    /// Makes two stages with the values of the spans, else of the last default that contains a code point, else `none`.
     pub fn new(
         alloc: Global,
         spans: &[Span<V>],
@@ -157,7 +157,7 @@ impl<V: Copy + PartialEq> TwoStage<V> {
     }
 }
 
-/// The two stages, lent: who looks up many code points by them needn't ask again where they lie.
+/// The two stages, borrowed: a caller that looks up many code points reads their addresses only once.
 #[derive(Drop)]
 pub struct LentStages<'a, V> {
     numbers: &'a [u16],
@@ -177,7 +177,7 @@ impl<'a, V> Model for LentStages<'a, V> {
 impl<'a, V> LentStages<'a, V> {
     ghost use Rattle.ucdfiles.specs.Stages.{AreStages};
 
-    /// Makes two stages of constants.
+    /// Makes two stages from constants.
     pub fn new(numbers: &'a [u16], values: &'a [V]) -> LentStages<'a, V>
         requires { AreStages (record { numbers = numbers.now; values = values.now }) }
         ensures { result ≡ record { numbers = numbers.now; values = values.now } }
@@ -199,7 +199,7 @@ impl<'a, V> LentStages<'a, V> {
 impl<'a, V: Copy> LentStages<'a, V> {
     ghost use Rattle.ucdfiles.specs.Stages.{Stages};
 
-    /// The value of a character.
+    /// Returns the value of a character.
     pub fn value(&self, c: char) -> V
         ensures { (d : V) → result ≡ stage_at self.now c d }
     {
@@ -212,7 +212,7 @@ impl<'a, V: Copy> LentStages<'a, V> {
 impl<V: Copy> TwoStage<V> {
     ghost use Rattle.ucdfiles.specs.Stages.{Stages};
 
-    /// Both stages, lent.
+    /// Borrows both stages.
     pub fn lent(&self) -> LentStages<'_, V>
         ensures { result ≡ self.now }
     {
@@ -223,7 +223,7 @@ impl<V: Copy> TwoStage<V> {
     }
 }
 
-/// Two stages, made of lines or constant.
+/// Two stages, made from lines or constant.
 #[derive(Drop)]
 pub enum HeldStages<'a, V> {
     /// Stages that own their values.
