@@ -52,7 +52,7 @@ same_bracket-exact (Close a) No h = cc
 same_bracket-exact (Close a) (Open b) h = cc
 same_bracket-exact (Close a) (Close b) h = ap Close (same_key a b (eqb-true a.0 b.0 h))
 
--- what the lines of the file say
+-- what the lines of the file state
 unfoldable pub bracket_said : List ℕ → List (FileLine SidedBracket)
 bracket_said bytes = map (pair_line_says bracket_in) (lines_of bytes)
 
@@ -60,7 +60,7 @@ bracket_said bytes = map (pair_line_says bracket_in) (lines_of bytes)
 abbrev pub bracket_steps : List (Span Bracket) → List (Step Bracket)
 bracket_steps spans = map_steps (λ o. unwrap_or o No) (span_steps spans)
 
--- which number stands for which decomposition, and the decomposition for each bracket
+-- the number of each decomposition, and the decomposition for each bracket
 pub record Numbers : Type 0 where
   pub numbering : List (List ℕ × ℕ)
   pub decompositions : List (List ℕ)

@@ -79,7 +79,7 @@ same_class x y = class_number x == class_number y
 pub same_class-exact : (x y : Class) → same_class x y ≡ true → x ≡ y
 same_class-exact x y h = sym (class_back x) ∙ ap class_numbered (eqb-true _ _ h) ∙ class_back y
 
--- what the lines of the file say
+-- what the lines of the file state
 unfoldable pub class_said : List ℕ → List (FileLine Class)
 class_said bytes = map class_line_says (lines_of bytes)
 

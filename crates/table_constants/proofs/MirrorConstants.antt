@@ -32,7 +32,7 @@ same_glyph-exact None (Some y) h = cc
 same_glyph-exact (Some x) None h = cc
 same_glyph-exact (Some x) (Some y) h = ap (λ n. Some n) (eqb-true x y h)
 
--- what the lines of the file say
+-- what the lines of the file state
 unfoldable pub mirror_said : List ℕ → List (FileLine ℕ)
 mirror_said bytes = map (pair_line_says mirror_in) (lines_of bytes)
 

@@ -21,7 +21,7 @@ is_neutral class bracket = same_class class ON || same_bracket bracket No
 abbrev pub neutral_steps : List ℕ → List (Span Bracket) → List (Step Bool)
 neutral_steps bytes spans = zip_steps is_neutral L No (class_steps bytes) (bracket_steps spans)
 
--- each step that holds a code point from n on is true
+-- each step that contains a code point from n on is true
 unfoldable pub all_from : ℕ → List (Step Bool) → Bool
 all_from n [] = true
 all_from n (s ∷ ss) =

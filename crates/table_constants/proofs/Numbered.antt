@@ -74,11 +74,11 @@ number_there (Some n) h = (n, refl)
 abbrev pub decompositions_of : List (Span SidedBracket) → List (List ℕ)
 decompositions_of spans = map (λ (s : Span SidedBracket). nfd (s.value.keyed_by ∷ [])) spans
 
--- the canonical decomposition of one character, by a table of mappings
+-- the canonical decomposition of one character, from a table of mappings
 unfoldable pub nfd_with : (ℕ → Tag × List ℕ) → ℕ → List ℕ
 nfd_with table c = canonical_order (flat_map (λ x. if is_syllable x then decompose_hangul x else or_itself x (expand (λ y. if_canonical (table y)) 3 x)) (c ∷ []))
 
--- the same of the character that each bracket is keyed by
+-- the canonical decomposition, from a table, of the character that each bracket is keyed by
 unfoldable pub decompositions_with : (ℕ → Tag × List ℕ) → List (Span SidedBracket) → List (List ℕ)
 decompositions_with table spans = map (λ (s : Span SidedBracket). nfd_with table s.value.keyed_by) spans
 
@@ -101,7 +101,7 @@ each_numbered-AreNumbered numbers spans h =
     let each = sym (list_all-map (λ (d : List ℕ). is_some (number_in numbers d)) (λ (s : Span SidedBracket). nfd (s.value.keyed_by ∷ [])) spans) ∙ h in
     λ k d lt. number_there _ (AllPass-from_list_all (λ (s : Span SidedBracket). is_some (number_in numbers (nfd (s.value.keyed_by ∷ [])))) spans each k d lt)
 
--- the brackets with the keys that the numbers of these decompositions are
+-- the brackets; the key of each is the number of its decomposition in this list
 unfoldable pub keyed_with : List (List ℕ × ℕ) → List (Span SidedBracket) → List (List ℕ) → List (Span Bracket)
 keyed_with numbers [] ds = []
 keyed_with numbers (s ∷ spans) [] = []

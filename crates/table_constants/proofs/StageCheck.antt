@@ -1,4 +1,4 @@
--- A test that two stages give the values of some steps. A block that one step covers is tested in one look.
+-- A test that two stages give the values of some steps. If one step covers a block, one comparison tests the block.
 use Rattle.std.proofs.Common.{arith, ◌≡◌, ℕ, zero, suc, ◌+◌, ◌*◌, ◌/◌, ◌%◌, ◌<◌, ◌≤◌, Bool, true, false, cond, if◌then◌else◌, ◌&&◌, ◌==◌, nat_le, Option, None, Some, List, [], ◌∷◌, map, length, get_or, drop, slice_index_or, refl, sym, ap, subst, ◌∙◌, leb-true, eqb-true, suc-mul, zero-mul, div-add-mod', drop-drop, get_or-drop, length-drop, le_of_suc-le-suc, not-suc-le-zero}
 use Rattle.std.proofs.lemmas.Bool.{cond_both, and_parts}
 use Rattle.std.proofs.lemmas.List.{get_or_default}
@@ -33,12 +33,12 @@ module _ {V : Type 0} (eq : V → V → Bool) (exact : (x y : V) → eq x y ≡ 
   each_ok (suc n) [] c ss = false
   each_ok (suc n) (w ∷ vs) c ss = let here = skip ss c in eq w (step_value d here c) && each_ok n vs (c + 1) here
 
-  -- the value of a block that has one alone
+  -- the value of a block, if all its values are equal
   unfoldable pub only_value : List V → Option V
   only_value [] = None
   only_value (v ∷ vs) = if all_same 128 v (v ∷ vs) then Some v else None
 
-  -- the one value of the block is that of the first step, which covers it, or the default after the last step
+  -- the block has one value: that of the first step, which covers it, or the default after the last step
   unfoldable pub covered : Option V → ℕ → List (Step V) → Bool
   covered None c ss = false
   covered (Some v) c [] = eq v d

@@ -9,7 +9,7 @@ use Rattle.ucdfiles.specs.Stages.{Stages}
 use Rattle.ucdfiles.specs.Tables.{TablesOf, AreNeutral, class_by, bracket_by, glyph_by}
 
 module _ (class_stages : Stages Class) (bracket_stages : Stages Bracket) where
-  -- what holds of the constants holds of the tables that are made of them
+  -- a property of the constants holds of the tables that are made from them
   pub AreNeutral-of : AreNeutral class_stages bracket_stages → (classes : Stages Class) (brackets : Stages Bracket) → classes ≡ class_stages → brackets ≡ bracket_stages → AreNeutral classes brackets
   AreNeutral-of neutral classes brackets of_classes of_brackets =
       subst (λ (t : Stages Class). AreNeutral t brackets) (sym of_classes) (subst (λ (t : Stages Bracket). AreNeutral class_stages t) (sym of_brackets) neutral)

@@ -1,2 +1,2 @@
-//! Lemmas, with no code: constants that pass some computed tests are the tables that the bytes of property files state.
+//! Lemmas without code: constants that pass some computed tests are the tables that the bytes of property files state.
 #![tactic(auto)]
