@@ -1,4 +1,5 @@
--- What the constants are by their tests: each bracket has the class ON, and the three tables are those that the bytes state.
+-- The properties of the constants, from their tests: each bracket has the class ON, and the three tables are those
+-- that the bytes state.
 use Rattle.std.proofs.Common.{◌≡◌, true, refl}
 use Rattle.ucdfiles.specs.ClassFile.{class_line_says}
 use Rattle.ucdfiles.specs.Files.{StateTables}
