@@ -72,7 +72,7 @@ module _ (depth : ℕ) (deep : depth ≤ 125) (us : List BidiUnit) (para : ℕ) 
         fit = omega (arith, length-flat (sequences_of leveled_here), sequences_fit leveled_here l (nested depth us para only), size_here);
       }
 
--- but for overrides and what is removed, the current classes are the own ones
+-- the current classes are the own ones, except for overrides and removed positions
 pub classes_are_kept : (depth : ℕ) (us : List BidiUnit) (para : ℕ) (ps : List ℕ) → AreOwn ps us (current_of (explicit_of depth (classes_of us) para))
 classes_are_kept depth us para ps = λ p within. current-own depth (classes_of us) para p
 
@@ -89,7 +89,7 @@ levels_are_resolved limits us para levels n has =
     let at : slice_index (positions_of us) i ≡ i = omega (arith, get_or-positions_from 0 (length us) i 0 (omega arith)) in
     has i (omega arith) ∙ ap found (sym at) ∙ sym (get_or-map found (positions_of us) i 0 None (omega arith)))
 
--- of a paragraph whose explicit levels were found
+-- a paragraph whose explicit levels are known
 module _ (limits : LimitsOf) (us : List BidiUnit) (para : ℕ) (explicit : List (Option (ℕ × Class))) (holds : HoldsLevels explicit limits.depth (classes_of us) para) where
   front : current_of (take (length us) explicit) ≡ current_of (explicit_of limits.depth (classes_of us) para)
   front = grind (arith, length-map, found_front)

@@ -1,4 +1,4 @@
--- The kinds of classes that a set is asked for.
+-- The kinds of classes that a set is tested for.
 use Rattle.std.proofs.Common.{arith, ◌≡◌, Bool, true, false, List, [], ◌∷◌, refl, ◌∙◌}
 use Rattle.std.specs.Prelude.{◌||◌, not}
 use Rattle.std.specs.List.{list_all, list_any}
@@ -27,7 +27,7 @@ or_7 : (a b c d e f g : Bool) → ((((((a || b) || c) || d) || e) || f) || g) �
 or_7 true b c d e f g = refl
 or_7 false b c d e f g = or_6 b c d e f g
 
--- each class is of the kind exactly if it is one of these
+-- a class is of the kind exactly if it is one of these
 initiator_is : (c : Class) → is_initiator c ≡ any_of (LRE ∷ RLE ∷ LRO ∷ RLO ∷ LRI ∷ RLI ∷ FSI ∷ []) (c ∷ [])
 initiator_is LRE = refl
 initiator_is _ = refl
@@ -70,7 +70,7 @@ module _ (cs : List Class) where
   pub any_rising_at_odd : (a b c : Bool) → a ≡ list_any (is_class L) cs → b ≡ list_any (is_class EN) cs → c ≡ list_any (is_class AN) cs → ((a || b) || c) ≡ list_any may_rise_at_odd cs
   any_rising_at_odd a b c ha hb hc = or_3 a b c ∙ rw (ha, hb, hc) (found_by may_rise_at_odd (L ∷ EN ∷ AN ∷ []) rising_at_odd_is cs)
 
--- none passes where not any does
+-- not any class passes the test exactly if each class fails it
 pub none_where_not_any : (test : Class → Bool) (cs : List Class) → not (list_any test cs) ≡ list_all (λ c. not (test c)) cs
 none_where_not_any test [] = refl
 none_where_not_any test (c ∷ cs) = grind (arith, none_where_not_any test cs)

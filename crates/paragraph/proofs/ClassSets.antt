@@ -1,4 +1,4 @@
--- Whether a set of classes has one of some.
+-- Whether a set contains one of some classes.
 use Rattle.std.proofs.Common.{arith, ◌≡◌, Bool, true, false, List, [], ◌∷◌, refl, ap, sym, ◌∙◌}
 use Rattle.std.specs.Prelude.{◌||◌}
 use Rattle.std.specs.List.{list_any}
@@ -9,7 +9,7 @@ or_false : (a b : Bool) → (b ≡ false) → (a || b) ≡ a
 or_false true b e = refl
 or_false false b e = e
 
--- a test that passes for some of the 23 classes passes for a list that has one of these
+-- one of the first classes is among the second ones
 abbrev pub any_of : List Class → List Class → Bool
 any_of [] cs = false
 any_of (d ∷ ds) cs = list_any (is_class d) cs || any_of ds cs

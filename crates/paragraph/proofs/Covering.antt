@@ -20,19 +20,19 @@ use Rattle.paragraph.specs.Covering.{positions_in, AreDisjoint, HasLevelsBy}
 use Rattle.resolve.specs.Raised.{resolved_at}
 use Rattle.resolve.specs.Resolved.{Resolves}
 
--- a position that a list holds stands in it
+-- a position that a list contains counts at least once
 pub times_some : (ps : List ℕ) (p : ℕ) → Contains ps p → 0 < times ps p
 times_some [] p c = absurd (omega (arith, c.1))
 times_some (x ∷ ps) p (zero, within, e) = omega (arith, times-cons x ps p, one_if-same x p e)
 times_some (x ∷ ps) p (suc k, within, e) = omega (arith, times-cons x ps p, times_some ps p (k, omega arith, e))
 
 module _ (most_open : ℕ) (us : List BidiUnit) (before : List Class) where
-  -- sequences that do not hold a position give it no level
+  -- sequences that do not contain a position give it no level
   pub unfound : (all : List SequenceView) (p : ℕ) → times (positions_in all) p ≡ 0 → value_beside (flat_map (levels_in most_open us before) all) p ≡ None
   unfound =
       none_beside (levels_in most_open us before) (λ s p none. zip_none s.positions (levels_of_sequence most_open s us (classes_at before s.positions)) p none)
 
--- what these sequences leave: their positions have their levels, and the classes at all others are those before W1
+-- the result of these sequences: their positions have their levels, all others still have their classes before W1
 pub record IsCovered (most_open : ℕ) (us : List BidiUnit) (before : List Class) (done : List SequenceView) (classes : List Class) (levels : List (Option ℕ)) : Type 0 where
   pub found : HasLevelsBy most_open us before done levels
   pub kept : (p : ℕ) → times (positions_in done) p ≡ 0 → class_at classes p ≡ class_at before p
@@ -58,7 +58,7 @@ times_in-take xs k p =
     let whole : times (positions_in (take k xs ++ drop k xs)) p ≡ times (positions_in xs) p = ap (λ (ys : List SequenceView). times (positions_in ys) p) (take-append-drop k xs) in
     omega (arith, whole, times_in-append (take k xs) (drop k xs) p)
 
--- what two functions make of the elements of a list, where they agree on them
+-- two functions that agree on the elements of a list give the same list
 map_where : {B : Type 0} (f g : ℕ → B) (ps : List ℕ) → ((p : ℕ) → Contains ps p → f p ≡ g p) → map f ps ≡ map g ps
 map_where f g [] same = refl
 map_where {B} f g (p ∷ ps) same =
@@ -71,7 +71,7 @@ contained [] k d h p c = absurd (omega arith)
 contained (s ∷ all) zero d h p c = Contains-append_left s.positions (positions_in all) p c
 contained (s ∷ all) (suc k) d h p c = Contains-append_right s.positions (positions_in all) p (contained all k d (omega arith) p c)
 
--- no position of the sequence stands in an earlier one
+-- no position of the sequence is in an earlier one
 module _ {extent : ℕ} {all : List SequenceView} (apart : AreDisjoint extent all) {k : ℕ} {s : SequenceView} (at : slice_get all k ≡ Some s) (inside : k < length all) where
   pub take_next : take (k + 1) all ≡ take k all ++ (s ∷ [])
   take_next = take_more all k s inside ∙ ap (λ (x : SequenceView). take k all ++ (x ∷ [])) (get_or_from_slice_get all k s s at)

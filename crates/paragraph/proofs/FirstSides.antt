@@ -1,4 +1,4 @@
--- P2, P3: the level by the side of the first strong class, where nothing stands in an isolate.
+-- P2, P3: if no position is in an isolate, the side of the first strong class gives the level.
 use Rattle.std.proofs.Common.{◌≡◌, ℕ, Option, Some, None, List, refl}
 use Rattle.std.specs.Prelude.{find}
 use Rattle.units.specs.Classes.{is_strong, is_right_to_left}

@@ -1,4 +1,4 @@
--- Flat paragraphs: what the scan of their classes tells.
+-- Flat paragraphs: what the scan of their classes proves.
 use Rattle.std.specs.Prelude.{Option, None, Some, ℕ, Bool, true, false, ◌<◌, ◌≤◌, ◌≡◌, not, List, length, map, slice_index, refl}
 use Rattle.std.specs.List.{flat_map, list_all}
 use Rattle.std.proofs.Common.{arith, ap, sym, ◌∙◌, cond, get_or, inl, inr}
@@ -34,11 +34,11 @@ flat_from cs h = AllPass-from_list_all is_flat cs h
 pub none_from : (test : Class → Bool) (cs : List Class) → has_none test cs ≡ true → HasNone test cs
 none_from test cs h = λ k d lt. not-true (test (get_or cs k d)) (AllPass-from_list_all (λ c. not (test c)) cs h k d lt)
 
--- where it keeps its level, that level at each position that remains is what the rules resolve
+-- if the classes keep the paragraph's level, the resolved levels are this level at each position that remains
 pub levels_are_kept : (limits : LimitsOf) (us : List BidiUnit) (para : ℕ) → keeps_level para (classes_of us) ≡ true → map (λ (u : BidiUnit). kept_level para u.class) us ≡ resolved_levels limits us para
 levels_are_kept limits us para keeps = grind (arith, and_parts, resolved_levels-uniform, flat_from, none_from)
 
--- what the sequences of a flat paragraph give, by the own classes, is what the rules resolve
+-- the levels that the sequences of a flat paragraph give, from its own classes, are its resolved levels
 pub flat_levels : (limits : LimitsOf) (us : List BidiUnit) (para : ℕ) (all : List SequenceView) (levels : List (Option ℕ)) → IsFlat (classes_of us) → all ≡ sequences_of (leveled_of limits.depth (classes_of us) para) →
     length levels ≡ length us → HasLevelsBy limits.brackets us (classes_of us) all levels → levels ≡ resolved_levels limits us para
 flat_levels limits us para all levels flat are n has =
@@ -56,7 +56,7 @@ flat_levels limits us para all levels flat are n has =
     ∙ sym (get_or-map found (positions_of us) i 0 None (omega arith)))
     ∙ sym (resolved_levels-flat limits us para flat)
 
--- what the sequences give by the classes before W1, in a flat paragraph and in any other
+-- the levels that the sequences give from the classes before W1, in a flat paragraph and in any other
 pub own_before : (limits : LimitsOf) (us : List BidiUnit) (para : ℕ) (explicit : List (Option (ℕ × Class))) (flat : Bool) → (flat ≡ false → HoldsLevels explicit limits.depth (classes_of us) para) →
     (ps : List ℕ) → AreOwn ps us (classes_before flat us explicit)
 own_before limits us para explicit true holds ps = λ p stands free. refl
@@ -68,17 +68,17 @@ pub levels_before : (limits : LimitsOf) (us : List BidiUnit) (para : ℕ) (expli
 levels_before limits us para explicit true is holds all levels are n has = flat_levels limits us para all levels (is refl) are n has
 levels_before limits us para explicit false is holds all levels are n has = found_levels limits us para explicit (holds refl) all levels are n has
 
--- what is removed nowhere is not removed here
+-- if no class of a paragraph is removed, the class of a position isn't
 pub unit_kept : (us : List BidiUnit) (p : ℕ) → p < length us → HasNone is_removed (classes_of us) → is_removed (get_or us p no_unit).class ≡ false
 unit_kept us p lt none =
     let e : get_or (classes_of us) p L ≡ (get_or us p no_unit).class = get_or-map (λ (u : BidiUnit). u.class) us p no_unit L lt in
     ap is_removed (sym e) ∙ none p L (omega (arith, length-map us (λ (u : BidiUnit). u.class)))
 
--- no more remain than there are
+-- no more positions remain than there are
 pub remaining_few : (us : List BidiUnit) → length (remaining_of (classes_of us)) ≤ length us
 remaining_few us = grind (arith, length-map, length-positions_from, length-filter, count_by-le-length)
 
--- what keeps the level stays at it
+-- if the classes keep the level, each position that has a level has this one
 pub kept_stays : (us : List BidiUnit) (level : ℕ) (levels : List (Option ℕ)) → levels ≡ map (λ (u : BidiUnit). kept_level level u.class) us → StaysAt level levels
 kept_stays us level levels e p v found =
     let keep : BidiUnit → Option ℕ = λ u. kept_level level u.class in

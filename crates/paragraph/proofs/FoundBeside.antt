@@ -1,4 +1,4 @@
--- What is found beside a position in a list of positions with values.
+-- The value beside a position in a list of positions with values.
 use Rattle.std.specs.Prelude.{Option, Some, None, ℕ, suc, ◌==◌, ◌<◌, ◌≡◌, List, [], ◌∷◌, ◌++◌, length, slice_index, refl}
 use Rattle.std.specs.List.{find, flat_map, zip}
 use Rattle.std.specs.Option.{option_map, option_or}
@@ -11,7 +11,7 @@ use Rattle.sequences.specs.Once.{times}
 use Rattle.sequences.proofs.Once.{one_if, one_if-same, times-append, times-cons}
 use Rattle.paragraph.specs.Covering.{positions_in}
 
--- the value of the first of two answers, or of the second where the first is none
+-- the value of the first option, or of the second if the first is none
 first_none : {A B : Type 0} (f : A → B) (a b : Option A) → option_map f a ≡ None → option_map f (option_or a b) ≡ option_map f b
 first_none f None b e = refl
 first_none f (Some x) b e = absurd (none-some (f x) (sym e))
@@ -24,7 +24,7 @@ first_some : {A B : Type 0} (f : A → B) (a b : Option A) (y : B) → option_ma
 first_some f None b y e = absurd (none-some y e)
 first_some f (Some x) b y e = e
 
--- a list that says nothing beside a position is passed over
+-- a list with no value beside a position is skipped
 pub found-append : {V : Type 0} (xs ys : List (ℕ × V)) (p : ℕ) → option_map (λ (x : ℕ × V). x.1) (find (λ (x : ℕ × V). x.0 == p) xs) ≡ None
     → option_map (λ (x : ℕ × V). x.1) (find (λ (x : ℕ × V). x.0 == p) (xs ++ ys)) ≡ option_map (λ (x : ℕ × V). x.1) (find (λ (x : ℕ × V). x.0 == p) ys)
 found-append {V} xs ys p none = grind (arith, find-append, first_none)
@@ -33,12 +33,12 @@ pub found-append_none : {V : Type 0} (xs ys : List (ℕ × V)) (p : ℕ) → opt
     → option_map (λ (x : ℕ × V). x.1) (find (λ (x : ℕ × V). x.0 == p) (xs ++ ys)) ≡ option_map (λ (x : ℕ × V). x.1) (find (λ (x : ℕ × V). x.0 == p) xs)
 found-append_none {V} xs ys p none = grind (arith, find-append, second_none)
 
--- what is found in front of more is still found
+-- more elements after the list don't change a value that is in it
 pub found-append_some : {V : Type 0} (xs ys : List (ℕ × V)) (p : ℕ) (v : V) → option_map (λ (x : ℕ × V). x.1) (find (λ (x : ℕ × V). x.0 == p) xs) ≡ Some v
     → option_map (λ (x : ℕ × V). x.1) (find (λ (x : ℕ × V). x.0 == p) (xs ++ ys)) ≡ Some v
 found-append_some {V} xs ys p v some = grind (arith, find-append, first_some)
 
--- beside a position that the list does not hold stands nothing
+-- a position that is not in the list has no value
 pub zip_none : {V : Type 0} (ps : List ℕ) (vs : List V) (p : ℕ) → times ps p ≡ 0
     → option_map (λ (x : ℕ × V). x.1) (find (λ (x : ℕ × V). x.0 == p) (zip ps vs)) ≡ None
 zip_none [] vs p e = refl
@@ -51,7 +51,7 @@ zip_none {V} (x ∷ ps) (v ∷ vs) p e =
           ∙ zip_none ps vs p (omega (arith, e, times-cons x ps p))
     ]
 
--- beside a position that stands in the list stands the value of its index
+-- the value beside a position in the list is the value at the position's index
 pub zip_some : {V : Type 0} (ps : List ℕ) (vs : List V) (p : ℕ) → length vs ≡ length ps → 0 < times ps p → (d : V)
     → (k : ℕ) × (k < length ps) × (slice_index ps k ≡ p) × (option_map (λ (x : ℕ × V). x.1) (find (λ (x : ℕ × V). x.0 == p) (zip ps vs)) ≡ Some (get_or vs k d))
 zip_some [] vs p n l d = absurd (omega arith)
@@ -70,7 +70,7 @@ zip_some {V} (x ∷ ps) (v ∷ vs) p n l d =
           ))
     ]
 
--- beside a position that none of these sequences holds stands nothing, where each says something of its own alone
+-- a position that is in none of these sequences has no value, if each sequence gives values only to its positions
 pub none_beside : {V : Type 0} (items : SequenceView → List (ℕ × V))
     → ((s : SequenceView) (p : ℕ) → times s.positions p ≡ 0 → option_map (λ (x : ℕ × V). x.1) (find (λ (x : ℕ × V). x.0 == p) (items s)) ≡ None)
     → (all : List SequenceView) (p : ℕ) → times (positions_in all) p ≡ 0

@@ -1,4 +1,4 @@
--- What a scan of the front of a text found, with one unit more; and where the first paragraph ends (P1).
+-- The results of a scan of the front of a text, with one unit more; and the end of the first paragraph (P1).
 use Rattle.std.proofs.Common.{◌≡◌, ℕ, zero, suc, ◌+◌, ◌-◌, ◌<◌, ◌≤◌, true, false, List, [], ◌∷◌, ◌++◌, length, get_or, take, drop, refl, ap, sym, subst, ◌∙◌, arith, inl, inr}
 use Rattle.std.specs.Option.{option_or}
 use Rattle.std.specs.Prelude.{find, None, Some}
@@ -23,7 +23,7 @@ use Rattle.units.proofs.Lengths.{length-classes_of}
 classes_more : (us : List BidiUnit) (k : ℕ) (d : BidiUnit) → k < length us → classes_of (take (k + 1) us) ≡ classes_of (take k us) ++ (get_or us k d).class ∷ []
 classes_more us k d lt = ap classes_of (take_more us k d lt) ∙ map-append (λ (u : BidiUnit). u.class) (take k us) (get_or us k d ∷ [])
 
--- where no unit was a separator, the first paragraph goes on
+-- if no unit is a separator, the first paragraph continues
 length_from : (us : List BidiUnit) (k : ℕ) (d : BidiUnit) → k < length us → first_length (drop k us) ≡ first_length (get_or us k d ∷ drop (k + 1) us)
 length_from us k d lt = ap first_length (drop_more us k d lt)
 
@@ -61,7 +61,7 @@ no_separator us k j within below none =
     false_from_ne_true (is_separator (get_or us j no_unit).class) (λ separates.
     false≢true (sym none ∙ list_any_at (is_class B) (classes_of (take k us)) j L (omega (arith, long, length-classes_of (take k us))) (ap (is_class B) read ∙ separator_is_b _ separates)))
 
--- where none of four units more is a separator, the first paragraph goes on behind them
+-- if none of four units more is a separator, the first paragraph continues after them
 pub goes_on_four : (us : List BidiUnit) (k : ℕ) → k + 4 ≤ length us → list_any (is_class B) (classes_of (take (k + 4) us)) ≡ false → first_length us ≡ k + first_length (drop k us) →
     first_length us ≡ (k + 4) + first_length (drop (k + 4) us)
 goes_on_four us k within none e =
@@ -106,18 +106,18 @@ module _ (us : List BidiUnit) (k : ℕ) (d : BidiUnit) (lt : k < length us) wher
   strong_more : find is_strong (classes_of (take (k + 1) us)) ≡ option_or (find is_strong (classes_of (take k us))) (find is_strong ((get_or us k d).class ∷ []))
   strong_more = ap (find is_strong) (classes_more us k d lt) ∙ find-append is_strong (classes_of (take k us)) ((get_or us k d).class ∷ [])
 
-  -- where none was found, this one is the first if it is strong
+  -- if there was none, this class is the first if it is strong
   pub strong_found : is_strong (get_or us k d).class ≡ true → find is_strong (classes_of (take k us)) ≡ None → find is_strong (classes_of (take (k + 1) us)) ≡ Some (get_or us k d).class
   strong_found strong none = strong_more ∙ rw none (rw strong refl)
 
   pub none_found : is_strong (get_or us k d).class ≡ false → find is_strong (classes_of (take k us)) ≡ None → find is_strong (classes_of (take (k + 1) us)) ≡ None
   none_found weak none = strong_more ∙ rw none (rw weak refl)
 
-  -- the first that was found stays the first
+  -- an earlier first one stays the first
   pub still_found : (c : Class) → find is_strong (classes_of (take k us)) ≡ Some c → find is_strong (classes_of (take (k + 1) us)) ≡ Some c
   still_found c found = strong_more ∙ rw found refl
 
--- nor does it change further on
+-- and further units don't change it
 still_found_by : (us : List BidiUnit) (n k : ℕ) → k + n ≤ length us → (c : Class) → find is_strong (classes_of (take k us)) ≡ Some c → find is_strong (classes_of (take (k + n) us)) ≡ Some c
 still_found_by us zero k within c found = let same : k ≡ k + 0 = omega arith in let P : ℕ → Type 0 = λ j. find is_strong (classes_of (take j us)) ≡ Some c in subst P same found
 still_found_by us (suc n) k within c found =

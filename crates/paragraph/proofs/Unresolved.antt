@@ -1,4 +1,4 @@
--- A position has no resolved level exactly where it is removed.
+-- A position has no resolved level exactly if it is removed.
 use Rattle.std.specs.Prelude.{Option, Some, None, ℕ, ◌<◌, ◌≤◌, ◌≡◌, Bool, true, false, not, if◌then◌else◌, List, [], ◌∷◌, length, is_none, is_some, slice_index, slice_index_or, refl}
 use Rattle.std.specs.List.{flat_map}
 use Rattle.std.specs.Option.{option_map}
@@ -25,7 +25,7 @@ use Rattle.paragraph.specs.Covering.{positions_in}
 use Rattle.paragraph.proofs.Covering.{unfound}
 use Rattle.paragraph.proofs.FoundBeside.{found-append, found-append_some, zip_none, zip_some}
 
--- a position of one of the sequences is given a level
+-- a position of one of the sequences gets a level
 module _ (most_open : ℕ) (us : List BidiUnit) (before : List Class) where
   found_held : (all : List SequenceView) (p : ℕ) → 0 < times (positions_in all) p → is_none (value_beside (flat_map (levels_in most_open us before) all) p) ≡ false
   found_held [] p some = absurd (omega (arith, some))
@@ -84,6 +84,6 @@ module _ (limits : LimitsOf) (allowed : AreAllowed limits) (us : List BidiUnit) 
       let at : slice_index (positions_of us) p ≡ p = omega (arith, get_or-positions_from 0 (length us) p 0 within) in
       get_or-map found_at (positions_of us) p 0 None (omega arith) ∙ ap found_at at
 
-  -- X9: none exactly where the position is removed
+  -- X9: none exactly if the position is removed
   pub resolved_none : is_none (slice_index_or (resolved_levels limits us para_level) p None) ≡ is_removed (class_at (classes_of us) p)
   resolved_none = ap is_none resolved_is ∙ found_none_if (is_removed (class_at (classes_of us) p)) refl

@@ -14,6 +14,6 @@ is_class c d = class_number c == class_number d
 abbrev pub bit_of : Class → ℕ
 bit_of c = 2 ^ class_number c
 
--- the set holds these classes and no others
+-- the set contains these classes and no others
 pub record IsSetOf (set : ClassSet) (cs : List Class) : Type 0 where
   pub bits : (c : Class) → bit_and set.bits (bit_of c) ≡ (if list_any (is_class c) cs then bit_of c else 0)

@@ -1,4 +1,4 @@
--- What a paragraph contains, as far as it tells which rules have something to do.
+-- The contents of a paragraph that decide which rules have something to do.
 use Rattle.std.specs.Prelude.{ℕ, ◌+◌, ◌≤◌, Bool, ◌≡◌, ◌&&◌, not, List, drop, find, length, take}
 use Rattle.std.specs.List.{list_all}
 use Rattle.units.specs.Classes.{classes_of, is_strong}
@@ -25,18 +25,18 @@ are_flat cs = list_all is_flat cs
 abbrev pub keeps_level : ℕ → List Class → Bool
 keeps_level para_level cs = are_flat cs && has_none (may_rise para_level) cs
 
--- P1: the first paragraph of a text goes on behind its first n units, which have these classes
+-- P1: the first paragraph of a text continues after its first n units, which have these classes
 pub record IsFront (n : ℕ) (classes : ClassSet) (text : List BidiUnit) : Type 0 where
   pub within : n ≤ length text
   pub goes_on : first_length text ≡ n + first_length (drop n text)
   pub set : IsSetOf classes (classes_of (take n text))
 
--- what the paragraph of these classes contains, and the side of its first strong class (P2, no isolates looked at)
+-- the contents of a paragraph with these classes, and the side of its first strong class (P2, isolates ignored)
 pub record Describes (contents : Contents) (cs : List Class) : Type 0 where
   pub classes : IsSetOf contents.classes cs
   pub side : contents.side ≡ side_by (find is_strong cs)
 
--- P1: the first paragraph of a text, and what it contains
+-- P1: the first paragraph of a text, and its contents
 pub record IsFirstOf (first : FirstParagraph) (text : List BidiUnit) : Type 0 where
   pub length : first.length ≡ first_length text
   pub contents : Describes first.contents (classes_of (take first.length text))

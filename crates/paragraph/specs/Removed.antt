@@ -10,7 +10,7 @@ abbrev pub AreNoneWhereRemoved : List BidiUnit → List (Option ℕ) → Type 0
 AreNoneWhereRemoved us levels =
     (p : ℕ) → p < length us → is_none (slice_index_or levels p None) ≡ is_removed (class_at (classes_of us) p)
 
--- whichever level the paragraph has, its removed positions and no others have no resolved level
+-- whatever the paragraph's level is, its removed positions and no others have no resolved level
 abbrev pub RemovedHaveNoResolvedLevel : LimitsOf → List BidiUnit → Type 0
 RemovedHaveNoResolvedLevel limits us =
     (para_level : ℕ) → para_level ≤ 1 → AreNoneWhereRemoved us (resolved_levels limits us para_level)

@@ -1,4 +1,4 @@
--- The resolution of paragraphs: its room, and what is known of a paragraph that was resolved, or of one unit alone.
+-- The resolution of paragraphs: its buffers, and the known properties of a resolved paragraph or of one unit alone.
 use Rattle.std.specs.Prelude.{Option, Some, None, ℕ, ◌≡◌, Bool, true, List, [], ◌∷◌, slice_index_or}
 use Rattle.units.specs.Classes.{classes_of}
 use Rattle.units.specs.Isolates.{level_of_para, para_level_of}
@@ -13,14 +13,14 @@ use Rattle.paragraph.specs.Contents.{keeps_level}
 use Rattle.paragraph.specs.declared.one_unit.KeptUnit.{KeptUnit}
 use Rattle.paragraph.specs.declared.resolver.Resolved.{Resolved}
 
--- for how many positions there is room, and what was found of the last paragraph (BD9, X1 to X10)
+-- the capacity in positions, and the results for the last paragraph (BD9, X1 to X10)
 pub record Found : Type 0 where
   pub room : ℕ
   pub isolates : Isolates
   pub explicit : List (Option (ℕ × Class))
   pub sequences : List SequenceView
 
--- for how many positions there is room, and the classes before W1 with the copy of them to work on
+-- the capacity in positions, and the classes before W1 with the copy of them to work on
 pub record Work : Type 0 where
   pub room : ℕ
   pub before : List Class
@@ -30,7 +30,7 @@ pub record Work : Type 0 where
 abbrev pub StaysAt : ℕ → List (Option ℕ) → Type 0
 StaysAt level levels = (p v : ℕ) → slice_index_or levels p None ≡ Some v → v ≡ level
 
--- P2 to I2: this is known of the paragraph, and these are its levels
+-- P2 to I2: these are the known properties of the paragraph, and its levels
 pub record IsResolved (limits : LimitsOf) (us : List BidiUnit) (direction : Direction) (para : Resolved) (column : List (Option ℕ)) : Type 0 where
   pub level : level_of_para para.level ≡ para_level_of (classes_of us) direction
   pub levels : column ≡ resolved_levels limits us (para_level_of (classes_of us) direction)
@@ -41,7 +41,7 @@ pub record IsResolved (limits : LimitsOf) (us : List BidiUnit) (direction : Dire
 abbrev pub keeps_unit : Direction → BidiUnit → Bool
 keeps_unit direction unit = keeps_level (para_level_of (unit.class ∷ []) direction) (unit.class ∷ [])
 
--- P2 to I2: it does so, and these are the paragraph's level and its resolved one, whatever the limits are
+-- P2 to I2: it does so, and these are the paragraph's level and the unit's resolved one, whatever the limits are
 pub record IsKeptUnit (direction : Direction) (unit : BidiUnit) (kept : KeptUnit) : Type 0 where
   pub keeps : keeps_unit direction unit ≡ true
   pub para : level_of_para kept.para ≡ para_level_of (unit.class ∷ []) direction

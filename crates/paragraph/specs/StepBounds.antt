@@ -2,11 +2,11 @@
 use Rattle.std.specs.Prelude.{ℕ, ◌+◌}
 use Rattle.resolve.specs.StepBounds.{sequence_steps}
 
--- W1 to I2, sequence by sequence: each has a position of its own
+-- W1 to I2, sequence by sequence: each sequence has a position of its own
 abbrev pub sequences_steps : ℕ
 sequences_steps = sequence_steps + 1
 
--- W1 to I2, where the classes before W1 are written first
+-- W1 to I2, including a step to write the classes before W1
 abbrev pub w_to_i_steps : ℕ
 w_to_i_steps = sequences_steps + 1
 
@@ -18,6 +18,6 @@ x_rules_steps = 2 + 3
 abbrev pub driver_steps : ℕ
 driver_steps = 1 + x_rules_steps + w_to_i_steps
 
--- the same, where the contents are found first
+-- as above, including the step to find the contents
 abbrev pub paragraph_steps : ℕ
 paragraph_steps = driver_steps + 1

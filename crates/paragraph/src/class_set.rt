@@ -12,7 +12,6 @@ pub struct ClassSet {
     bits: u32,
 }
 
-/// The bit of a class.
 fn bit_of(class: Class) -> u32
     ensures { result ≡ bit_of class }
 {
@@ -20,14 +19,14 @@ fn bit_of(class: Class) -> u32
 }
 
 impl ClassSet {
-    /// No class.
+    /// Returns the empty set.
     pub fn none() -> ClassSet
         ensures { IsSetOf result [] }
     {
         ClassSet { bits: 0 }
     }
 
-    /// This class too.
+    /// Adds this class.
     pub fn with(self, class: Class) -> ClassSet
         ensures { (cs : List BidiClass) → IsSetOf self cs → IsSetOf result (cs ++ class ∷ []) }
     {
@@ -36,7 +35,7 @@ impl ClassSet {
         }
     }
 
-    /// Whether it has this class.
+    /// Returns whether the set has this class.
     pub fn has(self, class: Class) -> bool
         ensures { (cs : List BidiClass) → IsSetOf self cs → result ≡ list_any (is_class class) cs }
     {

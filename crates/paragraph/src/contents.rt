@@ -1,4 +1,4 @@
-//! What a paragraph contains, which tells the rules that have nothing to do in it; and where it ends.
+//! The contents of a paragraph, which show the rules that have nothing to do in it, and the end of a paragraph.
 ghost use Rattle.std.specs.Prelude.{◌≡◌, ◌+◌, ◌<◌, ◌≤◌, IfSome, IsNone, List, [], ◌∷◌, Some, false, find, length, take, true};
 ghost use Rattle.std.specs.List.{list_all, list_any};
 ghost use Rattle.units.specs.Classes.{classes_of, is_initiator, is_removed, is_strong};
@@ -31,11 +31,11 @@ pub struct Contents {
 pub struct FirstParagraph {
     /// How many units it has, its separator among them.
     pub length: usize,
-    /// What it contains.
+    /// Its contents.
     pub contents: Contents,
 }
 
-/// BD5, BD8: an initiator of an embedding, an override or an isolate.
+/// BD5, BD8: Returns whether one of the classes is an initiator of an embedding, an override or an isolate.
 fn has_initiator(classes: ClassSet) -> bool
     ensures { (cs : List BidiClass) → IsSetOf classes cs → result ≡ list_any is_initiator cs }
 {
@@ -48,7 +48,7 @@ fn has_initiator(classes: ClassSet) -> bool
         | classes.has(Class::FSI)
 }
 
-/// X9: a class that is removed.
+/// X9: Returns whether one of the classes is removed.
 fn has_removed(classes: ClassSet) -> bool
     ensures { (cs : List BidiClass) → IsSetOf classes cs → result ≡ list_any is_removed cs }
 {
@@ -60,14 +60,14 @@ fn has_removed(classes: ClassSet) -> bool
         | classes.has(Class::BN)
 }
 
-/// I1: a class that can bring a position above an even level; EN counts as L there.
+/// I1: Returns whether a class can raise a position above an even level; EN counts as L there.
 fn may_rise_at_even(classes: ClassSet) -> bool
     ensures { (cs : List BidiClass) → IsSetOf classes cs → result ≡ list_any may_rise_at_even cs }
 {
     classes.has(Class::R) | classes.has(Class::AL) | classes.has(Class::AN)
 }
 
-/// I2: a class that can bring a position above an odd level.
+/// I2: Returns whether a class can raise a position above an odd level.
 fn may_rise_at_odd(classes: ClassSet) -> bool
     ensures { (cs : List BidiClass) → IsSetOf classes cs → result ≡ list_any may_rise_at_odd cs }
 {
@@ -75,7 +75,7 @@ fn may_rise_at_odd(classes: ClassSet) -> bool
 }
 
 impl Contents {
-    /// What a paragraph of one unit of this class contains.
+    /// Returns the contents of a paragraph of one unit of this class.
     pub(crate) fn of_class(class: Class) -> Contents
         ensures { Describes result (class ∷ []) }
     {
@@ -90,21 +90,21 @@ impl Contents {
         }
     }
 
-    /// No initiator: X1 to X9 leave all positions that remain at the paragraph's level.
+    /// Returns whether there is no initiator: X1 to X9 then leave all positions that remain at the paragraph's level.
     pub fn is_flat(&self) -> bool
         ensures { (cs : List BidiClass) → Describes self.now cs → result ≡ are_flat cs }
     {
         !has_initiator(self.classes)
     }
 
-    /// No BN, PDF or initiator of an embedding: X9 removes nothing.
+    /// Returns whether there is no BN, PDF or initiator of an embedding: X9 then removes nothing.
     pub fn all_remain(&self) -> bool
         ensures { (cs : List BidiClass) → Describes self.now cs → result ≡ has_none is_removed cs }
     {
         !has_removed(self.classes)
     }
 
-    /// W1 to W7: whether there is a class that one of these rules can change.
+    /// W1 to W7: Returns whether there is a class that one of these rules can change.
     pub fn has_weak(&self) -> bool
         ensures { (cs : List BidiClass) → Describes self.now cs → result ≡ list_any may_weaken cs }
     {
@@ -116,14 +116,14 @@ impl Contents {
             | self.classes.has(Class::NSM)
     }
 
-    /// L1: whether there is a segment separator.
+    /// L1: Returns whether there is a segment separator.
     pub fn has_segment_separator(&self) -> bool
         ensures { (cs : List BidiClass) → Describes self.now cs → result ≡ list_any (is_class BidiClass.S) cs }
     {
         self.classes.has(Class::S)
     }
 
-    /// X1 to I2: whether each position that remains keeps the paragraph's level, if it is this one.
+    /// X1 to I2: Returns whether each position that remains keeps the paragraph's level, if it is this one.
     pub fn keeps(&self, level: ParaLevel) -> bool
         ensures { (cs : List BidiClass) → Describes self.now cs → result ≡ keeps_level (level_of_para level) cs }
     {
@@ -133,7 +133,7 @@ impl Contents {
         }
     }
 
-    /// P2: the side of the first strong class, be it in an isolate or not.
+    /// P2: Returns the side of the first strong class, whether it is in an isolate or not.
     pub fn side(&self) -> Side
         ensures { (cs : List BidiClass) → Describes self.now cs → result ≡ side_by (find is_strong cs) }
     {
@@ -141,14 +141,14 @@ impl Contents {
     }
 }
 
-/// A front of a text that was scanned: how many units it has, and their classes.
+/// The scanned front of a text: its number of units, and their classes.
 #[derive(Clone, Copy)]
 struct Front {
     length: usize,
     classes: ClassSet,
 }
 
-/// The classes of the units before this one, and of the four from it on.
+/// Returns the classes of the units before `p`, and of the four from `p` on.
 fn with_four(before: ClassSet, text: &[Unit], p: usize) -> ClassSet
     requires within { p + 4 ≤ length text.now }
     requires before { IsSetOf before (classes_of (take p text.now)) }
@@ -160,11 +160,11 @@ fn with_four(before: ClassSet, text: &[Unit], p: usize) -> ClassSet
     three.with(text[p + 3].class)
 }
 
-/// How many units are passed together in the search for the end of a paragraph.
+/// How many units the search for the end of a paragraph passes together.
 const BLOCK: usize = 4;
 
-/// The classes of the units before this one, and of the four from it on; or none where there are not four, or where a
-/// separator is among them all.
+/// Returns the classes of the units before `p`, and of the four from `p` on. Returns `None` if there are not four, or
+/// if one of these classes is a separator.
 fn pass_block(before: ClassSet, text: &[Unit], p: usize) -> Option<ClassSet>
     requires within { p ≤ length text.now }
     requires before { IsSetOf before (classes_of (take p text.now)) }
@@ -186,7 +186,7 @@ fn pass_block(before: ClassSet, text: &[Unit], p: usize) -> Option<ClassSet>
     }
 }
 
-/// Passes units from `start` on, four at a time, as long as none of the four is a separator. Each is a step.
+/// Passes units from `start` on, four at a time, until one of the four is a separator. Each unit is a step.
 fn pass_fours<L: Ledger>(
     text: &[Unit],
     start: usize,
@@ -208,9 +208,10 @@ fn pass_fours<L: Ledger>(
     Front { length: p, classes }
 }
 
-/// P1: the first paragraph of a text that was scanned up to `start`: `before` are the classes of the units before it,
-/// and `strong` is the first strong one of them (P2). Each unit from `start` on is a step. Passes four units at a time
-/// up to the first four that have a separator. Never inlined, so that short paragraphs don't pay for it.
+/// P1: Returns the first paragraph of a text that was scanned up to `start`: `before` are the classes of the units
+/// before `start`, and `strong` is the first strong one of them (P2). Each unit from `start` on is a step. Passes four
+/// units at a time up to the first four that have a separator. Never inlined, so that short paragraphs don't pay for
+/// it.
 #[inline(never)]
 fn scan_far<L: Ledger>(
     text: &[Unit],
@@ -246,12 +247,12 @@ fn scan_far<L: Ledger>(
     }
 }
 
-/// How many units after the first strong one are looked at one by one.
+/// How many units after the first strong one are read one by one.
 const NEAR: usize = 16;
 
-/// P1: the first paragraph of a text that was scanned up to `start`: `before` are the classes of the units before it,
-/// and `strong` is the first strong one of them (P2). Each unit from `start` on is a step. Looks at `NEAR` units one by
-/// one, because in a paragraph that ends among them four at a time cost more.
+/// P1: Returns the first paragraph of a text that was scanned up to `start`: `before` are the classes of the units
+/// before `start`, and `strong` is the first strong one of them (P2). Each unit from `start` on is a step. Reads `NEAR`
+/// units one by one, because passing four at a time costs more if the paragraph ends among them.
 fn scan_near<L: Ledger>(
     text: &[Unit],
     start: usize,
@@ -289,8 +290,8 @@ fn scan_near<L: Ledger>(
 }
 
 impl FirstParagraph {
-    /// P1: the first paragraph of a text, and what it contains, a step for each of its units. After its first strong
-    /// class it looks for classes and the separator alone.
+    /// P1: Returns the first paragraph of a text and its contents, with a step for each of its units. After the first
+    /// strong class it searches only for classes and the separator.
     pub fn of<L: Ledger>(text: &[Unit], steps: &mut Steps<L>) -> FirstParagraph
         ensures first { IsFirstOf result text.now }
         ensures within { result.length ≤ length text.now }

@@ -1,4 +1,4 @@
-//! W1 to I2 over a paragraph whose sequences were found.
+//! W1 to I2 over a paragraph whose sequences are known.
 ghost use Rattle.std.specs.Prelude.{◌≡◌, false, true, ◌+◌, ◌*◌, ◌<◌, ◌≤◌, ℕ, None, length, slice_index_or, take};
 ghost use Rattle.std.specs.List.{list_any};
 ghost use Rattle.std.specs.Option.{option_map_or};
@@ -24,8 +24,8 @@ use units::level::Level;
 use units::limits::Limits;
 use units::steps::Steps;
 
-/// X1 to X8: the class of a position before W1: its own if the paragraph is `flat`, and else the current one that was
-/// found, BN where X9 removes it.
+/// X1 to X8: Returns the class of a position before W1: its own if the paragraph is `flat`, else its current one from
+/// `explicit`, which is BN if X9 removes the position.
 fn class_before(flat: bool, unit: Unit, explicit: &[LeveledClass], p: usize) -> Class
     requires { p < length explicit.now }
     ensures flat { flat ≡ true → result ≡ unit.class }
@@ -37,15 +37,15 @@ fn class_before(flat: bool, unit: Unit, explicit: &[LeveledClass], p: usize) -> 
     explicit[p].class()
 }
 
-/// BD14: an opening bracket.
+/// BD14: Returns whether the bracket is an opening one.
 fn is_open(bracket: Bracket) -> bool
     ensures { result ≡ is_open bracket }
 {
     matches!(bracket, Bracket::Open(_))
 }
 
-/// X1 to X8: writes the classes before W1 to the fronts of both columns, and no levels: the own ones of a `flat`
-/// paragraph, and else those that were found. Answers whether it has an opening bracket.
+/// X1 to X8: Writes the classes before W1 to the fronts of both columns, and no levels. The classes are the own ones of
+/// a `flat` paragraph, else those of `found`. Returns whether the paragraph has an opening bracket.
 fn begin<L: Ledger>(
     para: &[Unit],
     flat: bool,
@@ -80,9 +80,9 @@ fn begin<L: Ledger>(
     opened
 }
 
-/// W1 to I2 over all sequences of a paragraph, in their order. The front of `classes` is a copy of its classes before
-/// W1 to work on, and `levels` hold none yet.
-// Inlined, its walks take more instructions.
+/// Applies W1 to I2 to all sequences of a paragraph, in their order. The front of `classes` is a copy of its classes
+/// before W1 to work on, and `levels` has no levels yet.
+// If it is inlined, its passes take more instructions.
 #[inline(never)]
 fn resolve_each<L: Ledger>(
     sequences: &Sequences,
@@ -115,7 +115,7 @@ fn resolve_each<L: Ledger>(
     }
 }
 
-/// W1 to I2 over a paragraph with these contents, whose sequences were found.
+/// Applies W1 to I2 to a paragraph with these contents, whose sequences are in `found`.
 pub fn resolve_found<L: Ledger>(
     para: &[Unit],
     contents: Contents,

@@ -1,5 +1,6 @@
-//! P2 to X10 over a paragraph, by the short way where it is flat: without initiators there are no isolates and no
-//! explicit levels to find. And that level, written where nothing can leave it (X1 to I2).
+//! P2 to X10 over a paragraph. If the paragraph is flat, there is a fast path: without initiators it has no isolates
+//! and no explicit levels. If nothing can leave the paragraph's level (X1 to I2), this level is written to all
+//! positions that remain.
 ghost use Rattle.std.specs.Prelude.{◌≡◌, false, true, ◌+◌, ◌*◌, ◌≤◌, length, map};
 ghost use Rattle.units.specs.Classes.{classes_of, is_removed};
 ghost use Rattle.units.specs.Isolates.{level_of_para, para_level_of};
@@ -22,8 +23,9 @@ use units::level::{Direction, Level, ParaLevel};
 use units::limits::Limits;
 use units::steps::Steps;
 
-/// BD9, P2, P3: the level of a paragraph with these contents. Where it is flat, nothing stands in an isolate and the
-/// side of its first strong class tells it without a step. Otherwise its isolates are found first.
+/// BD9, P2, P3: Returns the level of a paragraph with these contents. If the paragraph is flat, no position is in an
+/// isolate, and the side of its first strong class gives the level without a step. Otherwise its isolates are found
+/// first.
 pub fn find_level<L: Ledger>(
     para: &[Unit],
     contents: Contents,
@@ -47,8 +49,8 @@ pub fn find_level<L: Ledger>(
     para_level(para, &found.isolates, direction, steps)
 }
 
-/// X1 to X9, BD13, X10: the sequences of a paragraph with these contents, of this level. Only where it isn't flat, its
-/// explicit levels are found for that; else all that remains of it is one sequence.
+/// X1 to X9, BD13, X10: Finds the sequences of a paragraph with these contents and this level. If the paragraph is
+/// flat, all positions that remain are one sequence. Otherwise its explicit levels are found first.
 pub fn find_sequences<L: Ledger>(
     para: &[Unit],
     contents: Contents,
@@ -83,7 +85,7 @@ pub fn find_sequences<L: Ledger>(
         .fill(para, isolates, &found.explicit, level, steps);
 }
 
-/// X9: this level, or none for a class that is removed, as no class of the paragraph is if `all_remain`.
+/// X9: Returns this level, or `None` if the class is removed. If `all_remain`, no class of the paragraph is removed.
 pub fn kept_level(all_remain: bool, level: Level, class: Class) -> Option<Level>
     requires { all_remain ≡ true → is_removed class ≡ false }
     ensures { result ≡ kept_level level class }
@@ -95,7 +97,7 @@ pub fn kept_level(all_remain: bool, level: Level, class: Class) -> Option<Level>
     }
 }
 
-/// Gives the positions that remain (X9) this level, and the others none, a step for each.
+/// Writes this level for the positions that remain (X9), and `None` for the others, with a step for each.
 pub fn write_level<L: Ledger>(
     para: &[Unit],
     contents: Contents,

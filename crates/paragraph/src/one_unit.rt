@@ -11,13 +11,14 @@ use units::level::{Direction, Level, ParaLevel};
 /// The levels of a paragraph of one unit that keeps the paragraph's level.
 #[derive(Clone, Copy)]
 pub struct KeptUnit {
-    /// The paragraph's (P2, P3).
+    /// The paragraph's level (P2, P3).
     pub para: ParaLevel,
-    /// The unit's resolved one (X1 to I2), none where X9 removes it.
+    /// The unit's resolved level (X1 to I2); none if X9 removes the unit.
     pub level: Option<Level>,
 }
 
-/// The levels of a paragraph of this unit alone, or none where the unit does not keep the paragraph's level.
+/// Returns the levels of a paragraph of this unit alone. Returns `None` if the unit does not keep the paragraph's
+/// level.
 #[inline(always)]
 pub fn kept_unit(unit: Unit, direction: Direction) -> Option<KeptUnit>
     ensures { MatchOption result (keeps_unit direction unit ≡ false) (IsKeptUnit direction unit) }

@@ -19,7 +19,7 @@ use units::limits::Limits;
 use units::memory::Memory;
 use units::steps::Steps;
 
-/// Room for the resolution of paragraphs, one after another. Contracts see for how many positions there is room.
+/// The buffers for the resolution of paragraphs, one after another. Contracts see the capacity in positions.
 #[derive(Drop)]
 pub struct Resolver {
     found: RoomToFind,
@@ -34,19 +34,19 @@ impl Model for Resolver {
     ghost invariant = { λ r. r.found.room ≡ r.work.room };
 }
 
-/// What is known of a paragraph that was resolved.
+/// The known properties of a paragraph that was resolved.
 #[derive(Clone, Copy)]
 pub struct Resolved {
     /// Its level (P2, P3).
     pub level: ParaLevel,
-    /// Known to be at that level at each position that remains (X9): nothing in it begins an embedding or an isolate,
-    /// and no class in it rises above that level.
+    /// Whether each position that remains (X9) is known to be at that level: nothing in the paragraph begins an
+    /// embedding or an isolate, and no class in it rises above that level.
     pub uniform: bool,
 }
 
 impl Resolver {
-    /// Room for paragraphs of up to `n` positions. Memory that is refused is answered as `Memory`, and so are
-    /// 2^32 - 1 positions and more.
+    /// Makes the buffers for paragraphs of up to `n` positions. Fails with `Memory` if memory is refused, or if `n` is
+    /// 2^32 - 1 or more.
     pub fn with_room(alloc: Global, n: usize) -> Result<Resolver, Memory>
         ensures { IfOk result (λ resolver. resolver ≡ n) }
     {
@@ -56,9 +56,10 @@ impl Resolver {
         })
     }
 
-    /// Finds the level of a paragraph (P2, P3) and writes the resolved levels of its positions, none where X9 removes
-    /// one (X1 to I2), over what `levels` held. `limits` say how deep explicit levels go (BD2) and how many brackets
-    /// can be open (BD16). There is room for the paragraph, and no memory is taken.
+    /// Returns the level of a paragraph (P2, P3) and writes the resolved levels of its positions (X1 to I2) over the
+    /// contents of `levels`; a position that X9 removes has none. `limits` set the greatest explicit level (BD2) and
+    /// the number of brackets that can be open (BD16). The buffers must have the capacity for the paragraph. No memory
+    /// is taken.
     pub fn resolve<L: Ledger>(
         &mut self,
         para: &[Unit],
@@ -80,7 +81,7 @@ impl Resolver {
         self.resolve_known(para, first.contents, direction, limits, levels, steps)
     }
 
-    /// The same of a paragraph whose contents are known.
+    /// Resolves a paragraph as `resolve` does; its contents are known.
     pub fn resolve_known<L: Ledger>(
         &mut self,
         para: &[Unit],
@@ -103,7 +104,7 @@ impl Resolver {
         // BD9, P2, P3.
         let level = find_level(para, contents, direction, &mut self.found, steps);
 
-        // X1 to I2, where nothing can leave that level.
+        // X1 to I2, if nothing can leave that level.
         if contents.keeps(level) {
             write_level(para, contents, level.level(), levels, steps);
             return Resolved {

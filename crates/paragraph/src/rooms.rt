@@ -1,4 +1,4 @@
-//! The room for the resolution of paragraphs, in two parts: what finds their sequences, and what resolves them.
+//! The buffers for the resolution of paragraphs, in two parts: those to find the sequences, and those to resolve them.
 ghost use Rattle.std.specs.Prelude.{◌≡◌, IfOk, length};
 ghost use Rattle.std.specs.Box.{boxed_slice_items, boxed_slice_len};
 ghost use Rattle.explicit.specs.IsolateMaps.{room};
@@ -14,8 +14,8 @@ use std::marker::Model;
 use units::class::Class;
 use units::memory::Memory;
 
-/// Room to find the sequences of a paragraph (BD9, X1 to X10), and what was found of the last one. Contracts see that,
-/// and for how many positions there is room.
+/// The buffers to find the sequences of a paragraph (BD9, X1 to X10), with the results for the last paragraph.
+/// Contracts see these results, and the capacity in positions.
 #[derive(Drop)]
 pub struct RoomToFind {
     pub isolates: IsolateMap,
@@ -32,7 +32,7 @@ impl Model for RoomToFind {
 }
 
 impl RoomToFind {
-    /// Room for `n` positions.
+    /// Makes the buffers for `n` positions.
     pub fn with_room(alloc: Global, n: usize) -> Result<RoomToFind, Memory>
         ensures { IfOk result (λ made. made.room ≡ n) }
     {
@@ -51,8 +51,8 @@ fn class_column(alloc: Global, n: usize) -> Result<BoxedSlice<Class>, Memory>
     Ok(vec![in alloc; Class::BN; n]?.into_boxed_slice())
 }
 
-/// Room to resolve the sequences of a paragraph (W1 to I2): its classes before W1, a copy of them to work on, and its
-/// bracket pairs. Contracts see for how many positions there is room, and the classes.
+/// The buffers to resolve the sequences of a paragraph (W1 to I2): its classes before W1, a copy of them to work on,
+/// and its bracket pairs. Contracts see the capacity in positions, and the classes.
 #[derive(Drop)]
 pub struct RoomToResolve {
     pub before: BoxedSlice<Class>,
@@ -69,7 +69,7 @@ impl Model for RoomToResolve {
 }
 
 impl RoomToResolve {
-    /// Room for `n` positions.
+    /// Makes the buffers for `n` positions.
     pub fn with_room(alloc: Global, n: usize) -> Result<RoomToResolve, Memory>
         ensures { IfOk result (λ made. made.room ≡ n) }
     {
