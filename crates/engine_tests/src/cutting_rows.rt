@@ -1,10 +1,10 @@
-//! The cutting of a text into paragraphs (P1), by its classes.
+//! The cutting of a text into paragraphs (P1), from its classes.
 use crate::given::units_of;
 use explicit::paragraphs;
 use std::test::Fail;
 use units::bracket::Unit;
 
-/// How many paragraphs a text has.
+/// Returns the number of paragraphs of a text.
 fn paragraph_count(text: &[Unit]) -> usize {
     paragraphs(text).count()
 }

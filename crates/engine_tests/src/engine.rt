@@ -1,4 +1,4 @@
-//! What stands before the rules of a sequence: the isolates, the level, the explicit levels and the sequences of a
+//! The results before the rules of a sequence: the isolates, the level, the explicit levels and the sequences of a
 //! paragraph.
 ghost use Rattle.std.specs.Prelude.{◌≡◌, ◌<◌, length, IfOk};
 ghost use Rattle.explicit.specs.IsolateMaps.{room};
@@ -21,7 +21,7 @@ use units::limits::Limits;
 use units::memory::Memory;
 use units::steps::Steps;
 
-/// What the engine finds of a paragraph before the rules of its sequences.
+/// The engine's results for a paragraph before the rules of its sequences.
 #[derive(Drop)]
 pub struct Found {
     /// The isolates (BD9).
@@ -34,7 +34,7 @@ pub struct Found {
     pub sequences: Sequences,
 }
 
-/// Rooms for a paragraph of `n` positions, of which nothing is found yet.
+/// Makes the buffers for a paragraph of `n` positions, without results.
 fn rooms(alloc: Global, n: usize) -> Result<Found, Memory>
     ensures map { IfOk result (λ found. room found.map ≡ n) }
     ensures explicit { IfOk result (λ found. length found.explicit ≡ n) }
@@ -48,7 +48,7 @@ fn rooms(alloc: Global, n: usize) -> Result<Found, Memory>
     })
 }
 
-/// Finds all of it, for which there is room, counting steps from the blank.
+/// Finds all these results and counts steps from the blank. The buffers must have the capacity for the paragraph.
 fn find<L: Ledger>(
     found: &mut Found,
     para: &[Unit],
@@ -83,7 +83,7 @@ fn find<L: Ledger>(
         .fill(para, &found.map, &found.explicit, found.level, &mut steps);
 }
 
-/// What is found of these units, which have to be a paragraph.
+/// Returns the results for these units, which must be a paragraph.
 pub fn found_in(
     rt: &impl Abort,
     alloc: Global,
@@ -101,7 +101,7 @@ pub fn found_in(
     Ok(found)
 }
 
-/// The sequences of these units, which have to be a paragraph.
+/// Returns the sequences of these units, which must be a paragraph.
 pub fn sequences_in(
     rt: &impl Abort,
     alloc: Global,
@@ -115,7 +115,7 @@ pub fn sequences_in(
     Ok(found.sequences)
 }
 
-/// The sequences of a paragraph of so many units of class ON.
+/// Returns the sequences of a paragraph of `n` units of class ON.
 pub fn neutral_sequences(
     rt: &impl Abort,
     alloc: Global,
@@ -128,7 +128,7 @@ pub fn neutral_sequences(
     sequences_in(rt, alloc, &para, direction, Limits::standard())
 }
 
-/// The sequence of a paragraph, which has to be its only one.
+/// Returns the sequence of a paragraph, which must be its only one.
 pub fn only_sequence<'a>(rt: &impl Abort, sequences: &'a Sequences) -> Sequence<'a>
     ensures { result.extent ≡ sequences.now.extent }
 {

@@ -1,4 +1,4 @@
-//! Worked rows of explicit levels (X1 to X9), by the classes of a paragraph.
+//! Worked rows of explicit levels (X1 to X9), from the classes of a paragraph.
 ghost use Rattle.std.specs.Prelude.{◌≤◌, ◌<◌, length};
 
 use crate::engine::{Found, found_in};
@@ -13,20 +13,20 @@ use units::level::{Direction, Level, ParaLevel};
 use units::limits::Limits;
 use units::memory::Memory;
 
-/// A paragraph at level 0 of so many times RLE and LRE and then the classes with these names, and what is found of it
-/// by this depth.
+/// A paragraph at level 0: RLE and LRE, `pairs` times, and then the classes with these names. With it, the explicit
+/// levels and current classes at this depth.
 #[derive(Clone, Copy)]
 struct Row {
     pairs: usize,
     names: &'static str,
     direction: Direction,
     depth: u8,
-    /// The level and the current class of each position behind the pairs, none where it is removed.
+    /// The level and the current class of each position after the pairs, `None` if it is removed.
     leveled: &'static [Option<(u8, Class)>],
 }
 
 const ROWS: [Row; 14] = [
-    // isolates in one another
+    // nested isolates
     Row {
         pairs: 0,
         names: "RLI RLI PDI R PDI L",
@@ -63,7 +63,7 @@ const ROWS: [Row; 14] = [
         depth: 125,
         leveled: &[None, Some((1, Class::PDI)), Some((1, Class::L))],
     },
-    // and an override covers it
+    // and an override applies to it
     Row {
         pairs: 0,
         names: "RLO LRE L PDF PDI LRE L PDF",
@@ -93,7 +93,7 @@ const ROWS: [Row; 14] = [
             Some((0, Class::L)),
         ],
     },
-    // past the isolates in it
+    // beyond the isolates in it
     Row {
         pairs: 0,
         names: "FSI FSI R PDI PDI L",
@@ -116,7 +116,7 @@ const ROWS: [Row; 14] = [
         depth: 125,
         leveled: &[None, None, Some((125, Class::L))],
     },
-    // a PDF closes what was refused first
+    // a PDF closes the overflow embedding first
     Row {
         pairs: 62,
         names: "RLE LRE RLE PDF PDF L",
@@ -124,7 +124,7 @@ const ROWS: [Row; 14] = [
         depth: 125,
         leveled: &[None, None, None, None, None, Some((125, Class::L))],
     },
-    // what stands in what was refused is refused
+    // inside an overflow embedding each embedding overflows
     Row {
         pairs: 62,
         names: "LRE RLE L",
@@ -132,7 +132,7 @@ const ROWS: [Row; 14] = [
         depth: 125,
         leveled: &[None, None, Some((124, Class::L))],
     },
-    // a PDF in an isolate that was refused closes nothing
+    // a PDF in an overflow isolate closes nothing
     Row {
         pairs: 62,
         names: "RLE LRI PDF PDI L",
@@ -146,7 +146,7 @@ const ROWS: [Row; 14] = [
             Some((125, Class::L)),
         ],
     },
-    // its PDI closes what was refused in it
+    // its PDI closes the overflow embedding in it
     Row {
         pairs: 62,
         names: "RLE LRI LRE PDI PDF L",
@@ -161,7 +161,7 @@ const ROWS: [Row; 14] = [
             Some((124, Class::L)),
         ],
     },
-    // at depth 1 the LRE is refused, at 2 and more it is not
+    // at depth 1 the LRE overflows, at 2 and more it doesn't
     Row {
         pairs: 0,
         names: "RLE LRE R",
@@ -185,7 +185,7 @@ const ROWS: [Row; 14] = [
     },
 ];
 
-/// So many times RLE and LRE.
+/// Returns RLE and LRE, `count` times.
 fn pairs(alloc: Global, count: usize) -> Result<Vec<Unit>, AllocError> {
     let mut units = Vec::new(alloc);
     for _ in 0..count {
@@ -194,20 +194,20 @@ fn pairs(alloc: Global, count: usize) -> Result<Vec<Unit>, AllocError> {
     Ok(units)
 }
 
-/// The units of a row: the pairs, and those of its names.
+/// Returns the units of a row: the pairs, and those of its names.
 fn units_of_row(rt: &impl Abort, alloc: Global, row: &Row) -> Result<Vec<Unit>, AllocError> {
     let mut units = pairs(alloc, row.pairs)?;
     push_units(rt, &mut units, row.names)?;
     Ok(units)
 }
 
-/// The same with the level as a number.
+/// Returns the same pair with the level as a number.
 fn numbered(leveled: Option<(Level, Class)>) -> Option<(u8, Class)> {
     let (level, class) = leveled?;
     Some((level.get(), class))
 }
 
-/// The level and the class of a position, where these ones begin at `start` and all positions before it are removed.
+/// Returns the level and the class of a position; `leveled` begins at `start`, and all positions before it are removed.
 fn leveled_from(start: usize, leveled: &[Option<(u8, Class)>], p: usize) -> Option<(u8, Class)> {
     *leveled.get(p.checked_sub(start)?)?
 }
@@ -218,7 +218,7 @@ fn assert_leveled(rt: &impl Abort, explicit: &Explicit, p: usize, leveled: Optio
     assert_eq!(rt; numbered(explicit.at(p)), leveled, "at {p}");
 }
 
-/// Checks what is found of so many positions: of the last ones it is this, and all before them are removed.
+/// Checks the results for `n` positions: the last ones have these levels and classes, all before them are removed.
 fn assert_all_leveled(
     rt: &impl Abort,
     explicit: &Explicit,
@@ -234,7 +234,7 @@ fn assert_all_leveled(
     }
 }
 
-/// Checks what is found of a row's paragraph of so many units: the pairs are removed, and then comes what the row says.
+/// Checks the results for a row's paragraph of `n` units: the pairs are removed, and the row states the others.
 fn assert_found(rt: &impl Abort, found: &Found, n: usize, row: &Row)
     requires { n ≤ length found.now.explicit }
 {
@@ -242,7 +242,7 @@ fn assert_found(rt: &impl Abort, found: &Found, n: usize, row: &Row)
     assert_all_leveled(rt, &found.explicit, n, row.leveled);
 }
 
-/// Checks what is found of a row's paragraph, which these units are.
+/// Checks the results for a row's paragraph, which has these units.
 fn assert_paragraph(
     rt: &impl Abort,
     alloc: Global,

@@ -1,4 +1,4 @@
-//! What rows are made of: units of a paragraph, and its levels as digits.
+//! The parts of rows: units of a paragraph, and its levels as digits.
 ghost use Rattle.std.specs.Prelude.{◌≡◌, IsTrue};
 ghost use Rattle.std.specs.List.{list_any};
 ghost use Rattle.units.specs.Classes.{is_separator};
@@ -10,7 +10,7 @@ use units::bracket::{Bracket, Key, Unit};
 use units::class::Class;
 use units::level::Level;
 
-/// A unit of this class that is no bracket.
+/// Returns a unit of this class that is no bracket.
 pub fn plain(class: Class) -> Unit {
     Unit {
         class,
@@ -18,7 +18,7 @@ pub fn plain(class: Class) -> Unit {
     }
 }
 
-/// An opening bracket.
+/// Returns an opening bracket.
 pub fn open(key: u32) -> Unit {
     Unit {
         class: Class::ON,
@@ -26,7 +26,7 @@ pub fn open(key: u32) -> Unit {
     }
 }
 
-/// A closing bracket.
+/// Returns a closing bracket.
 pub fn close(key: u32) -> Unit {
     Unit {
         class: Class::ON,
@@ -34,7 +34,7 @@ pub fn close(key: u32) -> Unit {
     }
 }
 
-/// The class with this short name; there has to be one.
+/// Returns the class with this short name; there must be one.
 fn named_class(rt: &impl Abort, name: &str) -> Class {
     match Class::from_short(name.as_bytes()) {
         Some(class) => class,
@@ -42,7 +42,7 @@ fn named_class(rt: &impl Abort, name: &str) -> Class {
     }
 }
 
-/// The classes with these short names, which blanks part.
+/// Returns the classes with these short names, which blanks separate.
 pub fn classes(rt: &impl Abort, alloc: Global, names: &str) -> Result<Vec<Class>, AllocError> {
     let mut classes = Vec::new(alloc);
     for name in names.split(' ') {
@@ -51,12 +51,12 @@ pub fn classes(rt: &impl Abort, alloc: Global, names: &str) -> Result<Vec<Class>
     Ok(classes)
 }
 
-/// Checks what becomes of the classes with the names `before`.
+/// Checks classes; `before` are the names of those before the rules.
 pub fn assert_classes(rt: &impl Abort, classes: &[Class], expected: &[Class], before: &str) {
     assert_eq!(rt; classes, expected, "{before}");
 }
 
-/// The unit with this name: a class's short name, or a bracket of one of two kinds.
+/// Returns the unit with this name: a class's short name, or a bracket of one of two kinds.
 fn unit_of(name: &str) -> Option<Unit> {
     match name {
         "(" => Some(open(1)),
@@ -67,7 +67,7 @@ fn unit_of(name: &str) -> Option<Unit> {
     }
 }
 
-/// The unit with this name; there has to be one.
+/// Returns the unit with this name; there must be one.
 fn named_unit(rt: &impl Abort, name: &str) -> Unit {
     match unit_of(name) {
         Some(unit) => unit,
@@ -75,7 +75,7 @@ fn named_unit(rt: &impl Abort, name: &str) -> Unit {
     }
 }
 
-/// Puts the units with these names, which blanks part, behind those that are there.
+/// Adds the units with these names, which blanks separate, at the end.
 pub fn push_units(rt: &impl Abort, units: &mut Vec<Unit>, names: &str) -> Result<(), AllocError> {
     for name in names.split(' ') {
         units.push(named_unit(rt, name))?;
@@ -83,7 +83,7 @@ pub fn push_units(rt: &impl Abort, units: &mut Vec<Unit>, names: &str) -> Result
     Ok(())
 }
 
-/// The units with these names, which blanks part.
+/// Returns the units with these names, which blanks separate.
 pub fn units_of(rt: &impl Abort, alloc: Global, names: &str) -> Result<Vec<Unit>, AllocError> {
     let mut units = Vec::new(alloc);
     push_units(rt, &mut units, names)?;
@@ -96,14 +96,14 @@ fn has_separator(units: &[Unit]) -> bool
     units.iter().any(|unit| unit.class.is_separator())
 }
 
-/// Whether these units have no separator, and so are one paragraph.
+/// Returns whether these units have no separator, and so are one paragraph.
 pub fn is_paragraph(units: &[Unit]) -> bool
     ensures { IsTrue result → SeparatorOnlyLast units.now }
 {
     !has_separator(units)
 }
 
-/// A position's level as a digit, `x` where it is removed.
+/// Returns a position's level as a digit, `x` if it is removed.
 fn digit(level: Option<Level>) -> u8 {
     match level {
         Some(level) => b'0' + level.get(),
@@ -115,7 +115,7 @@ fn assert_digit(rt: &impl Abort, level: Option<Level>, shown: u8) {
     assert_eq!(rt; digit(level), shown);
 }
 
-/// Checks levels: a digit for each position, `x` where it is removed.
+/// Checks levels: a digit for each position, `x` if it is removed.
 pub fn assert_shown(rt: &impl Abort, levels: &[Option<Level>], shown: &[u8]) {
     assert_eq!(rt; levels.len(), shown.len());
     for p in 0..shown.len() {

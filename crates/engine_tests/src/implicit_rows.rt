@@ -1,5 +1,5 @@
-//! Worked rows of the implicit levels (I1 and I2), by the classes of a sequence: by themselves, and in the engine's one
-//! walk with the neutrals (N1 and N2).
+//! Worked rows of the implicit levels (I1 and I2), from the classes of a sequence: by themselves, and in the engine's
+//! single pass with the neutrals (N1 and N2).
 ghost use Rattle.std.specs.Prelude.{◌≡◌, ◌<◌, length};
 
 use crate::engine::{neutral_sequences, only_sequence};
@@ -16,7 +16,7 @@ use units::level::{Direction, Level};
 use units::memory::Memory;
 use units::steps::Steps;
 
-/// I1 and I2 over a sequence of these classes, by a count of steps that begins with the blank.
+/// Applies I1 and I2 to a sequence of these classes, and counts steps from the blank.
 fn implicit_counting<L: Ledger>(
     s: &Sequence,
     classes: &[Class],
@@ -32,7 +32,7 @@ fn implicit_counting<L: Ledger>(
     implicit(s, classes, levels, &mut Steps::<L>::new(blank));
 }
 
-/// I1 and I2 over the one sequence of a paragraph of these classes.
+/// Applies I1 and I2 to the one sequence of a paragraph of these classes.
 fn implicit_in_paragraph(
     rt: &impl Abort,
     alloc: Global,
@@ -87,7 +87,7 @@ fn implicit_levels(rt: HostRuntime) -> Result<(), Fail> {
     Ok(())
 }
 
-/// N1 to I2 over a sequence of these classes, by a count of steps that begins with the blank.
+/// Applies N1 to I2 to a sequence of these classes, and counts steps from the blank.
 fn resolve_counting<L: Ledger>(
     s: &Sequence,
     classes: &mut [Class],
@@ -103,7 +103,7 @@ fn resolve_counting<L: Ledger>(
     resolve_levels(s, classes, levels, &mut Steps::<L>::new(blank));
 }
 
-/// N1 to I2 over the one sequence of a paragraph of these classes.
+/// Applies N1 to I2 to the one sequence of a paragraph of these classes.
 fn resolve_in_paragraph(
     rt: &impl Abort,
     alloc: Global,
@@ -136,7 +136,7 @@ const WALK_ROWS: [WalkRow; 6] = [
         "R L L L L R R R AN R EN R",
         b"122221112121",
     ),
-    // what the weak rules leave
+    // classes after the weak rules
     (
         Direction::Ltr,
         "L L L L L ON AN",

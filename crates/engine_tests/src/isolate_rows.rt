@@ -1,4 +1,4 @@
-//! The partners of isolate initiators and their PDIs (BD9), by the classes of a paragraph.
+//! The partners of isolate initiators and their PDIs (BD9), from the classes of a paragraph.
 ghost use Rattle.std.specs.Prelude.{◌≤◌, ◌<◌};
 ghost use Rattle.explicit.specs.IsolateMaps.{room};
 
@@ -19,7 +19,7 @@ fn assert_partner(rt: &impl Abort, map: &IsolateMap, p: usize, partner: Option<u
     assert_eq!(rt; map.partner(p), partner);
 }
 
-/// Checks the partner of each of so many positions.
+/// Checks the partner of each of `n` positions.
 fn assert_partners(rt: &impl Abort, map: &IsolateMap, n: usize, partners: &[Option<usize>])
     requires { n ≤ room map.now }
 {

@@ -1,5 +1,5 @@
-//! Tests of the engine: worked rows of each rule, from the cutting into paragraphs to the resolved levels. They stand
-//! here, and not beside what they test, so that no crate is proved a second time with its tests.
+//! Tests of the engine: worked rows of each rule, from the cutting into paragraphs to the resolved levels. They are in
+//! a crate of their own, so that no crate is proved a second time with its tests.
 #![tactic(auto)]
 
 #[cfg(test)]

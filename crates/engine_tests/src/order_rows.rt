@@ -25,8 +25,8 @@ use units::limits::Limits;
 use units::memory::Memory;
 use units::steps::Steps;
 
-/// W1 to I2 over a sequence, rule by rule, counting steps from the blank. `before` are the classes of its paragraph's
-/// units, and `classes` those to work on.
+/// Applies W1 to I2 to a sequence, rule by rule, and counts steps from the blank. `before` are the classes of its
+/// paragraph's units, and `classes` those to work on.
 fn resolve_in_order<L: Ledger>(
     s: &Sequence,
     para: &[Unit],
@@ -57,14 +57,13 @@ fn resolve_in_order<L: Ledger>(
     implicit(s, classes, levels, &mut steps);
 }
 
-/// The class of each of these units.
 fn classes_of(alloc: Global, para: &[Unit]) -> Result<Vec<Class>, Memory>
     ensures { IfOk result (λ classes. classes.items ≡ classes_of para.now) }
 {
     Ok(para.iter().map(|unit| unit.class).collect(alloc)?)
 }
 
-/// The resolved levels of a sequence that holds its whole paragraph.
+/// Returns the resolved levels of a sequence that contains its whole paragraph.
 fn levels_of(alloc: Global, s: &Sequence, para: &[Unit]) -> Result<Vec<Option<Level>>, Memory>
     requires { length para.now ≡ s.now.extent }
 {

@@ -16,7 +16,7 @@ use units::limits::Limits;
 use units::memory::Memory;
 use units::steps::Steps;
 
-/// Resolves the levels of a paragraph, for which there is room, counting steps from the blank.
+/// Resolves the levels of a paragraph and counts steps from the blank. The resolver must have the capacity for it.
 fn resolve_counting<L: Ledger>(
     resolver: &mut Resolver,
     para: &[Unit],
@@ -36,7 +36,6 @@ fn resolve_counting<L: Ledger>(
     resolver.resolve(para, direction, limits, levels, &mut steps);
 }
 
-/// Resolves the levels of a paragraph.
 fn resolve_levels(
     alloc: Global,
     para: &[Unit],
@@ -59,7 +58,7 @@ fn resolve_levels(
     Ok(())
 }
 
-/// Checks the levels of a paragraph: a digit for each position, `x` where it is removed.
+/// Checks the levels of a paragraph: a digit for each position, `x` if it is removed.
 fn assert_levels(
     rt: &impl Abort,
     alloc: Global,
@@ -125,9 +124,9 @@ const PAIRS_BY_WHAT_STANDS_INSIDE: [Row; 5] = [
     ("R ( L ) R", Direction::Rtl, b"11211"),
     ("L ( R )", Direction::Ltr, b"0010"),
     ("L [ R ] R", Direction::Ltr, b"00101"),
-    // the outer one first
+    // the outer pair first
     ("R ( ( R ) L )", Direction::Ltr, b"1001000"),
-    // past a lone closing one
+    // past a closing bracket without a match
     ("L ( ] R ) R", Direction::Ltr, b"000101"),
 ];
 
@@ -154,7 +153,7 @@ fn marks_behind_brackets(rt: HostRuntime) -> Result<(), Fail> {
     Ok(())
 }
 
-/// A pair round R, and behind it `n` pairs in one another round R.
+/// Returns a pair around R, and after it `n` nested pairs around R.
 fn deep(alloc: Global, n: usize) -> Result<Vec<Unit>, Memory>
     requires { n < 1000 }
 {
@@ -170,7 +169,7 @@ fn deep(alloc: Global, n: usize) -> Result<Vec<Unit>, Memory>
     Ok(units)
 }
 
-/// The levels of `deep`, where those of the closing brackets of the pairs in one another are these.
+/// Returns the levels of `deep`; `closing` is the level of the closing brackets of the nested pairs.
 fn deep_levels(alloc: Global, n: usize, closing: u8) -> Result<Vec<u8>, Memory>
     requires { n < 1000 }
 {
@@ -185,7 +184,7 @@ fn deep_levels(alloc: Global, n: usize, closing: u8) -> Result<Vec<u8>, Memory>
     Ok(levels)
 }
 
-/// Checks the levels of `deep`, where those of the closing brackets of the pairs in one another are these.
+/// Checks the levels of `deep`; `closing` is the level of the closing brackets of the nested pairs.
 fn assert_deep(rt: &impl Abort, alloc: Global, n: usize, closing: u8) -> Result<(), Memory>
     requires { n < 1000 }
 {

@@ -1,4 +1,4 @@
-//! Worked rows: bracket pairs, by the classes after W7.
+//! Worked rows: bracket pairs, from the classes after W7.
 ghost use Rattle.std.specs.Prelude.{◌≡◌, ◌<◌, ◌≤◌, length, IfOk};
 
 use crate::engine::{only_sequence, sequences_in};
@@ -18,7 +18,7 @@ use units::limits::Limits;
 use units::memory::Memory;
 use units::steps::Steps;
 
-/// Finds the pairs of a sequence by the classes after W7, counting steps from the blank.
+/// Finds the pairs of a sequence from the classes after W7, and counts steps from the blank.
 fn find_pairs<L: Ledger>(
     s: &Sequence,
     para: &[Unit],
@@ -40,14 +40,13 @@ fn find_pairs<L: Ledger>(
     bracket_pairs(s, para, classes, limits, pairs, &mut steps);
 }
 
-/// The class of each of these units.
 fn classes_of(alloc: Global, para: &[Unit]) -> Result<Vec<Class>, Memory>
     ensures { IfOk result (λ classes. length classes.items ≡ length para.now) }
 {
     Ok(para.iter().map(|unit| unit.class).collect(alloc)?)
 }
 
-/// The pairs of a paragraph's sequence.
+/// Returns the pairs of a paragraph's sequence.
 fn pairs_of(alloc: Global, s: &Sequence, para: &[Unit], limits: Limits) -> Result<Pairs, Memory>
     requires { length para.now ≡ s.now.extent }
     ensures { IfOk result (λ pairs. length pairs ≡ length para.now) }
@@ -58,7 +57,7 @@ fn pairs_of(alloc: Global, s: &Sequence, para: &[Unit], limits: Limits) -> Resul
     Ok(pairs)
 }
 
-/// The pairs of the one sequence of a paragraph from left to right.
+/// Returns the pairs of the one sequence of a left-to-right paragraph.
 fn pairs_in(rt: &impl Abort, alloc: Global, para: &[Unit], limits: Limits) -> Result<Pairs, Memory>
     ensures { IfOk result (λ pairs. length pairs ≡ length para.now) }
 {
@@ -80,7 +79,7 @@ const ROWS: [Row; 4] = [
         most_open: 63,
         closers: &[None, Some(6), Some(4), None, None, None, None],
     },
-    // they end before the first opener without room
+    // they end before the first opener that passes the limit
     Row {
         names: "( R ) ( ( ) )",
         most_open: 2,
@@ -105,7 +104,7 @@ fn assert_closer(rt: &impl Abort, pairs: &Pairs, p: usize, row: &Row)
     assert_eq!(rt; pairs.closer(p), row.closers[p], "{} at {p}", row.names);
 }
 
-/// Checks which pairs count in a paragraph of so many units, by the positions of their closing brackets.
+/// Checks which pairs count in a paragraph of `n` units: the positions of their closing brackets.
 fn assert_closers(rt: &impl Abort, pairs: &Pairs, n: usize, row: &Row)
     requires { n ≤ length pairs.now }
 {

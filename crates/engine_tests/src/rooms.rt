@@ -1,4 +1,4 @@
-//! Rooms of few and of many positions, of each list that the crates below keep.
+//! Buffers for few and for many positions, of each list that the crates below store.
 use explicit::isolates::IsolateMap;
 use explicit::levels::Explicit;
 use paragraph::resolver::Resolver;
@@ -8,7 +8,7 @@ use std::alloc::Global;
 use std::process::Abort;
 use units::memory::Memory;
 
-/// What making each kind of room for so many positions answers, where it is refused.
+/// Returns the errors of making each kind of buffer for `n` positions.
 fn refusals(alloc: Global, n: usize) -> [Option<Memory>; 5] {
     [
         IsolateMap::with_room(alloc, n).err(),
@@ -19,7 +19,7 @@ fn refusals(alloc: Global, n: usize) -> [Option<Memory>; 5] {
     ]
 }
 
-/// Checks that making each kind of room for so many positions answers this.
+/// Checks that making each kind of buffer for `n` positions fails with this error, or succeeds without one.
 fn assert_refusals(rt: &impl Abort, alloc: Global, n: usize, refusal: Option<Memory>) {
     assert_eq!(rt; refusals(alloc, n), [refusal; 5], "for {n}");
 }
@@ -36,7 +36,7 @@ fn too_much_room(rt: HostRuntime) {
     assert_refusals(&rt, rt.alloc(), usize::MAX, Some(Memory));
 }
 
-// To be run with each growth refused in turn: one room at most is refused by it.
+// To be run with each growth refused in turn: a refused growth makes at most one call fail.
 #[test]
 fn says_that_memory_was_refused(rt: HostRuntime) {
     let refused = refusals(rt.alloc(), 64).iter().flatten().count();

@@ -1,4 +1,5 @@
-//! Worked rows: each rule by the standard's own examples, and all weak rules in order beside the engine's one walk.
+//! Worked rows: each rule with the standard's own examples, and all weak rules in order beside the engine's single
+//! pass.
 ghost use Rattle.std.specs.Prelude.{◌≡◌, ◌<◌, length};
 
 use crate::engine::{neutral_sequences, only_sequence};
@@ -17,7 +18,7 @@ use units::level::Direction;
 use units::memory::Memory;
 use units::steps::Steps;
 
-/// Which rules a row goes through.
+/// The rules that a row tests.
 #[derive(Clone, Copy)]
 enum Rules {
     W1,
@@ -32,7 +33,7 @@ enum Rules {
     Neutrals,
 }
 
-/// Has these rules change the classes of a sequence, by a count of steps that begins with the blank.
+/// Applies these rules to the classes of a sequence, and counts steps from the blank.
 fn apply_counting<L: Ledger>(rules: Rules, s: &Sequence, classes: &mut [Class], blank: Blank)
     requires classes { length classes.old ≡ s.now.extent }
     requires name { blank.name ≡ L.name }
@@ -54,7 +55,7 @@ fn apply_counting<L: Ledger>(rules: Rules, s: &Sequence, classes: &mut [Class], 
     }
 }
 
-/// What these rules make of classes, by their names, of a sequence at level 0 (sos and eos L) or 1 (sos and eos R).
+/// The names of classes before and after these rules, in a sequence at level 0 (sos and eos L) or 1 (sos and eos R).
 #[derive(Clone, Copy)]
 struct Row {
     rules: Rules,
@@ -63,7 +64,7 @@ struct Row {
     after: &'static str,
 }
 
-/// Has these rules change the classes of a paragraph's one sequence.
+/// Applies these rules to the classes of a paragraph's one sequence.
 fn apply_in_paragraph(
     rt: &impl Abort,
     alloc: Global,
@@ -77,7 +78,7 @@ fn apply_in_paragraph(
     Ok(())
 }
 
-/// Checks what these rules make of a row's classes.
+/// Checks a row's classes after these rules.
 fn assert_row(rt: &impl Abort, alloc: Global, rules: Rules, row: &Row) -> Result<(), Memory> {
     let mut column = classes(rt, alloc, row.before)?;
     apply_in_paragraph(rt, alloc, rules, row.direction, &mut column)?;
@@ -156,7 +157,7 @@ const ROWS: [Row; 15] = [
         before: "ON L WS ON L ON R ON AN WS EN ON",
         after: "R L L L L R R R AN R EN R",
     },
-    // W1 to W7, in passes and then in one walk
+    // W1 to W7, rule by rule and then in a single pass
     Row {
         rules: Rules::Weak,
         direction: Direction::Ltr,

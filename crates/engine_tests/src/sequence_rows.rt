@@ -1,4 +1,4 @@
-//! Worked rows of isolating run sequences, by the classes of a paragraph.
+//! Worked rows of isolating run sequences, from the classes of a paragraph.
 ghost use Rattle.std.specs.Prelude.{◌<◌, length};
 
 use crate::engine::sequences_in;
@@ -13,7 +13,7 @@ use units::level::Direction;
 use units::limits::Limits;
 use units::memory::Memory;
 
-/// What a sequence tells: its positions, its level, sos and eos.
+/// The properties of a sequence: its positions, its level, sos and eos.
 #[derive(Clone, Copy)]
 struct Told {
     positions: &'static [usize],
@@ -22,19 +22,19 @@ struct Told {
     eos: Class,
 }
 
-/// The position after the one with this number in a sequence.
+/// Returns the position after the one with this number in a sequence.
 fn after_number(s: &Sequence, k: usize) -> Option<usize>
     requires { k < length s.now.positions }
 {
     s.after(s.as_slice()[k] as usize)
 }
 
-/// Checks that a walk comes to this position next, or ends where there is none.
+/// Checks that an iterator returns this position next, or ends if there is none.
 fn assert_next(rt: &impl Abort, walk: &mut Positions, position: Option<usize>) {
     assert_eq!(rt; walk.next(), position);
 }
 
-/// Checks that a walk comes to these positions, and then ends.
+/// Checks that an iterator returns these positions, and then ends.
 fn assert_walk(rt: &impl Abort, walk: &mut Positions, positions: &[usize]) {
     for position in positions {
         assert_next(rt, walk, Some(*position));
@@ -50,7 +50,7 @@ fn assert_after(rt: &impl Abort, s: &Sequence, positions: &[usize], k: usize)
     assert_eq!(rt; after_number(s, k), positions.get(k + 1).copied());
 }
 
-/// Checks that a sequence has these positions, by `as_slice`, `positions` and `after`.
+/// Checks that a sequence has these positions, with `as_slice`, `positions` and `after`.
 fn assert_positions(rt: &impl Abort, s: &Sequence, positions: &[usize]) {
     assert_eq!(rt; s.as_slice().len(), positions.len());
     assert_walk(rt, &mut s.positions(), positions);
@@ -59,13 +59,13 @@ fn assert_positions(rt: &impl Abort, s: &Sequence, positions: &[usize]) {
     }
 }
 
-/// Checks what stands before a sequence's first position and after its last.
+/// Checks the sos and the eos of a sequence.
 fn assert_ends(rt: &impl Abort, s: &Sequence, told: &Told) {
     assert_eq!(rt; s.sos(), told.sos);
     assert_eq!(rt; s.eos(), told.eos);
 }
 
-/// Checks that a sequence tells this.
+/// Checks that a sequence has these properties.
 fn assert_sequence(rt: &impl Abort, s: &Sequence, told: &Told) {
     assert_positions(rt, s, told.positions);
     assert_eq!(rt; s.level().get(), told.level);
@@ -80,7 +80,7 @@ struct Row {
 }
 
 const ROWS: [Row; 3] = [
-    // an embedding parts
+    // an embedding separates sequences
     Row {
         names: "R ON LRE L PDF ON R",
         sequences: &[
@@ -122,7 +122,7 @@ const ROWS: [Row; 3] = [
             },
         ],
     },
-    // an initiator that matches nothing
+    // an initiator without a match
     Row {
         names: "L RLI R",
         sequences: &[
@@ -142,7 +142,7 @@ const ROWS: [Row; 3] = [
     },
 ];
 
-/// Checks that these sequences tell this.
+/// Checks that these sequences have these properties.
 fn assert_sequences(rt: &impl Abort, sequences: &Sequences, told: &[Told]) {
     assert_eq!(rt; sequences.count(), told.len());
     for k in 0..told.len() {
