@@ -14,22 +14,22 @@ use Rattle.explicit.specs.Uniform.{may_rise_at_even, may_rise_at_odd}
 abbrev pub direction : Bool → Class
 direction even = cond even L R
 
--- the own classes: flat, kept, and none that may rise
+-- the own classes that X9 doesn't remove: flat ones that can't rise
 abbrev pub own_stays : Bool → Class → Bool
 own_stays true c = is_flat c && is_kept c && not (may_rise_at_even c)
 own_stays false c = is_flat c && is_kept c && not (may_rise_at_odd c)
 
--- after W1 and W2: no mark is left
+-- after W1 and W2: there is no mark
 abbrev pub marked_stays : Bool → Class → Bool
 marked_stays even NSM = false
 marked_stays even c = own_stays even c
 
--- after W3 to W5: no AL is left
+-- after W3 to W5: there is no AL
 abbrev pub lettered_stays : Bool → Class → Bool
 lettered_stays even AL = false
 lettered_stays even c = marked_stays even c
 
--- after W6: no ES, ET and CS is left
+-- after W6: there are no ES, ET and CS
 abbrev pub separated_stays : Bool → Class → Bool
 separated_stays even ES = false
 separated_stays even ET = false
@@ -140,7 +140,7 @@ pub between_same : (even : Bool) → by_sides (direction even) (direction even) 
 between_same true = refl
 between_same false = refl
 
--- the direction itself has what is asked of a class at each rule
+-- the direction itself fulfils the condition at each rule
 pub record DirectionStays (even : Bool) : Type 0 where
   pub own : own_stays even (direction even) ≡ true
   pub base : is_base (direction even) ≡ true

@@ -13,6 +13,6 @@ pub record IsNoInitiator (c : Class) : Type 0 where
 pub flat_class : (c : Class) → is_flat c ≡ true → IsNoInitiator c
 flat_class c h = grind (arith, or_parts, not-true)
 
--- past the end stands L, which is flat too
+-- past the end the class is L, which is flat too
 pub class_at-flat : (cs : List Class) → IsFlat cs → (p : ℕ) → IsNoInitiator (class_at cs p)
 class_at-flat cs flat p = grind (arith, flat_class, get_or_past)

@@ -18,7 +18,7 @@ use Rattle.units.proofs.Positions.{last_below_nowhere}
 use Rattle.explicit.proofs.Searches.{first_from_alike, find-first_from}
 use Rattle.explicit.proofs.FlatClasses.{class_at-flat}
 
--- no isolate and no embedding holds anything
+-- nothing is inside an isolate or an embedding
 pub isolate_holds-flat : (cs : List Class) → IsFlat cs → (i p : ℕ) → isolate_holds cs i p ≡ false
 unfolding isolate_holds
 isolate_holds-flat cs flat i p = let c = class_at-flat cs flat i in and_left _ _ c.no_isolate_initiator
@@ -35,7 +35,7 @@ pub chain-flat : (cs : List Class) → IsFlat cs → (p : ℕ) → chain cs p �
 unfolding chain
 chain-flat cs flat p = grind (arith, filter_none, or_from, isolate_holds-flat, embedding_holds-flat)
 
--- X1 to X9: the paragraph's level and the own class, where it is not removed
+-- X1 to X9: the paragraph's level and the own class, if it is not removed
 abbrev pub leveled_class : ℕ → Class → Option (ℕ × Class)
 leveled_class para c = cond (is_removed c) None (Some (para, c))
 
@@ -52,7 +52,7 @@ pub first_strong-flat : (cs : List Class) → IsFlat cs → first_strong cs None
 unfolding first_strong
 first_strong-flat cs flat = grind (arith, first_from_alike, isolate_around-flat)
 
--- P3: the level by the class at the position that is given
+-- P3: the level by the class at this position, if there is one
 level_by_class : (cs : List Class) (o : Option ℕ) → cond (begins_right_to_left cs o) 1 0 ≡ level_by_strong 0 (option_map (λ p. class_at cs p) o)
 level_by_class cs None = refl
 level_by_class cs (Some p) = refl

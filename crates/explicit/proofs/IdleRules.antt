@@ -1,4 +1,4 @@
--- A list of classes that is given index by index, and is what it was.
+-- A list of classes that is written index by index and is unchanged.
 use Rattle.std.proofs.Common.{◌≡◌, ℕ, ◌<◌, List, length, ◌∙◌}
 use Rattle.std.proofs.lemmas.List.{map-id}
 use Rattle.units.specs.Classes.{class_at}

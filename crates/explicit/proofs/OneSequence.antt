@@ -1,4 +1,4 @@
--- A paragraph in which all that remains is at one level is one sequence (BD13, X10).
+-- If all positions that remain are at one level, the paragraph is one sequence (BD13, X10).
 use Rattle.std.proofs.Common.{◌≡◌, Option, ℕ, zero, suc, ◌+◌, ◌-◌, ◌<◌, ◌≤◌, max, Bool, true, false, cond, not, Some, None, List, [], ◌∷◌, length, map, get_or, refl, ap, sym, ◌∙◌, arith, inl, inr}
 use Rattle.std.specs.Prelude.{filter, is_some}
 use Rattle.std.specs.Option.{option_map}
@@ -18,12 +18,12 @@ use Rattle.explicit.proofs.Listed.{filter_kept, filter_dropped, filter_alike}
 use Rattle.explicit.proofs.Searches.{first_from_here, first_from_on}
 use Rattle.explicit.proofs.FlatParagraph.{explicit_of-flat, leveled_class}
 
--- what remains is at the paragraph's level
+-- all positions that remain are at the paragraph's level
 pub record IsUniform (t : LeveledView) (para : ℕ) : Type 0 where
   pub base : t.base ≡ para
   pub level : (p : ℕ) → remains t p ≡ true → level_of t p ≡ Some para
 
--- a position at which the search for a later one ends, if it is one
+-- a later position, if there is one, is not this position
 later_apart : (o : Option ℕ) (p : ℕ) → ((r : ℕ) → o ≡ Some r → p < r) → same_position o (Some p) ≡ false
 later_apart None p h = refl
 later_apart (Some r) p h = let later : p < r = h r refl in ne_eqb r p (λ e. omega arith)
@@ -48,7 +48,7 @@ module _ (t : LeveledView) (para : ℕ) (u : IsUniform t para) where
   followed_remaining (suc count) start (suc n) e le =
       grind (arith, first_from_here, successor_is, filter_kept, first_from_on, filter_dropped, followed_remaining count (start + 1) n, followed_remaining count (start + 1) (suc n))
 
-  -- a sequence begins at the first remaining position alone
+  -- a sequence begins only at the first remaining position
   abbrev follows_one : ℕ → Bool
   follows_one p = list_any (λ q. same_position (successor t q) (Some p)) (positions_of t.levels)
 
@@ -70,7 +70,7 @@ module _ (t : LeveledView) (para : ℕ) (u : IsUniform t para) where
   begins_gone : (p : ℕ) → remains t p ≡ false → begins_sequence t p ≡ false
   begins_gone p gone = and_left (remains t p) (not (follows_one p)) gone
 
-  -- after a remaining position none begins
+  -- after a remaining position no sequence begins
   none_later : (count start q : ℕ) → start + count ≡ size_of t → q < start → remains t q ≡ true → ((r : ℕ) → q < r → r < start → remains t r ≡ false) → filter (begins_sequence t) (positions_from start count) ≡ []
   none_later zero start q e lt last between = refl
   none_later (suc count) start q e lt last between =
@@ -86,7 +86,7 @@ module _ (t : LeveledView) (para : ℕ) (u : IsUniform t para) where
             elim (cases_lt r start) [ inl less ↦ between r above less | inr more ↦ let same : r ≡ start = omega arith in ap (remains t) same ∙ gone ])
       ]
 
-  -- X10: at the paragraph's level on both sides
+  -- X10: the levels on both sides are the paragraph's
   level_here : (o : Option ℕ) → level_or_base t o ≡ para
   level_here None = u.base
   level_here (Some p) = grind (arith, is_some_false)
@@ -133,7 +133,7 @@ module _ (t : LeveledView) (para : ℕ) (u : IsUniform t para) where
   pub sequences_of-uniform : sequences_of t ≡ level_sequences para (size_of t) (filter (remains t) (positions_of t.levels))
   sequences_of-uniform = first_onward (size_of t) 0 (omega arith) (λ q lt. absurd (omega arith))
 
--- X1 to X9 leave a flat paragraph so
+-- the levels after X1 to X9 in a flat paragraph
 abbrev level_if_kept : ℕ → Class → Option ℕ
 level_if_kept para c = cond (is_removed c) None (Some para)
 

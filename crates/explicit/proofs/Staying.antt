@@ -192,12 +192,12 @@ one_value z [] (y ∷ ys) e = absurd (omega arith)
 one_value z (x ∷ xs) [] e = absurd (omega arith)
 one_value z (x ∷ xs) (y ∷ ys) e = ap (λ zs. z ∷ zs) (one_value z xs ys (omega arith))
 
--- what is kept passes
+-- the classes at the positions that remain pass
 remaining_pass : (kind : Class → Bool) (keep : ℕ → Bool) (f : ℕ → Class) (start count : ℕ) → ((p : ℕ) → p < start + count → keep p ≡ true → kind (f p) ≡ true) → AllPass kind (map f (filter keep (positions_from start count)))
 remaining_pass kind keep f start zero h = All-nil (λ c. kind c ≡ true)
 remaining_pass kind keep f start (suc count) h = grind (arith, remaining_pass kind keep f (start + 1) count)
 
--- each position that is kept finds the one level
+-- each of these positions, with the one level
 abbrev one_level : ℕ → List ℕ → List (ℕ × ℕ)
 one_level para ps = zip ps (map (λ (p : ℕ). para) ps)
 

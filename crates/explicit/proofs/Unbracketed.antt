@@ -14,7 +14,7 @@ use Rattle.units.specs.declared.bracket.Unit.{Unit as BidiUnit}
 use Rattle.explicit.specs.IdleRules.{HasNoOpening}
 use Rattle.units.proofs.Positions.{last_below_nowhere}
 
--- where nothing opens, nothing is paired
+-- if nothing opens, nothing is paired
 pub pairs_before-none : (bs : List Bracket) → ((p : ℕ) → is_open (bracket_at bs p) ≡ false) → (p : ℕ) → pairs_before bs p ≡ []
 pairs_before-none bs none zero = refl
 pairs_before-none bs none (suc p) = grind (arith, last_below_nowhere, and_left, pairs_before-none bs none p)
@@ -60,7 +60,7 @@ units_at-closed us ps none = (λ k d lt.
     ] in
     ap (λ (u : BidiUnit). is_open u.bracket) (get_or-map (λ p. get_or us p no_unit) ps k 0 d l) ∙ closed)
 
--- N0 changes nothing in a sequence of units of which none opens
+-- N0 changes nothing in a sequence of units without an opening bracket
 pub after_brackets-none : (most_open : ℕ) (s : SequenceView) (us : List BidiUnit) (before weak : List Class) → HasNoOpening us → after_brackets most_open s us before weak ≡ weak
 after_brackets-none most_open s us before weak none =
     let bs : List Bracket = acting_brackets (units_at us s.positions) weak in

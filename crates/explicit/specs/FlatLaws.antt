@@ -1,4 +1,4 @@
--- What the laws say of paragraphs in which most rules have nothing to do.
+-- Statements about paragraphs in which most rules have nothing to do.
 use Rattle.std.specs.Prelude.{ℕ, ◌≡◌, List, map}
 use Rattle.units.specs.Classes.{classes_of}
 use Rattle.units.specs.Layout.{after_brackets, resolved_levels}
@@ -10,7 +10,7 @@ use Rattle.explicit.specs.Flat.{IsFlat, flat_resolved_levels, flat_sequences}
 use Rattle.explicit.specs.IdleRules.{HasNone}
 use Rattle.explicit.specs.Uniform.{kept_level, may_rise}
 
--- N0 changes nothing in the sequence, whatever its classes before W1 and after W7 are
+-- N0 changes nothing in the sequence, whatever the classes before W1 and after W7 are
 abbrev pub HasIdleBrackets : ℕ → SequenceView → List BidiUnit → Type 0
 HasIdleBrackets most_open s us = (before weak : List Class) → after_brackets most_open s us before weak ≡ weak
 
@@ -23,7 +23,7 @@ abbrev pub KeepsItsLevel : LimitsOf → List BidiUnit → ℕ → Type 0
 KeepsItsLevel limits us para_level =
     resolved_levels limits us para_level ≡ map (λ unit. kept_level para_level unit.class) us
 
--- X1 to X10: at this depth and level the paragraph's sequences are one, of all positions that remain
+-- X1 to X10: at this depth and level the paragraph has one sequence, of all positions that remain
 abbrev pub HasOneSequence : ℕ → List Class → ℕ → Type 0
 HasOneSequence depth cs para_level = sequences_of (leveled_of depth cs para_level) ≡ flat_sequences para_level cs
 

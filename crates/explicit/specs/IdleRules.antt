@@ -1,4 +1,4 @@
--- What is missing where a rule has nothing to do.
+-- What a paragraph lacks if a rule has nothing to do.
 use Rattle.std.specs.Prelude.{Bool, ◌≡◌, false, List}
 use Rattle.std.specs.List.{All}
 use Rattle.units.specs.Brackets.{is_open}

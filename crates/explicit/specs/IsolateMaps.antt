@@ -1,4 +1,4 @@
--- What a map of isolates keeps of the paragraph that it was filled from.
+-- What a map of isolates says about the paragraph that it was filled from.
 use Rattle.std.specs.Prelude.{◌≡◌, ℕ, ◌<◌, ◌≤◌, Bool, true, List, length, Option, Some, None, slice_index_or}
 use Rattle.units.specs.Classes.{class_at, is_isolate_initiator}
 use Rattle.units.specs.Isolates.{partner_of, first_strong, begins_right_to_left}
@@ -7,14 +7,14 @@ use Rattle.units.specs.declared.class.Class.{Class}
 use Rattle.explicit.specs.Sides.{side_at, HasSides}
 use Rattle.explicit.specs.declared.side.Side.{Side}
 
--- BD9, P2, P3: the partner of each position; at an initiator the side on which its isolate begins; the side on which
--- what lies outside does
+-- BD9, P2, P3: the partner of each position; the side of each isolate, at its initiator; and the side outside of all
+-- isolates
 pub record Isolates : Type 0 where
   pub partners : List (Option ℕ)
   pub sides : List Side
   pub outside : Side
 
--- how long a paragraph the map has room for
+-- the length of the longest paragraph that fits into the map
 abbrev pub room : Isolates → ℕ
 room map = length map.partners
 
@@ -35,8 +35,8 @@ pub record IsFilledFrom (map : Isolates) (cs : List Class) : Type 0 where
   pub sides : HasSides map.sides cs
   pub outside : map.outside ≡ side_at cs (first_strong cs None)
 
--- P2, P3: whether the first strong class directly inside the isolate that begins at p is R or AL, in whatever paragraph
--- the map was filled from
+-- P2, P3: whether the first strong class directly inside the isolate that begins at p is R or AL, in every paragraph
+-- that the map can have been filled from
 abbrev pub IsSideInside : Isolates → ℕ → Bool → Type 0
 IsSideInside map p right_to_left =
     (cs : List Class) → IsFilledFrom map cs → p < length cs → is_isolate_initiator (class_at cs p) ≡ true

@@ -1,4 +1,4 @@
--- What the laws say of matched isolates and of the stack.
+-- Statements about matched isolates and the stack.
 use Rattle.std.specs.Prelude.{ℕ, ◌+◌, ◌≤◌, ◌≡◌, List, length, IfSome}
 use Rattle.units.specs.Explicit.{explicit_at, explicit_level_at}
 use Rattle.units.specs.declared.class.Class.{Class}
@@ -9,7 +9,7 @@ use Rattle.explicit.specs.declared.status.StatusStack.{StatusStack}
 abbrev pub HaveOneLevel : ℕ → List Class → ℕ → ℕ → ℕ → Type 0
 HaveOneLevel depth cs para_level i j = explicit_level_at depth cs para_level i ≡ explicit_level_at depth cs para_level j
 
--- X1: whichever initiators a stack is kept of, it has at most depth + 1 entries
+-- X1: a stack that represents open initiators has at most depth + 1 entries, whichever initiators these are
 abbrev pub StacksAreShallow : ℕ → List Class → ℕ → Type 0
 StacksAreShallow depth cs para_level =
     (qs : List ℕ) (stack : StatusStack) → Represents depth cs para_level qs stack → entry_count stack ≤ depth + 1
@@ -18,6 +18,6 @@ StacksAreShallow depth cs para_level =
 abbrev pub EntriesAreFew : ℕ → List Class → ℕ → List ℕ → Type 0
 EntriesAreFew depth cs para_level qs = length (entries_of depth cs para_level qs) ≤ depth + 1
 
--- BD2: a position that has an explicit level has none above the depth
+-- BD2: an explicit level of the position, if it has one, is not above the depth
 abbrev pub HasNoLevelAboveDepth : ℕ → List Class → ℕ → ℕ → Type 0
 HasNoLevelAboveDepth depth cs para_level p = IfSome (explicit_at depth cs para_level p) (λ leveled. leveled.0 ≤ depth)

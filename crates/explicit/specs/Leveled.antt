@@ -1,8 +1,8 @@
--- What isolating run sequences need of a paragraph after X1 to X9.
+-- The properties of a paragraph after X1 to X9 that isolating run sequences need.
 use Rattle.std.specs.Prelude.{ℕ, ◌<◌, ◌≤◌, ◌≡◌, length, Some, IfSome, IsTrue}
 use Rattle.units.specs.Runs.{LeveledView, size_of, level_of, remains, matched_pdi}
 
--- what X1 to X9 give at every depth that is allowed: levels up to 125, and a matching PDI that comes later (BD9)
+-- X1 to X9 at every allowed depth: levels are up to 125, and a matching PDI comes after its initiator (BD9)
 pub record IsLeveled (t : LeveledView) : Type 0 where
   pub classes_fit : length t.classes ≡ length t.levels
   pub partners_fit : length t.partners ≡ length t.levels
@@ -10,8 +10,8 @@ pub record IsLeveled (t : LeveledView) : Type 0 where
   pub levels_within : (p : ℕ) → IfSome (level_of t p) (λ l. l ≤ 125)
   pub later : (p : ℕ) → IfSome (matched_pdi t p) (λ q. (p < q) × (q < size_of t))
 
--- what X1 to X9 give of isolates: a matched initiator and its PDI are at one level, no other initiator has that PDI,
--- and what remains between them is all at that level or not at all
+-- isolates after X1 to X9: a matched initiator and its PDI are at one level, no other initiator has that PDI, and if
+-- anything that remains between the two is at that level, then all of it is
 pub record IsNested (t : LeveledView) : Type 0 where
   pub same_level : (i r : ℕ) → matched_pdi t i ≡ Some r → level_of t i ≡ level_of t r
   pub matched_once : (i j r : ℕ) → matched_pdi t i ≡ Some r → matched_pdi t j ≡ Some r → i ≡ j

@@ -1,4 +1,4 @@
--- What X2 to X9 make of the stack, whatever the initiators are that it is kept of.
+-- What X2 to X9 do to the stack, for all initiators that it can represent.
 use Rattle.std.specs.Prelude.{◌≡◌, ℕ, Bool, true, false, List, ◌∷◌, Option, Some}
 use Rattle.units.specs.Classes.{class_at, is_isolate_initiator, is_removed, is_separator}
 use Rattle.units.specs.Explicit.{wants_odd}
@@ -10,19 +10,19 @@ use Rattle.explicit.specs.StatusStacks.{Represents, is_taken, entry_at, state_wi
 use Rattle.explicit.specs.declared.status.Status.{Status}
 use Rattle.explicit.specs.declared.status.StatusStack.{StatusStack}
 
--- X6a, X7: it is kept then of those that `left` leaves open
+-- X6a, X7: the new stack represents the initiators that `left` leaves open
 abbrev pub Closes : (List Class → List ℕ → List ℕ) → StatusStack → StatusStack → Type 0
 Closes left old new =
     (depth : ℕ) (cs : List Class) (para_level : ℕ) (qs : List ℕ)
     → Represents depth cs para_level qs old → Represents depth cs para_level (left cs qs) new
 
--- X2 to X5c: an initiator of this class is opened up to this depth, which asks for an odd level or not
+-- X2 to X5c: an initiator of this class, which asks for an odd level or not, is opened up to this depth
 abbrev pub OpensAsking : ℕ → Class → Bool → StatusStack → StatusStack → Type 0
 OpensAsking depth class odd old new =
     (cs : List Class) (para_level : ℕ) (qs : List ℕ) (p : ℕ) → class ≡ class_at cs p → odd ≡ wants_odd cs p class
     → Represents depth cs para_level qs old → Represents depth cs para_level (p ∷ qs) new
 
--- P2, P3, X5c: this is whether what an FSI at p holds begins right to left
+-- P2, P3, X5c: whether the content of an FSI at p begins right to left
 abbrev pub IsSideOf : Class → List Class → ℕ → Bool → Type 0
 IsSideOf class cs p right_to_left = class ≡ FSI → right_to_left ≡ begins_right_to_left cs (first_strong cs (Some p))
 
@@ -32,21 +32,21 @@ Opens depth class right_to_left old new =
     (cs : List Class) (para_level : ℕ) (qs : List ℕ) (p : ℕ) → class ≡ class_at cs p → IsSideOf class cs p right_to_left
     → Represents depth cs para_level qs old → Represents depth cs para_level (p ∷ qs) new
 
--- X2 to X5c: an initiator that is taken, by this entry
+-- X2 to X5c: a valid initiator is opened, with this entry
 abbrev pub TakesInitiator : Status → StatusStack → StatusStack → Type 0
 TakesInitiator entry old new =
     (depth : ℕ) (cs : List Class) (para_level : ℕ) (qs : List ℕ) (p : ℕ)
     → is_taken depth cs para_level p qs ≡ true → entry ≡ entry_at depth cs para_level p qs
     → Represents depth cs para_level qs old → Represents depth cs para_level (p ∷ qs) new
 
--- X2 to X5c: an initiator that is refused, of an isolate or of an embedding
+-- X2 to X5c: an overflow initiator is counted, of an isolate or of an embedding
 abbrev pub RefusesInitiator : Bool → StatusStack → StatusStack → Type 0
 RefusesInitiator is_isolate old new =
     (depth : ℕ) (cs : List Class) (para_level : ℕ) (qs : List ℕ) (p : ℕ)
     → is_taken depth cs para_level p qs ≡ false → is_isolate ≡ is_isolate_initiator (class_at cs p)
     → Represents depth cs para_level qs old → Represents depth cs para_level (p ∷ qs) new
 
--- X1: this is what holds inside the innermost initiator that was taken
+-- X1: this is the status inside the innermost valid initiator
 abbrev pub IsInnermost : StatusStack → Status → Type 0
 IsInnermost stack status =
     (depth : ℕ) (cs : List Class) (para_level : ℕ) (qs : List ℕ) → Represents depth cs para_level qs stack
@@ -60,14 +60,14 @@ GivesLeveledInside stack class leveled =
     → is_removed class ≡ false → is_separator class ≡ false → Represents depth cs para_level qs stack
     → leveled ≡ leveled_in (state_within depth cs para_level qs) para_level class
 
--- X2 to X9: where a position p of this class leaves these initiators open, this is its level and its current class, or
--- none where it is removed, and the stack is kept then of what is open after p
+-- X2 to X9: if a position p of this class leaves these initiators open, then this is its level and its current class,
+-- or none if it is removed, and the new stack represents what is open after p
 pub record IsPassed (depth : ℕ) (cs : List Class) (para_level : ℕ) (left : List ℕ) (p : ℕ) (class : Class)
     (leveled : Option (ℕ × Class)) (new : StatusStack) : Type 0 where
   pub kept : Represents depth cs para_level (opened cs p left) new
   pub found : leveled ≡ leveled_in (state_within depth cs para_level left) para_level class
 
--- X2 to X9: what a position of this class closes is closed, and what it opens is opened up to this depth
+-- X2 to X9: the position of this class closes what it closes, and opens what it opens up to this depth
 abbrev pub Passes : ℕ → ℕ → Class → Bool → Option (ℕ × Class) → StatusStack → StatusStack → Type 0
 Passes depth para_level class right_to_left leveled old new =
     (cs : List Class) (qs : List ℕ) (p : ℕ) → class ≡ class_at cs p → IsSideOf class cs p right_to_left

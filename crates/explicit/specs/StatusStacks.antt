@@ -1,4 +1,4 @@
--- What the pass keeps of the open initiators, which are lists with the innermost first.
+-- How the stack represents the open initiators, which are lists with the innermost first.
 use Rattle.std.specs.List.{list_any, suffix_len}
 use Rattle.std.specs.Prelude.{count_by, not, reverse, Option, None, Some, unwrap_or, if◌then◌else◌, ◌≡◌, ℕ, ◌+◌, ◌<◌, ◌≤◌, ◌^◌, length, cond, Bool, true, false, ◌||◌, List, [], ◌∷◌, ◌++◌, nat_lt}
 use Rattle.units.specs.Explicit.{State, chain, entered}
@@ -12,24 +12,24 @@ use Rattle.explicit.specs.declared.status.StatusStack.{StatusStack}
 abbrev pub entry_count : StatusStack → ℕ
 entry_count n = length n.entries.items
 
--- X1 to X5c: what holds inside these initiators
+-- X1 to X5c: the state inside these initiators
 abbrev pub state_within : ℕ → List Class → ℕ → List ℕ → State
 state_within depth cs para_level [] = record { level = para_level; override = None; sound = true }
 state_within depth cs para_level (q ∷ qs) = entered depth cs (state_within depth cs para_level qs) q
 
--- X2 to X5c: the initiator at q was taken, neither above this depth nor inside one that was refused
+-- X2 to X5c: the initiator at q is valid: it is not above this depth, and inside no overflow initiator
 abbrev pub is_taken : ℕ → List Class → ℕ → ℕ → List ℕ → Bool
 is_taken depth cs para_level q qs = (state_within depth cs para_level (q ∷ qs)).sound
 
--- X1: the entry that keeps this state
+-- X1: the entry for this state
 abbrev pub entry_of : State → Bool → Status
 entry_of s isolate = record { level = s.level; override_class = s.override; is_isolate = isolate }
 
--- X2 to X5c: the entry of the initiator at q, where it was taken
+-- X2 to X5c: the entry of the initiator at q, if it is valid
 abbrev pub entry_at : ℕ → List Class → ℕ → ℕ → List ℕ → Status
 entry_at depth cs para_level q qs = entry_of (state_within depth cs para_level (q ∷ qs)) (is_isolate cs q)
 
--- X1 to X5c: an entry for the paragraph and for each initiator that was taken, the outermost first
+-- X1 to X5c: an entry for the paragraph and for each valid initiator, the outermost first
 abbrev pub entries_of : ℕ → List Class → ℕ → List ℕ → List Status
 entries_of depth cs para_level [] = entry_of (state_within depth cs para_level []) false ∷ []
 entries_of depth cs para_level (q ∷ qs) =
@@ -37,19 +37,19 @@ entries_of depth cs para_level (q ∷ qs) =
     (entries_of depth cs para_level qs ++ entry_at depth cs para_level q qs ∷ [])
     (entries_of depth cs para_level qs)
 
--- X5a to X5c: how many isolates were taken (the valid isolate count)
+-- X5a to X5c: the valid isolate count
 abbrev pub taken_isolates : ℕ → List Class → ℕ → List ℕ → ℕ
 taken_isolates depth cs para_level [] = 0
 taken_isolates depth cs para_level (q ∷ qs) =
     cond (is_taken depth cs para_level q qs) (cond (is_isolate cs q) 1 0) 0 + taken_isolates depth cs para_level qs
 
--- X5a to X5c: how many isolates were refused (the overflow isolate count)
+-- X5a to X5c: the overflow isolate count
 abbrev pub refused_isolates : ℕ → List Class → ℕ → List ℕ → ℕ
 refused_isolates depth cs para_level [] = 0
 refused_isolates depth cs para_level (q ∷ qs) =
     cond (is_taken depth cs para_level q qs) 0 (cond (is_isolate cs q) 1 0) + refused_isolates depth cs para_level qs
 
--- X2 to X5: how many embeddings were refused outside of refused isolates (the overflow embedding count)
+-- X2 to X5: the overflow embedding count, which leaves out embeddings inside overflow isolates
 abbrev pub refused_embeddings : ℕ → List Class → ℕ → List ℕ → ℕ
 refused_embeddings depth cs para_level [] = 0
 refused_embeddings depth cs para_level (q ∷ qs) =
@@ -57,7 +57,7 @@ refused_embeddings depth cs para_level (q ∷ qs) =
     0 1
     + refused_embeddings depth cs para_level qs
 
--- X1 to X8: this is what the pass keeps of these initiators
+-- X1 to X8: the stack represents these initiators
 pub record Represents (depth : ℕ) (cs : List Class) (para_level : ℕ) (qs : List ℕ) (n : StatusStack) : Type 0 where
   pub entries : n.entries.items ≡ entries_of depth cs para_level qs
   pub overflow_isolates : n.overflow_isolates ≡ refused_isolates depth cs para_level qs
@@ -69,7 +69,7 @@ abbrev pub before_isolate : List Status → List Status
 before_isolate [] = []
 before_isolate (x ∷ xs) = cond (list_any (λ e. e.is_isolate) xs) (x ∷ before_isolate xs) []
 
--- X1: this is what the pass keeps of some initiators, at a depth that is allowed, not too many for the counts
+-- X1: the stack represents some initiators, at an allowed depth, and not too many for the counts
 pub record IsReachedStack (n : StatusStack) : Type 0 where
   pub depth : ℕ
   pub classes : List Class
@@ -84,16 +84,16 @@ pub record IsReachedStack (n : StatusStack) : Type 0 where
 abbrev pub is_ordinary : Class → Bool
 is_ordinary c = not (is_initiator c || (is_pdi c || (is_removed c || is_separator c)))
 
--- X5a to X9: the level and the current class of a position of this class in this state, or none where it is removed
+-- X5a to X9: the level and the current class of a position of this class in this state, or none if it is removed
 abbrev pub leveled_in : State → ℕ → Class → Option (ℕ × Class)
 leveled_in s para_level own =
     if is_removed own then None
     else if is_separator own then Some (para_level, own)
     else Some (s.level, unwrap_or s.override own)
 
--- X1 to X5c: the refused initiators stand inside all that were taken; the entries are those of the paragraph and of
--- each that was taken; the three counts are of the refused isolates, of the refused embeddings outside of these, and of
--- the taken isolates
+-- X1 to X5c: the overflow initiators are inside all valid ones, and the entries are those of the paragraph and of each
+-- valid initiator. The three counts count the overflow isolates, the overflow embeddings outside of these, and the
+-- valid isolates.
 pub record IsRefusedTail (depth : ℕ) (cs : List Class) (para_level : ℕ) (refused taken : List ℕ) : Type 0 where
   pub sound : (state_within depth cs para_level taken).sound ≡ true
   pub entries : entries_of depth cs para_level (refused ++ taken) ≡ entries_of depth cs para_level taken
@@ -103,7 +103,7 @@ pub record IsRefusedTail (depth : ℕ) (cs : List Class) (para_level : ℕ) (ref
       ≡ suffix_len (λ q. not (is_isolate cs q)) refused
   pub valid_isolates : taken_isolates depth cs para_level (refused ++ taken) ≡ count_by (is_isolate cs) taken
 
--- X1: the initiators that hold p, the outermost first, are those that were taken and then those that were refused
+-- X1: the initiators around p, the outermost first, are first the valid ones and then the overflow ones
 abbrev pub EndsInRefused : ℕ → List Class → ℕ → ℕ → Type 0
 EndsInRefused depth cs para_level p =
     (refused : List ℕ) × (taken : List ℕ)

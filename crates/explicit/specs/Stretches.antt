@@ -1,18 +1,18 @@
--- What the walks over a paragraph pass at once: positions that follow one another, and what is written to them.
+-- Stretches: successive positions that a pass handles at once, and the values that it writes to them.
 use Rattle.std.specs.Prelude.{◌≡◌, ℕ, ◌<◌, ◌≤◌, Bool, true, false, ◌&&◌, if◌then◌else◌, nat_le, nat_lt, List, length, map, Option, None, Some, unwrap_or, slice_index_or}
 use Rattle.units.specs.Classes.{class_at}
 use Rattle.units.specs.Positions.{positions_of}
 use Rattle.units.specs.declared.class.Class.{Class}
 use Rattle.explicit.specs.declared.status.Status.{Status}
 
--- each position from this one on passes the test, before the first one whose class does not, or the end
+-- each position from this one on, before the end, passes the test; the end is the paragraph's, or the class there fails
 pub record IsStretch (test : Class → Bool) (cs : List Class) (from end : ℕ) : Type 0 where
   pub later : from ≤ end
   pub within : end ≤ length cs
   pub passed : (p : ℕ) → from ≤ p → p < end → test (class_at cs p) ≡ true
   pub longest : end < length cs → test (class_at cs end) ≡ false
 
--- X5a to X6a: where this status holds, the level and the current class of a position of this class, which is neither
+-- X5a to X6a: the level and the current class of a position of this class inside this status, if the class is neither
 -- removed nor a separator
 abbrev pub leveled_by_status : Status → Class → ℕ × Class
 leveled_by_status status class = (status.level, unwrap_or status.override_class class)
@@ -22,6 +22,6 @@ abbrev pub with_stretch : {X : Type 0} → ℕ → ℕ → (ℕ → Option X) �
 with_stretch from end value xs =
     map (λ p. if nat_le from p && nat_lt p end then value p else slice_index_or xs p None) (positions_of xs)
 
--- the explicit levels and classes, with those by this status at the positions from this one on, before the end
+-- the explicit levels and classes, with those of this status at the positions from this one on, before the end
 abbrev pub with_leveled : Status → List Class → ℕ → ℕ → List (Option (ℕ × Class)) → List (Option (ℕ × Class))
 with_leveled status cs from end explicit = with_stretch from end (λ p. Some (leveled_by_status status (class_at cs p))) explicit

@@ -1,4 +1,4 @@
-//! The cutting of a text into its paragraphs (P1).
+//! Cuts a text into its paragraphs (P1).
 ghost use Rattle.std.specs.Prelude.{◌≡◌, ◌≤◌, ◌↔◌, List, length, position};
 ghost use Rattle.std.specs.Iterator.{YieldsFirstRef, item_count};
 ghost use Rattle.units.specs.Classes.{is_separator};
@@ -9,7 +9,7 @@ ghost use Rattle.explicit.specs.FirstParagraph.{first_length};
 use std::marker::Model;
 use units::bracket::Unit;
 
-/// The paragraphs of a text that are still to come, in order. Contracts see the list of them.
+/// The paragraphs of a text that are still to come, in order. Contracts see the list of these paragraphs.
 #[derive(Drop)]
 pub struct Paragraphs<'a> {
     rest: &'a [Unit],
@@ -26,7 +26,6 @@ impl<'a> Model for Paragraphs<'a> {
 }
 
 impl<'a> Paragraphs<'a> {
-    // The paragraphs of this text.
     #[tactic(auto, using(crate::proofs::LevelsFound::OneCutting::no_more_paragraphs))]
     pub(crate) fn new(text: &'a [Unit]) -> Paragraphs<'a>
         ensures pieces { result ≡ paragraphs_of text.now }
@@ -36,21 +35,19 @@ impl<'a> Paragraphs<'a> {
     }
 }
 
-/// A text has one cutting into pieces that are not empty, have a unit of class B in last place alone, and end
-/// with one where another follows (P1).
+/// A text is cut into paragraphs in exactly one way (P1). No piece is empty, a unit of class B can only be the last one
+/// of a piece, and every piece but the last one ends with such a unit.
 pub fn one_cutting()
     ensures { (text : List BidiUnit) (pieces : List (List BidiUnit))
         → IsCutting text pieces ↔ (pieces ≡ paragraphs_of text) }
 {}
 
-// Where the first separator stands.
 fn first_separator(text: &[Unit]) -> Option<usize>
     ensures { result ≡ position (λ unit. is_separator unit.class) text.now }
 {
     text.iter().position(|unit| unit.class.is_separator())
 }
 
-// The length of the first paragraph.
 fn first_length(text: &[Unit]) -> usize
     ensures value { result ≡ first_length text.now }
     ensures within { result ≤ length text.now }

@@ -12,9 +12,10 @@ ghost use Rattle.explicit.specs.FlatLaws.{HasOneSequence, ResolvesAsOne, HasIdle
 ghost use Rattle.units.specs.Runs.{SequenceView};
 ghost use Rattle.explicit.specs.IdleRules.{HasNoOpening};
 
-/// A paragraph without initiators: the first strong class gives its level (P2, P3),
-/// its positions that remain (X9) are one sequence at that level (X1 to X10),
-/// and the levels of that sequence, by the own classes, are those of the paragraph (W1 to I2). By all limits.
+/// For a paragraph without initiators, under all limits:
+/// - the first strong class gives its level (P2, P3);
+/// - the positions that remain (X9) are one sequence at that level (X1 to X10);
+/// - the levels of that sequence, computed from the own classes, are those of the paragraph (W1 to I2).
 pub fn flat_paragraphs()
     ensures para_level { (cs : List Class) (direction : Direction) → IsFlat cs
         → para_level_of cs direction ≡ flat_para_level cs direction }
@@ -24,15 +25,14 @@ pub fn flat_paragraphs()
         → ResolvesAsOne limits us para_level }
 {}
 
-/// N0 without an opening bracket in the paragraph changes nothing, however many brackets can be open.
+/// N0 changes nothing in a paragraph without an opening bracket, however many brackets can be open.
 pub fn idle_brackets()
     ensures { (most_open : ℕ) (s : SequenceView) (us : List BidiUnit) → HasNoOpening us
         → HasIdleBrackets most_open s us }
 {}
 
-/// A paragraph without initiators keeps its level at every position that remains (X9),
-/// if it stands at an even level and has no R, AL and AN, or at an odd one and has no L, EN and AN (W1 to I2).
-/// By all limits.
+/// A paragraph without initiators keeps its level at every position that remains (X9), under all limits, if its level
+/// is even and it has no R, AL and AN, or if its level is odd and it has no L, EN and AN (W1 to I2).
 pub fn uniform_paragraphs()
     ensures { (limits : LimitsOf) (us : List BidiUnit) (para_level : ℕ) → IsUniform us para_level
         → KeepsItsLevel limits us para_level }

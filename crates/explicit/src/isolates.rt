@@ -1,4 +1,4 @@
-//! The isolates of a paragraph (BD9), and on which side each begins (P2, P3).
+//! The isolates of a paragraph (BD9), and the side of each isolate's first strong class (P2, P3).
 ghost use Rattle.std.specs.Prelude.{◌≡◌, ◌+◌, ◌-◌, ◌<◌, ◌≤◌, ℕ, true, false, length, List, Option, None, IfOk, IfSome, IsNone, slice_index_or};
 ghost use Rattle.units.specs.Classes.{class_at, classes_of, is_isolate_initiator, is_isolate_formatting};
 ghost use Rattle.units.specs.Isolates.{partner_of, first_strong};
@@ -19,13 +19,14 @@ use units::optional_position::OptionalPosition;
 use units::steps::Steps;
 
 /// The isolates of a paragraph: the partner of each isolate initiator and of each PDI, and whether the first strong
-/// class directly inside each isolate, and outside of all, is R or AL. Its room is made once and filled in place.
+/// class directly inside each isolate, and outside of all isolates, is R or AL. The memory is allocated once and filled
+/// in place.
 #[derive(Drop)]
 pub struct IsolateMap {
     partners: BoxedSlice<OptionalPosition>,
-    // The stack of open initiators, in use while partners are matched.
+    // The stack of open initiators, used while partners are matched.
     openers: BoxedSlice<u32>,
-    // At each initiator, what the first strong class directly inside its isolate is; stale at all other positions.
+    // At each initiator, the side of the first strong class directly inside its isolate; stale at all other positions.
     sides: BoxedSlice<Side>,
     outside: Side,
 }
@@ -43,8 +44,9 @@ impl Model for IsolateMap {
 }
 
 impl IsolateMap {
-    /// Room for paragraphs of at most `n` units. `Memory` where the room is refused, and for 2^32 - 1 units and more,
-    /// which positions of four bytes can't count and whose room is not even asked for.
+    /// Allocates memory for paragraphs of at most `n` units. Fails with `Memory` if there isn't enough memory. Also
+    /// fails with `Memory` if `n` is 2^32 - 1 or more, which positions of four bytes can't count; then nothing is
+    /// allocated.
     pub fn with_room(alloc: Global, n: usize) -> Result<IsolateMap, Memory>
         ensures { IfOk result (λ map. room map ≡ n) }
     {
@@ -62,7 +64,7 @@ impl IsolateMap {
         })
     }
 
-    /// Finds the isolates of a paragraph for which there is room. What was found of an earlier one is gone.
+    /// Finds the isolates of a paragraph within the capacity. The isolates of an earlier paragraph are overwritten.
     pub fn fill<L: Ledger>(&mut self, para: &[Unit], steps: &mut Steps<L>)
         requires { length para.now ≤ room self.old }
         ensures same_room { room self.new ≡ room self.old }
@@ -78,8 +80,8 @@ impl IsolateMap {
         );
     }
 
-    /// BD9: the PDI that matches the isolate initiator at the position `p`, the isolate initiator that the PDI at `p`
-    /// matches, and none for all else. `p` is a position of the paragraph that the map was filled from.
+    /// Returns the PDI that matches the isolate initiator at the position `p`, or the isolate initiator that matches
+    /// the PDI at `p`, or none (BD9). `p` is a position of the paragraph that the map was filled from.
     pub fn partner(&self, p: usize) -> Option<usize>
         requires { p < room self.now }
         ensures kept { result ≡ slice_index_or self.now.partners p None }
@@ -88,7 +90,7 @@ impl IsolateMap {
         self.partners[p].get()
     }
 
-    // P2, P3: whether the first strong class directly inside the isolate that begins at p is R or AL.
+    // P2, P3: returns whether the first strong class directly inside the isolate that begins at `p` is R or AL.
     pub(crate) fn is_right_to_left(&self, p: usize) -> bool
         requires { p < room self.now }
         ensures { IsSideInside self.now p result }
@@ -96,7 +98,7 @@ impl IsolateMap {
         self.sides[p].is_right_to_left()
     }
 
-    // P2, P3: the side of the first strong class outside of all isolates.
+    // P2, P3: returns the side of the first strong class outside of all isolates.
     pub(crate) fn outside(&self) -> Side
         ensures { result ≡ self.now.outside }
     {
@@ -104,8 +106,8 @@ impl IsolateMap {
     }
 }
 
-// P2: notes a strong class of the innermost isolate that is open, or of what lies outside of all. Answers the side
-// outside.
+// P2: notes a strong class for the innermost open isolate, or for the outside if no isolate is open. Returns the side
+// outside of all isolates.
 fn note_strong(
     class: Class,
     openers: &[u32],
@@ -127,14 +129,13 @@ fn note_strong(
     outside
 }
 
-// LRI, RLI, FSI and PDI.
 fn is_isolate_formatting(class: Class) -> bool
     ensures { result ≡ is_isolate_formatting class }
 {
     matches!(class, Class::LRI | Class::RLI | Class::FSI | Class::PDI)
 }
 
-// Whether an isolate begins or ends at this position.
+// Returns whether an isolate begins or ends at this position.
 fn is_formatting_at(para: &[Unit], p: usize) -> bool
     requires { p < length para.now }
     ensures { result ≡ is_isolate_formatting (class_at (classes_of para.now) p) }
@@ -142,7 +143,7 @@ fn is_formatting_at(para: &[Unit], p: usize) -> bool
     is_isolate_formatting(para[p].class)
 }
 
-// Whether an isolate begins or ends at this position or at one of the three behind it.
+// Returns whether an isolate begins or ends at this position or at one of the three after it.
 fn is_formatting_in_four(para: &[Unit], p: usize) -> bool
     requires { p + 4 ≤ length para.now }
     ensures { result ≡ false → HasNoFormatting (classes_of para.now) p (p + 4) }
@@ -153,14 +154,15 @@ fn is_formatting_in_four(para: &[Unit], p: usize) -> bool
         | is_formatting_at(para, p + 3)
 }
 
-// Whether a walk over isolates passes a class: no isolate begins or ends there, and it is no strong one that is sought.
+// Returns whether the pass over isolates skips a class: no isolate begins or ends there, and the class is not strong if
+// the pass looks for a strong class.
 fn is_passed(class: Class, sought: bool) -> bool
     ensures { result ≡ is_passed sought class }
 {
     !(is_isolate_formatting(class) || sought && class.is_strong())
 }
 
-// Writes that the positions from `from` on, before `end`, have no partners. Each is a step.
+// Removes the partners of the positions from `from` on, before `end`. Each is a step.
 fn clear<L: Ledger>(
     partners: &mut [OptionalPosition],
     from: usize,
@@ -178,8 +180,8 @@ fn clear<L: Ledger>(
     }
 }
 
-// Passes positions from this one on at which no isolate begins or ends, four at a time, where no strong class is
-// sought, and writes that they have no partners. Answers the position behind them. Each is a step.
+// If the pass looks for no strong class, skips positions from `from` on at which no isolate begins or ends, four at a
+// time, and removes their partners. Returns the position after them. Each skipped position is a step.
 fn pass_fours<L: Ledger>(
     para: &[Unit],
     from: usize,
@@ -204,8 +206,8 @@ fn pass_fours<L: Ledger>(
     p
 }
 
-// The next position, from this one on, at which an isolate begins or ends, or a strong class stands if one is `sought`.
-// Writes that it and what is passed have no partners. Each position that is looked at is a step.
+// Returns the next position, from `from` on, at which an isolate begins or ends, or at which there is a strong class if
+// `sought`. Removes the partners of this position and of those before it. Each of these positions is a step.
 fn next_stop<L: Ledger>(
     para: &[Unit],
     from: usize,
@@ -233,9 +235,9 @@ fn next_stop<L: Ledger>(
     None
 }
 
-// BD9, P2, P3: matches each PDI with the last open initiator, and notes the first strong class of each isolate.
-// Writes the partners of all positions and the sides of all initiators, and answers the side outside of all isolates.
-// A strong class is sought again behind each isolate initiator and each PDI.
+// BD9, P2, P3: matches each PDI with the last open initiator, and notes the first strong class of each isolate. Writes
+// the partners of all positions and the sides of all initiators, and returns the side outside of all isolates. After
+// each isolate initiator and each PDI the pass looks for a strong class again.
 fn match_partners<L: Ledger>(
     para: &[Unit],
     partners: &mut [OptionalPosition],

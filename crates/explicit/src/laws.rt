@@ -1,4 +1,4 @@
-//! Laws of isolates and of explicit levels, for the layers above.
+//! Theorems about isolates and explicit levels, for the crates that use this one.
 ghost use Rattle.std.specs.Prelude.{◌≡◌, ◌<◌, ◌≤◌, ◌⊎◌, ℕ, true, false, List, Some, is_none};
 ghost use Rattle.units.specs.Classes.{class_at, classes_of, is_removed};
 ghost use Rattle.units.specs.Explicit.{explicit_at, next_even, next_odd, wanted_level, wants_odd};
@@ -13,7 +13,8 @@ ghost use Rattle.explicit.specs.Laws.{EntriesAreFew, HasNoLevelAboveDepth, HaveO
 ghost use Rattle.explicit.specs.StatusStacks.{EndsInRefused};
 ghost use Rattle.explicit.specs.WantedLevels.{IsLeastAbove};
 
-/// Isolates nest or are apart (BD9): the one that begins later lies within the other, or no position lies in both.
+/// Isolates nest or are apart (BD9): the isolate that begins later lies within the other one, or no position lies in
+/// both.
 pub fn isolates_nest()
     ensures { (cs : List Class) (outer inner : ℕ) → outer < inner → IsWithin cs inner outer ⊎ AreApart cs inner outer }
 {}
@@ -24,7 +25,7 @@ pub fn levels_are_bounded()
         → para_level ≤ depth → HasNoLevelAboveDepth depth cs para_level p }
 {}
 
-/// A position has no explicit level exactly where it is removed (X9).
+/// A position has no explicit level exactly if it is removed (X9).
 pub fn removed_have_no_level()
     ensures { (depth : ℕ) (cs : List Class) (para_level p : ℕ)
         → is_none (explicit_at depth cs para_level p) ≡ is_removed (class_at cs p) }
@@ -36,8 +37,8 @@ pub fn matched_levels_are_equal()
         → HaveOneLevel depth cs para_level i j }
 {}
 
-/// The level that an initiator asks for is the least odd level above the one that it stands at, or the least even one
-/// (X2 to X5c): it is above and of that parity, and no lesser level is both.
+/// An initiator asks for the least odd level above the one that it is at, or for the least even one (X2 to X5c). That
+/// level is above and has the parity, and no smaller level has both properties.
 pub fn wanted_levels_are_least()
     ensures odd { (level : ℕ) → IsLeastAbove level true (next_odd level) }
     ensures even { (level : ℕ) → IsLeastAbove level false (next_even level) }
@@ -46,7 +47,7 @@ pub fn wanted_levels_are_least()
 {}
 
 /// The stack of directional statuses never has more than depth + 1 entries, whichever initiators are open, if the
-/// paragraph's level isn't above the depth: of the max_depth + 2 that X1 makes room for, one is never used.
+/// paragraph's level isn't above the depth. X1 asks for space for max_depth + 2 entries; one of these is never used.
 pub fn entries_are_few()
     ensures defined { (depth : ℕ) (cs : List Class) (para_level : ℕ) (qs : List ℕ) → para_level ≤ depth
         → EntriesAreFew depth cs para_level qs }
@@ -54,21 +55,23 @@ pub fn entries_are_few()
         → StacksAreShallow depth cs para_level }
 {}
 
-/// The initiators around a position that were refused are a tail of its chain, and the three counts of X1 are those of
-/// the isolates in that tail, of the embeddings in it before its first isolate, and of the isolates before it.
+/// The overflow initiators around a position are a tail of its chain. The overflow isolate count of X1 counts the
+/// isolates in that tail, the overflow embedding count its embeddings before its first isolate, and the valid isolate
+/// count the isolates before the tail.
 pub fn refused_are_a_tail()
     ensures { (depth : ℕ) (cs : List Class) (para_level p : ℕ) → EndsInRefused depth cs para_level p }
 {}
 
-/// What isolating run sequences need of the levels and the matching PDIs of a list of classes, at each depth that is
-/// allowed: levels up to 125, and that a matching PDI comes later (X1 to X9, BD9).
+/// The levels and the matching PDIs of a list of classes have the properties that isolating run sequences need, at each
+/// allowed depth: no level is above 125, and a matching PDI comes after its initiator (X1 to X9, BD9).
 pub fn explicit_is_leveled()
     ensures { (depth : ℕ) (cs : List Class) (para_level : ℕ)
         → depth ≤ 125 → para_level ≤ 1 → IsLeveled (leveled_of depth cs para_level) }
 {}
 
-/// What isolating run sequences need of the isolates of a paragraph: a matched initiator and its PDI are at one level,
-/// no other initiator has that PDI, and what remains between them is all at that level or not at all (X1 to X9, BD9).
+/// The isolates of a paragraph have the properties that isolating run sequences need. A matched initiator and its PDI
+/// are at one level, no other initiator has that PDI, and if anything that remains between the two is at that level,
+/// then all of it is (X1 to X9, BD9).
 pub fn explicit_is_nested()
     ensures { (depth : ℕ) (units : List BidiUnit) (para_level : ℕ)
         → SeparatorOnlyLast units → IsNested (leveled_of depth (classes_of units) para_level) }

@@ -1,4 +1,4 @@
-//! What is found of one position by X1 to X9.
+//! The explicit level and the current class of one position (X1 to X9).
 ghost use Rattle.std.specs.Prelude.{◌≡◌, None, Some};
 ghost use Rattle.std.specs.Option.{option_map, option_map_or};
 ghost use Rattle.units.specs.Runs.{at_one_level};
@@ -8,11 +8,11 @@ use std::marker::Model;
 use units::class::Class;
 use units::level::Level;
 
-/// The number that stands for no level.
+/// Encodes that there is no level.
 const NO_LEVEL: u8 = 127;
 
-/// The explicit level and the current class of a position, or none where X9 removes it, in two bytes. Where there is
-/// none, the class is BN. Contracts see an `Option`.
+/// The explicit level and the current class of a position, or none if X9 removes it, in two bytes. If there is none,
+/// the class is BN. Contracts see an `Option`.
 #[derive(Clone, Copy)]
 pub struct LeveledClass {
     number: u8,
@@ -34,7 +34,7 @@ impl Model for LeveledClass {
 }
 
 impl LeveledClass {
-    /// None.
+    /// Returns none, for a position that X9 removes.
     pub fn none() -> LeveledClass
         ensures { result ≡ None }
     {
@@ -44,7 +44,7 @@ impl LeveledClass {
         }
     }
 
-    /// This level and this class.
+    /// Returns this level and this class.
     pub fn some(level: Level, class: Class) -> LeveledClass
         ensures { result ≡ Some (level, class) }
     {
@@ -54,7 +54,7 @@ impl LeveledClass {
         }
     }
 
-    /// This level and this class, or none.
+    /// Returns this level and this class, or none.
     pub fn new(leveled: Option<(Level, Class)>) -> LeveledClass
         ensures { result ≡ leveled }
     {
@@ -64,14 +64,14 @@ impl LeveledClass {
         }
     }
 
-    /// The level, if there is one.
+    /// Returns the level, if there is one.
     pub fn level(self) -> Option<Level>
         ensures { result ≡ option_map (λ leveled. leveled.0) self }
     {
         Level::new(self.number)
     }
 
-    /// Whether there is this level.
+    /// Returns whether there is a level and it is this one.
     pub fn is_at(self, level: Level) -> bool
         ensures { result ≡ at_one_level (option_map (λ leveled. leveled.0) self) (Some level) }
     {
@@ -79,14 +79,14 @@ impl LeveledClass {
         self.number == number
     }
 
-    /// The class, BN where there is none.
+    /// Returns the class, or BN if there is none.
     pub fn class(self) -> Class
         ensures { result ≡ option_map_or (λ leveled. leveled.1) self BN }
     {
         self.class
     }
 
-    /// The level and the class, if there are any.
+    /// Returns the level and the class, if there are any.
     pub fn get(self) -> Option<(Level, Class)>
         ensures { result ≡ self }
     {

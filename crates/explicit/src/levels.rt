@@ -24,9 +24,9 @@ use units::limits::Limits;
 use units::memory::Memory;
 use units::steps::Steps;
 
-/// The explicit level and the current class of each position of a paragraph, or none where X9 removes it. Its room is
-/// made once and filled in place. Contracts see the list of all room. Beside it stands the stack of directional
-/// statuses, which is empty between calls.
+/// The explicit level and the current class of each position of a paragraph, or none if X9 removes the position. The
+/// memory is allocated once and filled in place. Contracts see the list for the whole capacity. The value also owns the
+/// stack of directional statuses, which is empty between calls.
 #[derive(Drop)]
 pub struct Explicit {
     column: BoxedSlice<LeveledClass>,
@@ -47,8 +47,8 @@ impl Model for Explicit {
 }
 
 impl Explicit {
-    /// Room for paragraphs of at most `n` units. `Memory` where the room is refused, and for 2^32 - 1 units and more,
-    /// as by `IsolateMap::with_room`.
+    /// Allocates memory for paragraphs of at most `n` units. Fails with `Memory` if there isn't enough memory, or if
+    /// `n` is 2^32 - 1 or more, like `IsolateMap::with_room`.
     pub fn with_room(alloc: Global, n: usize) -> Result<Explicit, Memory>
         ensures { IfOk result (λ explicit. length explicit ≡ n) }
     {
@@ -62,8 +62,8 @@ impl Explicit {
         })
     }
 
-    /// X1 to X9: the explicit level, 0 to the depth that it was filled with, and the current class of the position `p`,
-    /// or none where it is removed. `p` is a position of the paragraph that was filled from.
+    /// Returns the explicit level of the position `p`, 0 to the depth of the last call that filled this value, and its
+    /// current class, or none if it is removed (X1 to X9). `p` is a position of the paragraph of that call.
     pub fn at(&self, p: usize) -> Option<(Level, Class)>
         requires { p < length self.now }
         ensures kept { result ≡ slice_index_or self.now p None }
@@ -73,16 +73,16 @@ impl Explicit {
         self.column[p].get()
     }
 
-    /// X1 to X9: all room, as contracts see it: the explicit level and the current class of each position of the
-    /// paragraph that was filled from, or none where it is removed.
+    /// Returns the whole column, as contracts see it: the explicit level and the current class of each position of the
+    /// paragraph that it was filled from, or none if the position is removed (X1 to X9).
     pub fn column(&self) -> &[LeveledClass]
         ensures { result.now ≡ self.now }
     {
         &self.column
     }
 
-    /// X1 to X9: the current class of the position `p`, BN where it is removed. `p` is a position of the paragraph that
-    /// was filled from.
+    /// Returns the current class of the position `p`, or BN if it is removed (X1 to X9). `p` is a position of the
+    /// paragraph that the column was filled from.
     pub fn class_at(&self, p: usize) -> Class
         requires { p < length self.now }
         ensures { result ≡ option_map_or (λ x. x.1) (slice_index_or self.now p None) BN }
@@ -91,8 +91,8 @@ impl Explicit {
     }
 }
 
-// X5a to X6a: writes the level and the class of each position from this one on, inside this status, up to the next one
-// whose class is not ordinary, or to the end. Answers that position. Each that is written is a step.
+// X5a to X6a: writes the level and the class of the positions from `from` on, inside this status, before the next
+// position whose class is not ordinary, or the end. Returns that position. Each written position is a step.
 fn level_ordinary<L: Ledger>(
     para: &[Unit],
     from: usize,
@@ -116,8 +116,8 @@ fn level_ordinary<L: Ledger>(
     p
 }
 
-// X1 to X9: finds the level and the current class of each position, of those at once that have ordinary classes and
-// follow one another, and of each other one by what its class closes and opens. The stack is empty before and after.
+// X1 to X9: finds the level and the current class of each position. Successive positions of ordinary classes are
+// written at once; each other position opens and closes what its class says. The stack is empty before and after.
 fn find_explicit<L: Ledger>(
     para: &[Unit],
     map: &IsolateMap,
@@ -153,10 +153,10 @@ fn find_explicit<L: Ledger>(
     stack.clear(steps);
 }
 
-/// X1 to X9: finds the explicit levels, up to the depth of these limits (BD2), and the current classes of a paragraph
-/// of this level, for which `out` has room and from which `map` was filled. What was found of an earlier one is gone.
-/// Each position is a step, each stretch of ordinary classes that follow one another is one more, and so is each entry
-/// of the stack (X1) that a PDI or the paragraph's end drops.
+/// Finds the explicit levels and the current classes of a paragraph of this level, up to the depth of the limits (X1 to
+/// X9, BD2). `out` has capacity for the paragraph, and `map` was filled from it. The levels of an earlier paragraph are
+/// overwritten. Each position is a step. So is each stretch of successive ordinary classes, and each entry of the stack
+/// (X1) that a PDI or the paragraph's end drops.
 pub fn explicit_levels<L: Ledger>(
     para: &[Unit],
     map: &IsolateMap,

@@ -18,8 +18,8 @@ mod status;
 use cutting::Paragraphs;
 use units::bracket::Unit;
 
-/// Cuts a text into its paragraphs (P1), in order: each is a piece of the text, has its only unit of class B in
-/// last place, and only the last may have none. Nothing is copied.
+/// Cuts a text into its paragraphs (P1), in order. Each paragraph is a piece of the text, its only unit of class B is
+/// the last one, and only the last paragraph may have none. Nothing is copied.
 pub fn paragraphs(text: &[Unit]) -> Paragraphs<'_>
     ensures pieces { result ≡ paragraphs_of text.now }
     ensures no_more { length result ≤ length text.now }

@@ -12,7 +12,7 @@ use units::bracket::Unit;
 use units::level::{Direction, ParaLevel};
 use units::steps::Steps;
 
-/// P3: the level that the side of the first strong class gives, or this one, where there is none.
+/// P3: returns the level of the side of the first strong class, or `otherwise` if there is no strong class.
 fn level_by(side: Side, otherwise: ParaLevel) -> ParaLevel
     ensures { level_of_para result ≡ level_by_side side (level_of_para otherwise) }
 {
@@ -23,9 +23,9 @@ fn level_by(side: Side, otherwise: ParaLevel) -> ParaLevel
     }
 }
 
-/// P3: the level of a paragraph under a direction, by the side of its first strong class outside of all isolates (P2):
-/// 1 where that is R or AL, 0 where it is L, and where there is none 0 under `Auto` and 1 under `AutoRtl`; `Ltr` asks
-/// for 0 and `Rtl` for 1.
+/// Returns the level of a paragraph under a direction, from the side of its first strong class outside of all isolates
+/// (P2, P3). `Auto` and `AutoRtl` give 1 if that class is R or AL and 0 if it is L. If there is none, `Auto` gives 0
+/// and `AutoRtl` gives 1. `Ltr` always gives 0 and `Rtl` 1.
 pub fn level_under(direction: Direction, side: Side) -> ParaLevel
     ensures { level_of_para result ≡ level_under direction side }
 {
@@ -37,8 +37,8 @@ pub fn level_under(direction: Direction, side: Side) -> ParaLevel
     }
 }
 
-/// The level of a paragraph under a direction (P2, P3). `map` was filled from the paragraph, and knows its first
-/// strong class outside of all isolates: no step is taken.
+/// Returns the level of a paragraph under a direction (P2, P3). `map` was filled from the paragraph, so the side of its
+/// first strong class outside of all isolates is known already, and no step is taken.
 pub fn para_level<L: Ledger>(
     para: &[Unit],
     map: &IsolateMap,

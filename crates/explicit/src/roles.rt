@@ -1,4 +1,4 @@
-//! What a class opens or closes (X2 to X6): which classes open and close nothing, and what an initiator asks for.
+//! What a class opens or closes (X2 to X6), and the level that an initiator asks for.
 ghost use Rattle.std.specs.Prelude.{◌≡◌, ◌≤◌, ◌+◌, if◌then◌else◌};
 ghost use Rattle.units.specs.Explicit.{next_odd, next_even, override_of};
 ghost use Rattle.explicit.specs.StatusStacks.{is_ordinary};
@@ -7,7 +7,7 @@ ghost use Rattle.explicit.specs.WantedLevels.{IsOddWanted};
 use units::class::Class;
 use units::level::Level;
 
-/// X6: a class that neither begins nor ends anything, and isn't removed.
+/// Returns whether the class begins and ends nothing and isn't removed (X6).
 pub(crate) fn is_ordinary(class: Class) -> bool
     ensures { result ≡ is_ordinary class }
 {
@@ -28,7 +28,7 @@ pub(crate) fn is_ordinary(class: Class) -> bool
     )
 }
 
-/// X2 to X5c: how far the least odd or the least even level above this one is.
+/// Returns how far the least odd or the least even level above this one is (X2 to X5c).
 pub(crate) fn rise(level: Level, odd: bool) -> u8
     ensures value { level + result ≡ (if odd then next_odd level else next_even level) }
     ensures small { result ≤ 2 }
@@ -40,7 +40,8 @@ pub(crate) fn rise(level: Level, odd: bool) -> u8
     }
 }
 
-/// X2, X4, X5a, X5c: whether an initiator asks for an odd level; an FSI does where what it holds begins right to left.
+/// Returns whether an initiator asks for an odd level (X2, X4, X5a, X5c). An FSI does if its content begins right to
+/// left.
 pub(crate) fn asks_odd(class: Class, right_to_left: bool) -> bool
     ensures { IsOddWanted class right_to_left result }
 {
@@ -51,7 +52,7 @@ pub(crate) fn asks_odd(class: Class, right_to_left: bool) -> bool
     }
 }
 
-/// X4, X5: the class that an initiator gives to what it holds.
+/// Returns the class that an initiator gives to its content (X4, X5).
 pub(crate) fn overridden_by(class: Class) -> Option<Class>
     ensures { result ≡ override_of class }
 {

@@ -4,7 +4,7 @@ ghost use Rattle.explicit.specs.Sides.{noted, found_right_to_left};
 
 use units::class::Class;
 
-/// Whether the first strong class is L, or R or AL, or none was found.
+/// The side of the first strong class: L, or R or AL, or unknown if there is no strong class so far.
 #[derive(Clone, Copy, Debug, PartialEq, Eq)]
 pub enum Side {
     Unknown,
@@ -13,7 +13,7 @@ pub enum Side {
 }
 
 impl Side {
-    /// What was found, or the side of this strong class where nothing was.
+    /// Returns this side, or the side of this strong class if this one is unknown.
     pub fn noting(self, class: Class) -> Side
         ensures { result ≡ noted self class }
     {
@@ -24,7 +24,7 @@ impl Side {
         }
     }
 
-    /// R or AL was found.
+    /// Returns whether the first strong class is R or AL.
     pub fn is_right_to_left(self) -> bool
         ensures { result ≡ found_right_to_left self }
     {

@@ -1,4 +1,4 @@
-//! The initiators that are open, as one pass over a paragraph keeps them (X1 to X8).
+//! The stack of directional statuses, and one pass over a paragraph that maintains it (X1 to X8).
 ghost use Rattle.std.specs.Prelude.{◌≡◌, ◌<◌, ◌≤◌, ◌+◌, ◌-◌, ◌==◌, ◌&&◌, true, false, ℕ, List, [], Some, None, slice_index_or};
 ghost use Rattle.units.specs.Classes.{is_isolate_initiator};
 ghost use Rattle.units.specs.declared.class.Class.{Class};
@@ -15,7 +15,7 @@ use units::class::Class;
 use units::level::{Level, ParaLevel};
 use units::steps::Steps;
 
-/// X1: what holds inside an initiator that was taken (a directional status).
+/// A directional status (X1): what applies inside a valid initiator.
 #[derive(Clone, Copy, Debug, PartialEq, Eq)]
 pub struct Status {
     pub level: Level,
@@ -24,8 +24,8 @@ pub struct Status {
 }
 
 impl Status {
-    /// X5a to X6a: where this holds, the level and the current class of a position of this class, which is neither
-    /// removed nor a separator.
+    /// Returns the level and the current class of a position of this class inside this status (X5a to X6a). The class
+    /// is neither removed nor a separator.
     pub fn leveled(&self, class: Class) -> (Level, Class)
         ensures { result ≡ leveled_by_status self.now class }
     {
@@ -33,7 +33,7 @@ impl Status {
     }
 }
 
-// X1: what holds in a paragraph of level 0 before any initiator.
+// X1: the status of a paragraph of level 0 before any initiator.
 impl Default for Status {
     ghost is_default = { λ status. status ≡ record { level = 0; override_class = None; is_isolate = false } };
 
@@ -46,10 +46,10 @@ impl Default for Status {
     }
 }
 
-/// X1: the stack of directional statuses, one for the paragraph and one for each open initiator that was taken, and
-/// the counts of overflow isolates, of overflow embeddings and of the open isolates that were taken. A level rises
-/// with each entry from 0 or 1 to at most 125, the greatest depth that is allowed, so 126 entries are the most. Its
-/// room is made once, for each depth.
+/// The stack of directional statuses (X1): one entry for the paragraph and one for each open valid initiator, and the
+/// counts of overflow isolates, of overflow embeddings and of valid isolates. Each entry has a higher level than the
+/// one before it, from 0 or 1 to at most 125, the greatest allowed depth, so there are at most 126 entries. The
+/// capacity is fixed and enough for every depth.
 #[derive(Drop)]
 pub struct StatusStack {
     entries: ArrayVec<Status, 127>,
@@ -59,7 +59,7 @@ pub struct StatusStack {
 }
 
 impl StatusStack {
-    /// A stack with no entry, as it is between paragraphs.
+    /// Returns a stack without entries, which it has between paragraphs.
     pub fn empty() -> Self
         ensures { entry_count result ≡ 0 }
     {
@@ -71,7 +71,7 @@ impl StatusStack {
         }
     }
 
-    /// X1: begins a paragraph of this level, in which no initiator is open yet.
+    /// Begins a paragraph of this level, in which no initiator is open yet (X1).
     pub fn begin(&mut self, base: Level)
         requires { entry_count self.old ≡ 0 }
         ensures represents { (depth : ℕ) (cs : List Class) → Represents depth cs base [] self.new }
@@ -87,7 +87,7 @@ impl StatusStack {
         self.valid_isolates = 0;
     }
 
-    /// Drops what is left at a paragraph's end. Each entry is a step.
+    /// Drops the entries that remain at a paragraph's end. Each entry is a step.
     pub fn clear<L: Ledger>(&mut self, steps: &mut Steps<L>)
         ensures empty { entry_count self.new ≡ 0 }
         ensures steps { steps.new ≡ steps.old + entry_count self.old }
@@ -96,7 +96,7 @@ impl StatusStack {
         self.entries.clear();
     }
 
-    // What holds inside the innermost initiator that was taken.
+    // Returns the status of the innermost valid initiator.
     fn current(&self) -> Status
         requires { 0 < entry_count self.now }
         ensures { result ≡ slice_index_or self.now.entries.items (entry_count self.now - 1) result }
@@ -104,7 +104,7 @@ impl StatusStack {
         self.entries[self.entries.len() - 1]
     }
 
-    /// What holds inside the innermost initiator that was taken, as long as none is opened or closed.
+    /// Returns the status of the innermost valid initiator, which applies until an initiator is opened or closed.
     pub fn inside(&self) -> Status
         requires { 0 < entry_count self.now }
         ensures { IsInnermost self.now result }
@@ -112,7 +112,7 @@ impl StatusStack {
         self.current()
     }
 
-    // X5a to X6a: the level and the current class of a position of this class, which is neither removed nor a
+    // X5a to X6a: returns the level and the current class of a position of this class, which is neither removed nor a
     // separator.
     fn leveled_inside(&self, class: Class) -> LeveledClass
         requires { IsReachedStack self.now }
@@ -139,7 +139,7 @@ impl StatusStack {
         }
     }
 
-    // X6a: a PDI closes the innermost open isolate and all in it.
+    // X6a: closes the innermost open isolate and everything in it, as a PDI does.
     fn close_isolate<L: Ledger>(&mut self, steps: &mut Steps<L>)
         ensures closed { Closes after_pdi self.old self.new }
         ensures least_steps { steps.old ≤ steps.new }
@@ -154,7 +154,7 @@ impl StatusStack {
         }
     }
 
-    // X7: a PDF closes the innermost open initiator, where that is an embedding.
+    // X7: closes the innermost open initiator, if that is an embedding, as a PDF does.
     fn close_embedding(&mut self)
         ensures closed { Closes after_pdf self.old self.new }
         ensures size { entry_count self.new ≤ entry_count self.old }
@@ -169,14 +169,14 @@ impl StatusStack {
         }
     }
 
-    // X2 to X5c: no initiator that is open was refused, so that one may be taken.
+    // X2 to X5c: returns whether no open initiator is an overflow one, so that the next one may be valid.
     fn is_sound(&self) -> bool
         ensures { result ≡ (self.now.overflow_isolates == 0 && self.now.overflow_embeddings == 0) }
     {
         self.overflow_isolates == 0 && self.overflow_embeddings == 0
     }
 
-    // X2 to X5c: opens an initiator that is taken.
+    // X2 to X5c: opens a valid initiator.
     fn take(&mut self, entry: Status)
         requires { IsReachedStack self.old }
         ensures opened { TakesInitiator entry self.old self.new }
@@ -186,8 +186,7 @@ impl StatusStack {
         self.entries.push(entry);
     }
 
-    // X2 to X5c: counts an initiator that is not taken. An overflow embedding inside an overflow isolate is not
-    // counted.
+    // X2 to X5c: counts an overflow initiator. An overflow embedding inside an overflow isolate is not counted.
     fn refuse(&mut self, is_isolate: bool)
         requires { IsReachedStack self.old }
         ensures opened { RefusesInitiator is_isolate self.old self.new }
@@ -200,7 +199,7 @@ impl StatusStack {
         }
     }
 
-    // X2 to X5c: opens an initiator inside none that was refused; `odd` says whether it asks for an odd level.
+    // X2 to X5c: opens an initiator that is inside no overflow initiator. `odd` says whether it asks for an odd level.
     fn open_sound(&mut self, class: Class, odd: bool, depth: u8)
         requires kept { IsReachedStack self.old }
         requires within { depth ≤ 125 }
@@ -221,7 +220,7 @@ impl StatusStack {
         }
     }
 
-    // X2 to X5c: opens an initiator. Which level it asks for is of no matter inside one that was refused.
+    // X2 to X5c: opens an initiator. Inside an overflow initiator the level that it asks for doesn't matter.
     fn open(&mut self, class: Class, right_to_left: bool, depth: u8)
         requires kept { IsReachedStack self.old }
         requires within { depth ≤ 125 }
@@ -235,10 +234,10 @@ impl StatusStack {
         }
     }
 
-    /// X2 to X9: closes and opens what a position of this class closes and opens. Answers the level and the current
-    /// class of that position, or none where it is removed. An initiator that asks for a level above this depth, 1 to
-    /// 125, is refused; `right_to_left` says whether what an FSI holds begins right to left. Each entry that is dropped
-    /// is a step.
+    /// Closes and opens what a position of this class closes and opens (X2 to X9). Returns the level and the current
+    /// class of that position, or none if it is removed. An initiator that asks for a level above this depth, 1 to 125,
+    /// is an overflow initiator. `right_to_left` says whether the content of an FSI begins right to left. Each entry
+    /// that is dropped is a step.
     pub fn pass<L: Ledger>(
         &mut self,
         class: Class,

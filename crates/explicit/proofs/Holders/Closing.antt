@@ -1,4 +1,4 @@
--- What a PDI or a PDF does to what the pass keeps.
+-- What a PDI or a PDF does to the stack.
 use Rattle.std.proofs.Common.{◌≡◌, ℕ, suc, ◌<◌, true, false, List, [], ◌∷◌, ◌++◌, length, arith, refl, ◌∙◌, ◌⊎◌, inl, inr, append-nil}
 use Rattle.std.proofs.lemmas.Bool.{cases_Bool, cases_lt}
 use Rattle.units.specs.declared.class.Class.{Class}
@@ -7,7 +7,7 @@ use Rattle.explicit.specs.StatusStacks.{is_taken, entries_of, taken_isolates, re
 use Rattle.explicit.specs.declared.status.Status.{Status}
 use Rattle.explicit.proofs.Holders.Taken.{none_refused, some_refused, Adds, adds-taken, adds-isolate, adds-embedding_within, adds-embedding}
 
--- the pass keeps the same of both
+-- the stack represents both lists in the same way
 pub record IsKeptAlike (depth : ℕ) (cs : List Class) (para : ℕ) (xs ys : List ℕ) : Type 0 where
   pub entries : entries_of depth cs para xs ≡ entries_of depth cs para ys
   pub isolates : refused_isolates depth cs para xs ≡ refused_isolates depth cs para ys
@@ -21,7 +21,7 @@ alike depth cs para xs = record { entries = refl; isolates = refl; embeddings = 
 alike-from_adds : (depth : ℕ) (cs : List Class) (para q : ℕ) (qs : List ℕ) → Adds depth cs para q qs [] 0 0 0 → IsKeptAlike depth cs para (q ∷ qs) qs
 alike-from_adds depth cs para q qs a = grind (arith, append-nil)
 
--- within an isolate that was not taken a PDF changes nothing
+-- within an overflow isolate a PDF changes nothing
 pub pdf-ignored : (depth : ℕ) (cs : List Class) (para : ℕ) (qs : List ℕ) → 0 < refused_isolates depth cs para qs → IsKeptAlike depth cs para qs (after_pdf cs qs)
 pdf-ignored depth cs para [] h = absurd (omega arith)
 pdf-ignored depth cs para (q ∷ qs) h =
@@ -36,7 +36,7 @@ pdf-ignored depth cs para (q ∷ qs) h =
       ]
     ]
 
--- where embeddings were not taken it ends the innermost of them
+-- if there are overflow embeddings, a PDF ends the innermost of them
 pub record IsOneLess (depth : ℕ) (cs : List Class) (para : ℕ) (xs ys : List ℕ) : Type 0 where
   pub entries : entries_of depth cs para xs ≡ entries_of depth cs para ys
   pub isolates : refused_isolates depth cs para xs ≡ refused_isolates depth cs para ys
@@ -64,7 +64,7 @@ pdf-refused depth cs para (q ∷ qs) z h =
       ]
     ]
 
--- where all were taken it ends the innermost, if that is an embedding
+-- if all initiators are valid, a PDF ends the innermost one, if that is an embedding
 pub record IsOneEntryLess (depth : ℕ) (cs : List Class) (para : ℕ) (xs ys : List ℕ) : Type 0 where
   pub entry : Status
   pub plain : entry.is_isolate ≡ false

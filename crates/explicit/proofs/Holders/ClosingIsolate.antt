@@ -1,4 +1,4 @@
--- What a PDI does to what the pass keeps.
+-- What a PDI does to the stack.
 use Rattle.std.proofs.Common.{◌≡◌, ℕ, suc, ◌<◌, Bool, true, false, ◌||◌, List, [], ◌∷◌, ◌++◌, arith, refl, subst, ◌∙◌, inl, inr, append-nil}
 use Rattle.std.specs.List.{list_any}
 use Rattle.std.proofs.lemmas.Bool.{cases_Bool, cases_lt, false≢true}
@@ -20,14 +20,14 @@ pub before-other : (xs : List Status) (e : Status) → e.is_isolate ≡ false �
 before-other [] e u = refl
 before-other (x ∷ xs) e u = grind (arith, any-snoc, before-other xs e u)
 
--- an isolate fewer that was not taken
+-- one overflow isolate fewer
 pub record IsOverflowLess (depth : ℕ) (cs : List Class) (para : ℕ) (xs ys : List ℕ) : Type 0 where
   pub entries : entries_of depth cs para xs ≡ entries_of depth cs para ys
   pub isolates : refused_isolates depth cs para xs ≡ suc (refused_isolates depth cs para ys)
   pub embeddings : refused_embeddings depth cs para xs ≡ refused_embeddings depth cs para ys
   pub taken : taken_isolates depth cs para xs ≡ taken_isolates depth cs para ys
 
--- an isolate fewer that was taken, and none that was not
+-- one valid isolate fewer, with no overflow isolate
 pub record IsIsolateLess (depth : ℕ) (cs : List Class) (para : ℕ) (xs ys : List ℕ) : Type 0 where
   pub entries : entries_of depth cs para ys ≡ before_isolate (entries_of depth cs para xs)
   pub isolates : refused_isolates depth cs para ys ≡ 0
@@ -75,7 +75,7 @@ past-taken depth cs para [] v h = absurd (false≢true v)
 past-taken depth cs para (q ∷ qs) v h =
     grind (arith, adds-taken, none_refused, taken-outer, past-here, before-isolate, past-further, before-other, adds-isolate, adds-embedding_within, adds-embedding, append-nil, past-taken depth cs para qs)
 
--- where no isolate is open, none was refused and none taken
+-- if no isolate is open, both counts of isolates are 0
 no_isolates : (depth : ℕ) (cs : List Class) (para : ℕ) (qs : List ℕ) → list_any (is_isolate cs) qs ≡ false → (refused_isolates depth cs para qs ≡ 0) × (taken_isolates depth cs para qs ≡ 0)
 no_isolates depth cs para [] v = (refl, refl)
 no_isolates depth cs para (q ∷ qs) v = grind (arith, false≢true, no_isolates depth cs para qs)

@@ -1,4 +1,4 @@
--- What the class at the next position leaves open: embeddings too, and that these are the initiators that hold it.
+-- The initiators that the class at the next position leaves open are those around it, embeddings included.
 use Rattle.std.proofs.Common.{◌≡◌, ℕ, suc, ◌+◌, ◌<◌, true, false, List, [], ◌∷◌, length, arith, refl, sym, ◌∙◌, cond, inl, inr}
 use Rattle.std.specs.Prelude.{filter}
 use Rattle.std.specs.List.{list_any}
@@ -19,7 +19,7 @@ OpenEmbeddings-past : (cs : List Class) (y k : ℕ) (qs : List ℕ) → list_any
 OpenEmbeddings-past cs y k [] v h = tt
 OpenEmbeddings-past cs y k (q ∷ qs) v h = grind (arith, OpenEmbeddings-past cs y (suc k) qs)
 
--- the facts that hold of what is open past y
+-- the properties of the initiators that are open after y
 pub record IsOpen (cs : List Class) (y : ℕ) (qs : List ℕ) : Type 0 where
   pub bound : AllBelow (suc y) qs
   pub isolates : OpenIsolates cs y 0 qs
@@ -58,7 +58,7 @@ lies-closed : (cs : List Class) (y : ℕ) (qs : List ℕ) → AllBelow (suc y) q
 lies-closed cs y [] a b r v h = absurd (false≢true v)
 lies-closed cs y (q ∷ qs) a b r v h = grind (arith, holds-closed_isolate, lies-closed cs y qs a.1 b r)
 
--- what is open holds the position
+-- an open initiator is around the position
 pub filter-open : (cs : List Class) (y k m : ℕ) (qs : List ℕ) → AllBelow y qs → Nested cs qs → OpenIsolates cs y k qs → OpenEmbeddings cs y m qs → filter (holds cs y) qs ≡ qs
 filter-open cs y k m [] a n i e = refl
 filter-open cs y k m (q ∷ qs) a n i e =
@@ -70,13 +70,13 @@ filter-open cs y k m (q ∷ qs) a n i e =
           rw (holds-not_isolate cs y q u, holds-open_embedding cs y m q a.0 (e.0 u) l, ih) refl
     ]
 
--- what a PDI closes does not hold it
+-- an initiator that a PDI closes is not
 filter-closed : (cs : List Class) (y : ℕ) (qs : List ℕ) → AllBelow (suc y) qs → suc y < length cs → IsOfKinds (class_at cs (suc y)) false false true false → list_any (is_isolate cs) qs ≡ true → Nested cs qs → OpenIsolates cs y 0 qs → filter (holds cs (suc y)) qs ≡ filter (holds cs (suc y)) (past_isolate cs qs)
 filter-closed cs y [] a b r v n h = refl
 filter-closed cs y (q ∷ qs) a b r v n h =
     grind (arith, holds-closed_isolate, holds-not_embedding, isolate_not_embedding, lies-closed, holds-not_isolate, holds-past_isolate, filter-closed cs y qs a.1 b r)
 
--- nor does the embedding that a PDF closes
+-- nor is the embedding that a PDF closes
 filter-after_pdf : (cs : List Class) (y : ℕ) (qs : List ℕ) → IsOpen cs y qs → suc y < length cs → IsOfKinds (class_at cs (suc y)) false false false true → isolate_around cs (suc y) ≡ innermost cs (after_pdf cs qs) → filter (holds cs (suc y)) qs ≡ filter (holds cs (suc y)) (after_pdf cs qs)
 filter-after_pdf cs y [] o b r s = refl
 filter-after_pdf cs y (q ∷ qs) o b r s = grind (arith, holds-not_isolate, holds-closed_embedding)

@@ -1,4 +1,4 @@
--- From the initiators that hold a position to those that hold the next.
+-- From the initiators around a position to those around the next.
 use Rattle.std.proofs.Common.{◌≡◌, ℕ, zero, suc, ◌<◌, false, List, [], length, arith, refl, sym, ◌∙◌}
 use Rattle.std.specs.Prelude.{None}
 use Rattle.std.proofs.lemmas.Bool.{false≢true}
@@ -14,7 +14,7 @@ use Rattle.explicit.proofs.Holders.IsolatesBehind.{Left, left_open-keeps, isolat
 use Rattle.explicit.proofs.Holders.OpenEmbeddings.{OpenEmbeddings, Nested, open_embedding-first}
 use Rattle.explicit.proofs.Holders.EmbeddingsBehind.{IsOpen, embeddings-left, filter-left, filter-open}
 
--- what is left open at y, with the class at y counted
+-- the initiators that are still open at y, with the class at y counted
 record IsLeft (cs : List Class) (y : ℕ) (qs : List ℕ) : Type 0 where
   bound : AllBelow y qs
   isolates : OpenIsolates cs y (bit (is_isolate cs y)) qs
@@ -72,7 +72,7 @@ pub holders-are_open : (cs : List Class) (y : ℕ) → y < length cs → IsOpen 
 holders-are_open cs zero l = opened-is_open cs 0 [] (role (class_at cs 0)) l (record { bound = tt; isolates = tt; embeddings = tt; nested = tt; around = around-first cs })
 holders-are_open cs (suc y) l = grind (arith, holders-left, opened-is_open, role, left-next, holders-are_open cs y)
 
--- the initiators that hold the next position are those that its class leaves open, of those that hold this one and this
--- one
+-- the initiators around the next position are those that its class leaves open, among those around this position and
+-- the one at it
 pub holders-step : (cs : List Class) (y : ℕ) → suc y < length cs → holders cs (suc y) ≡ left_open cs (class_at cs (suc y)) (opened cs y (holders cs y))
 holders-step cs y l = holders-left cs y l (holders-are_open cs y (omega arith))

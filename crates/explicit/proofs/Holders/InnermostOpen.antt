@@ -28,7 +28,7 @@ last_is_last o c k n s ex stack a h =
     ]
 
 module _ (cs : List Class) (k : ℕ) (inside : k < length cs) where
-  -- an isolate that holds k has no match before k
+  -- an isolate around k has no match before k
   held_is_open : (j : ℕ) → IsHeld cs j k → matching_before cs k j ≡ None
   held_is_open j h = grind (arith, match_of_bounds, matching_pdi_of, match_extends)
 
@@ -36,7 +36,7 @@ module _ (cs : List Class) (k : ℕ) (inside : k < length cs) where
   pub around_none_open : (s : ℕ → ℕ) → IsOpenStack cs k 0 s → isolate_around cs k ≡ None
   around_none_open s stack = around_nowhere cs k (λ j h. let at = stack.complete j h.after h.opener (held_is_open j h) in omega (arith, at.1))
 
-  -- else a position that opens no isolate and closes none lies in the last one
+  -- else a position that opens no isolate and closes none lies in the last open one
   pub around_last_open : (n : ℕ) (s : ℕ → ℕ) → IsOpenStack cs k (suc n) s → is_isolate_initiator (class_at cs k) ≡ false → is_pdi (class_at cs k) ≡ false → isolate_around cs k ≡ Some (s n)
   around_last_open n s stack o c =
       let lt : n < suc n = omega arith in

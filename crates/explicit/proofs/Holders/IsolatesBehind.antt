@@ -1,4 +1,4 @@
--- What the class at the next position leaves open, as to isolates.
+-- The isolates that the class at the next position leaves open.
 use Rattle.std.proofs.Common.{arith, ◌≡◌, ℕ, suc, ◌+◌, ◌<◌, false, List, [], ◌∷◌, length, refl, sym, ◌∙◌, inl, inr}
 use Rattle.std.specs.Prelude.{find}
 use Rattle.std.specs.List.{list_any}
@@ -20,7 +20,7 @@ after_pdf-keeps : (cs : List Class) (P : List ℕ → Type 0) → ((q : ℕ) (qs
 after_pdf-keeps cs P rest [] h = h
 after_pdf-keeps cs P rest (q ∷ qs) h = grind arith
 
--- a fact about lists that holds of each list's rest holds of what is left open
+-- if a property of a list implies that of its rest, then it also holds for what remains open
 pub left_open-keeps : (cs : List Class) (P : List ℕ → Type 0) → ((q : ℕ) (qs : List ℕ) → P (q ∷ qs) → P qs) → (c : Class) (qs : List ℕ) → P qs → P (left_open cs c qs)
 left_open-keeps cs P rest c qs h =
     let past = past_isolate-keeps cs P rest qs h in

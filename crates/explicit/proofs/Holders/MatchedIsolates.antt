@@ -1,4 +1,4 @@
--- A matched isolate initiator and its PDI lie within the same initiators.
+-- The initiators around a matched isolate initiator are those around its PDI.
 use Rattle.std.proofs.Common.{◌≡◌, ℕ, zero, suc, ◌+◌, ◌<◌, ◌≤◌, Bool, true, false, List, [], ◌∷◌, length, arith, refl, sym, ap, subst, ◌∙◌, inl, inr}
 use Rattle.std.specs.Prelude.{Option, Some, filter, ◌==◌, IfSome}
 use Rattle.std.specs.List.{list_any}
@@ -22,7 +22,7 @@ use Rattle.explicit.proofs.Holders.IsolatesBehind.{left_open-keeps}
 use Rattle.explicit.proofs.Holders.HoldersBehind.{holders-are_open, holders-step}
 use Rattle.explicit.proofs.LevelsFound.ExplicitAt.{explicit-leveled_in}
 
--- behind each stand the initiators that hold it
+-- each is followed by the initiators around it
 abbrev pub Stacked : List Class → List ℕ → Type 0
 Stacked cs [] = Unit {0}
 Stacked cs (q ∷ qs) = (qs ≡ holders cs q) × Stacked cs qs
@@ -49,7 +49,7 @@ pub holds-before : (cs : List Class) (i j y : ℕ) → matching_pdi cs i ≡ Som
 unfolding isolate_holds
 holds-before cs i j y h a b = rw (h, matching_pdi_opens cs i j h, lt-ltb i y a, lt-ltb y j b) refl
 
--- it is among the open ones before its PDI
+-- the initiator is among the open ones before its PDI
 among-open : (cs : List Class) (i y : ℕ) → matching_pdi cs i ≡ Some (suc y) → is_among i (opened cs y (holders cs y)) ≡ true
 among-open cs i y h = grind (arith, match_bounds, matching_pdi_opens, eq-eqb, among-filtered, holds-before, ne_eqb)
 
@@ -65,7 +65,7 @@ open-holds cs i y k (q ∷ qs) a o u m =
       | inr e ↦ open-holds cs i y (bit (is_isolate cs q) + k) qs a.1 o.1 u (rw e at m)
     ]
 
--- the isolate that the PDI closes is the innermost, and what is around it holds the PDI
+-- the isolate that the PDI closes is the innermost, and the initiators around it are around the PDI
 past-matched : (cs : List Class) (i y : ℕ) (qs : List ℕ) → AllBelow (suc y) qs → suc y < length cs → IsOfKinds (class_at cs (suc y)) false false true false → OpenIsolates cs y 0 qs → Stacked cs qs → is_isolate cs i ≡ true → is_among i qs ≡ true → isolate_holds cs i (suc y) ≡ false → past_isolate cs qs ≡ holders cs i
 past-matched cs i y [] a l r o s u m h = absurd (false≢true m)
 past-matched cs i y (q ∷ qs) a l r o s u m h =
@@ -83,7 +83,7 @@ isolate-among : (cs : List Class) (i : ℕ) (qs : List ℕ) → is_isolate cs i 
 isolate-among cs i [] u m = absurd (false≢true m)
 isolate-among cs i (q ∷ qs) u m = grind (arith, eqb-true, isolate-among cs i qs u)
 
--- what its PDI leaves open is what holds the initiator
+-- what its PDI leaves open is what is around the initiator
 closed : (cs : List Class) (i y : ℕ) → matching_pdi cs i ≡ Some (suc y) → Role (class_at cs (suc y)) → holders cs (suc y) ≡ holders cs i
 closed cs i y h (opens_isolate r) = absurd (false≢true (sym r.pdi_is ∙ match_is_pdi cs i (suc y) h))
 closed cs i y h (opens_embedding r) = absurd (false≢true (sym r.pdi_is ∙ match_is_pdi cs i (suc y) h))
@@ -99,7 +99,7 @@ closed cs i y h (closes_isolate r) =
     let left : left_open cs (class_at cs (suc y)) qs ≡ past_isolate cs qs = rw (r.pdi_is, v) refl in
     holders-step cs y b.1 ∙ left ∙ past-matched cs i y qs o.bound b.1 r o.isolates s opener (among-open cs i y h) (ends-there cs i (suc y) h)
 
--- they lie within the same initiators
+-- both have the same initiators around them
 pub holders-matched : (cs : List Class) (i j : ℕ) → matching_pdi cs i ≡ Some j → holders cs j ≡ holders cs i
 holders-matched cs i zero h = absurd (let b = match_bounds cs i 0 h in omega (arith, b.0))
 holders-matched cs i (suc y) h = closed cs i y h (role (class_at cs (suc y)))
@@ -117,7 +117,7 @@ pdi-remains : (c : Class) → is_pdi c ≡ true → (is_removed c ≡ false) × 
 pdi-remains PDI h = (refl, refl)
 pdi-remains c h = absurd (cc)
 
--- an isolate initiator has the level of what holds it
+-- an isolate initiator has the level inside the initiators around it
 pub level-of_isolate : (depth : ℕ) (cs : List Class) (para i : ℕ) → is_isolate cs i ≡ true → option_map (λ x. x.0) (explicit_at depth cs para i) ≡ Some (state_within depth cs para (holders cs i)).level
 level-of_isolate depth cs para i h = let a = isolate-remains (class_at cs i) h in level-leveled_in depth cs para i a.0 a.1
 
@@ -129,7 +129,7 @@ levels-matched depth cs para i j h =
 leveled_in-bounded : (s : State) (para : ℕ) (own : Class) (most : ℕ) → s.level ≤ most → para ≤ most → IfSome (leveled_in s para own) (λ leveled. leveled.0 ≤ most)
 leveled_in-bounded s para own most a b = grind arith
 
--- no level is above what neither the depth nor the paragraph's level is above
+-- no level is above a bound of the depth and of the paragraph's level
 pub level-at_most : (depth : ℕ) (cs : List Class) (para p most : ℕ) → depth ≤ most → para ≤ most → IfSome (explicit_at depth cs para p) (λ leveled. leveled.0 ≤ most)
 level-at_most depth cs para p most d b =
     let P : Option (ℕ × Class) → Type 0 = λ o. IfSome o (λ leveled. leveled.0 ≤ most) in

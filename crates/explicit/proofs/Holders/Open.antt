@@ -1,4 +1,4 @@
--- The initiators that hold a position, the innermost first, and those that are open before the next position.
+-- The initiators around a position, the innermost first, and those that are open before the next position.
 use Rattle.std.proofs.Common.{◌≡◌, ℕ, zero, suc, ◌<◌, Bool, true, ◌&&◌, ◌||◌, List, [], ◌∷◌, arith, refl, sym, ◌∙◌, inl, inr}
 use Rattle.std.specs.Prelude.{Option, Some, None, filter, find, nat_lt}
 use Rattle.std.proofs.lemmas.Bool.{cases_Bool, lt-ltb, and_parts, false≢true}
@@ -10,16 +10,16 @@ use Rattle.units.specs.declared.class.Class.{Class}
 use Rattle.explicit.specs.OpenInitiators.{is_isolate, opened}
 use Rattle.units.proofs.Positions.{is_before-earlier, last_below_some}
 
--- the positions below p, falling
+-- the positions below p, in falling order
 abbrev pub below : ℕ → List ℕ
 below zero = []
 below (suc p) = p ∷ below p
 
--- the initiator at q holds p
+-- the initiator at q is around p
 abbrev pub holds : List Class → ℕ → ℕ → Bool
 holds cs p q = isolate_holds cs q p || embedding_holds cs q p
 
--- the initiators that hold p, the innermost first
+-- the initiators around p, the innermost first
 abbrev pub holders : List Class → ℕ → List ℕ
 holders cs p = filter (holds cs p) (below p)
 
@@ -47,7 +47,7 @@ embedding_holds-earlier cs q y l h =
 holds-earlier : (cs : List Class) (q y : ℕ) → q < y → holds cs (suc y) q ≡ true → holds cs y q ≡ true
 holds-earlier cs q y l h = grind (arith, isolate_holds-earlier, embedding_holds-earlier)
 
--- a test that implies another on the positions below y filters what the other left
+-- if a test implies another one below y, it filters the same from the filtered positions
 filter-below : (p h : ℕ → Bool) (y : ℕ) → ((q : ℕ) → q < y → p q ≡ true → h q ≡ true) → filter p (below y) ≡ filter p (filter h (below y))
 filter-below p h zero sub = refl
 filter-below p h (suc y) sub = grind (arith, false≢true, filter-below p h y)
@@ -72,7 +72,7 @@ embedding_holds-class cs q p h = (and_parts (is_embedding_initiator (class_at cs
 holds-class : (cs : List Class) (q p : ℕ) → holds cs p q ≡ true → is_initiator (class_at cs q) ≡ true
 holds-class cs q p h = grind (arith, isolate_holds-class, embedding_holds-class)
 
--- the initiators that hold the next position are among those that are open after this one
+-- the initiators around the next position are among those that are open after this one
 pub holders-next : (cs : List Class) (y : ℕ) → holders cs (suc y) ≡ filter (holds cs (suc y)) (opened cs y (holders cs y))
 holders-next cs y = grind (arith, filter-below, holds-earlier, false≢true, holds-class)
 
@@ -83,7 +83,7 @@ around-found : (cs : List Class) (p : ℕ) → isolate_around cs p ≡ find (λ 
 unfolding isolate_around
 around-found cs p = last_below-find (λ q. isolate_holds cs q p) p
 
--- the innermost isolate around the next position is among them too
+-- the innermost isolate around the next position is one of them
 pub isolate_around-next : (cs : List Class) (y : ℕ) → isolate_around cs (suc y) ≡ find (λ q. isolate_holds cs q (suc y)) (opened cs y (holders cs y))
 isolate_around-next cs y =
     let t = λ (q : ℕ). isolate_holds cs q (suc y) in

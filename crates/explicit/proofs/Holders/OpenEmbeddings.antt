@@ -15,17 +15,17 @@ use Rattle.explicit.specs.OpenInitiators.{is_isolate}
 use Rattle.explicit.proofs.Holders.Open.{innermost}
 use Rattle.explicit.proofs.Holders.OpenIsolates.{AllBelow}
 
--- the embedding at q is open past y, with k more directly in its isolate
+-- the embedding at q is open after y, with k more directly in its isolate
 pub record IsOpenEmbedding (cs : List Class) (y k q : ℕ) : Type 0 where
   pub initiates : is_embedding_initiator (class_at cs q) ≡ true
   pub still : IsOpenAt (opens_beside cs q) (closes_beside cs q) (suc y) (suc k) q
 
--- the embeddings among these are open past y, with k more in the first
+-- the embeddings among these are open after y, with k more in the first
 abbrev pub OpenEmbeddings : List Class → ℕ → ℕ → List ℕ → Type 0
 OpenEmbeddings cs y k [] = Unit {0}
 OpenEmbeddings cs y k (q ∷ qs) = (is_isolate cs q ≡ false → IsOpenEmbedding cs y k q) × OpenEmbeddings cs y (cond (is_isolate cs q) 0 (suc k)) qs
 
--- each lies above those behind it, directly in the first isolate behind it
+-- each initiator comes after those that follow it in the list, directly in the first isolate that follows it
 abbrev pub Nested : List Class → List ℕ → Type 0
 Nested cs [] = Unit {0}
 Nested cs (q ∷ qs) = (isolate_around cs q ≡ innermost cs qs) × AllBelow q qs × Nested cs qs
@@ -40,7 +40,7 @@ open_embedding-first cs y r = record {
   still = open_first (opens_beside cs y) (closes_beside cs y) y (opens_beside_itself cs y r.embedding_is) (and_left _ _ r.pdf_is);
 }
 
--- where the next position is in another isolate, it stays as it is; else its class counts
+-- if the next position is in another isolate, the embedding's count is unchanged; else the class there counts
 open_embedding-next : (cs : List Class) (y k m q : ℕ) → q ≤ y → IsOpenEmbedding cs y k q → bit (beside cs is_embedding_initiator q (suc y)) + k ≡ bit (beside cs is_pdf q (suc y)) + m → IsOpenEmbedding cs (suc y) m q
 open_embedding-next cs y k m q a h e = record {
   initiates = h.initiates;
@@ -89,7 +89,7 @@ pub holds-past_isolate : (cs : List Class) (y q : ℕ) → lies_in cs (isolate_a
 unfolding embedding_holds
 holds-past_isolate cs y q u = and_right (is_embedding_initiator (class_at cs q)) _ (and_right (nat_lt q y) _ (and_right (is_before y (matching_pdf cs q)) _ u))
 
--- a PDF matches the open embedding directly in whose isolate it stands, where no other is open in that
+-- a PDF matches the open embedding directly in the same isolate, if no other one is open there
 pub holds-closed_embedding : (cs : List Class) (y q : ℕ) → q ≤ y → suc y < length cs → IsOfKinds (class_at cs (suc y)) false false false true → isolate_around cs (suc y) ≡ isolate_around cs q → IsOpenEmbedding cs y 0 q → embedding_holds cs q (suc y) ≡ false
 unfolding embedding_holds
 holds-closed_embedding cs y q a b r s h =

@@ -13,7 +13,7 @@ use Rattle.explicit.proofs.Holders.Roles.{IsOfKinds}
 use Rattle.explicit.specs.OpenInitiators.{is_isolate, past_isolate}
 use Rattle.explicit.proofs.Holders.Open.{innermost}
 
--- each lies below
+-- each position is below this one
 abbrev pub AllBelow : ℕ → List ℕ → Type 0
 AllBelow b [] = Unit {0}
 AllBelow b (q ∷ qs) = (q < b) × AllBelow b qs
@@ -22,11 +22,11 @@ pub AllBelow-weaker : (a b : ℕ) (qs : List ℕ) → a ≤ b → AllBelow a qs 
 AllBelow-weaker a b [] l h = tt
 AllBelow-weaker a b (q ∷ qs) l h = let k : q < a = h.0 in (omega arith, AllBelow-weaker a b qs l h.1)
 
--- the isolate at q is open past y, with k more in it
+-- the isolate at q is open after y, with k more in it
 abbrev pub IsOpenIsolate : List Class → ℕ → ℕ → ℕ → Type 0
 IsOpenIsolate cs y k q = IsOpenAt (opens_at cs) (closes_at cs) (suc y) (suc k) q
 
--- the isolates among these are open past y, with k more in the first
+-- the isolates among these are open after y, with k more in the first
 abbrev pub OpenIsolates : List Class → ℕ → ℕ → List ℕ → Type 0
 OpenIsolates cs y k [] = Unit {0}
 OpenIsolates cs y k (q ∷ qs) = (is_isolate cs q ≡ true → IsOpenIsolate cs y k q) × OpenIsolates cs y (bit (is_isolate cs q) + k) qs
@@ -35,7 +35,7 @@ OpenIsolates cs y k (q ∷ qs) = (is_isolate cs q ≡ true → IsOpenIsolate cs 
 pub open_isolate-first : (cs : List Class) (y : ℕ) → IsOfKinds (class_at cs y) true false false false → IsOpenIsolate cs y 0 y
 open_isolate-first cs y r = open_first (opens_at cs) (closes_at cs) y r.isolate_is r.pdi_is
 
--- one that was open, at the next position
+-- an isolate that was open, at the next position
 pub OpenIsolates-next : (cs : List Class) (y k m : ℕ) (qs : List ℕ) → AllBelow (suc y) qs → bit (is_isolate cs (suc y)) + k ≡ bit (is_pdi (class_at cs (suc y))) + m → OpenIsolates cs y k qs → OpenIsolates cs (suc y) m qs
 OpenIsolates-next cs y k m [] a e h = tt
 OpenIsolates-next cs y k m (q ∷ qs) a e h =
@@ -67,7 +67,7 @@ holds-closed_isolate cs y q a b u r h =
     let ended = ap (is_before (suc y)) (matching_pdi_of cs q u) ∙ at_match (opens_at cs) (closes_at cs) (suc y) (length cs) q b now in
     rw (u, lt-ltb q (suc y) (omega arith), ended) refl
 
--- the first of the open isolates that holds the next position
+-- the innermost open isolate is the first one around the next position
 pub find-open : (cs : List Class) (y k : ℕ) (qs : List ℕ) → AllBelow y qs → OpenIsolates cs y k qs → find (λ q. isolate_holds cs q y) qs ≡ innermost cs qs
 find-open cs y k [] a h = refl
 find-open cs y k (q ∷ qs) a h =

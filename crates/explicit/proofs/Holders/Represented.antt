@@ -1,4 +1,4 @@
--- What the pass keeps, step by step.
+-- How the stack represents the open initiators, step by step.
 use Rattle.std.proofs.lemmas.Bool.Decides.{nat_tests}
 use Rattle.std.proofs.lemmas.Grind.{common_steps}
 use Rattle.std.proofs.Common.{◌≡◌, ℕ, ◌-◌, ◌<◌, ◌≤◌, ◌^◌, Bool, true, false, ◌&&◌, List, [], ◌∷◌, ◌++◌, length, get_or, take, arith, refl, sym, ap, ◌∙◌, cond, ◌⊎◌, length-append}
@@ -32,7 +32,7 @@ last-of xs e d = grind (arith, nat_tests, common_steps, length-append, get_or-ap
 front-of : (xs : List Status) (e : Status) → take (length (xs ++ e ∷ []) - 1) (xs ++ e ∷ []) ≡ xs
 front-of xs e = grind (arith, nat_tests, common_steps, length-append, take-append_seam)
 
--- the last of these entries, d where there is none
+-- the last of these entries, or d if there is none
 abbrev pub last_of : List Status → Status → Status
 last_of xs d = get_or xs (length xs - 1) d
 
@@ -71,7 +71,7 @@ sound_is depth cs para qs = grind (arith, none_refused, some_refused, and_right,
 takes-is_taken : (depth : ℕ) (cs : List Class) (para : ℕ) (qs : List ℕ) (p : ℕ) (n : StatusStack) → Represents depth cs para qs n → is_taken depth cs para p qs ≡ ((n.overflow_isolates == 0 && n.overflow_embeddings == 0) && nat_le (asked depth cs para p qs) depth)
 takes-is_taken depth cs para qs p n r = taken_is depth cs para p qs ∙ ap (λ b. b && nat_le (asked depth cs para p qs) depth) (sound_is depth cs para qs ∙ rw (r.overflow_isolates, r.overflow_embeddings) refl)
 
--- what the numbers of what the pass keeps are at most
+-- bounds of the stack's counts
 pub record IsBounded (n : StatusStack) : Type 0 where
   pub some : 0 < length n.entries.items
   pub room : length n.entries.items < 127
@@ -100,7 +100,7 @@ kept-bounded n k =
       valid_isolates = omega (arith, r.valid_isolates, taken_isolates-few k.depth k.classes k.para_level k.initiators, k.few);
     }
 
--- what a PDI leaves of what the pass keeps
+-- a PDI opens no initiator
 past_isolate-short : (cs : List Class) (qs : List ℕ) → length (past_isolate cs qs) ≤ length qs
 past_isolate-short cs [] = omega arith
 past_isolate-short cs (q ∷ qs) = grind (arith, past_isolate-short cs qs)
@@ -111,7 +111,7 @@ after_pdi-short cs qs = grind (arith, past_isolate-short cs qs)
 pub pdi-leaves_kept : (n m : StatusStack) → IsReachedStack n → Closes after_pdi n m → IsReachedStack m
 pdi-leaves_kept n m k closes = record { depth = k.depth; classes = k.classes; para_level = k.para_level; initiators = after_pdi k.classes k.initiators; represents = closes k.depth k.classes k.para_level k.initiators k.represents; base = k.base; within = k.within; few = omega (arith, after_pdi-short k.classes k.initiators, k.few) }
 
--- the level that is asked for is that above the last entry's
+-- the level that is asked for is the one above the last entry's level
 pub asked-is : (depth : ℕ) (cs : List Class) (para : ℕ) (qs : List ℕ) (p : ℕ) (n : StatusStack) (class : Class) (odd : Bool) (entry : Status) (level : ℕ) → Represents depth cs para qs n → class ≡ class_at cs p → odd ≡ wants_odd cs p class → entry ≡ last_of n.entries.items entry → level ≡ cond odd (next_odd entry.level) (next_even entry.level) → level ≡ asked depth cs para p qs
 asked-is depth cs para qs p n class odd entry level r k o e l =
     let s = last-is depth cs para qs n entry r in
@@ -121,7 +121,7 @@ asked-is depth cs para qs p n class odd entry level r k o e l =
 pub entry-is : (depth : ℕ) (cs : List Class) (para : ℕ) (qs : List ℕ) (p : ℕ) (class : Class) (level : ℕ) (override_class : Option Class) (isolate : Bool) → is_taken depth cs para p qs ≡ true → class ≡ class_at cs p → level ≡ asked depth cs para p qs → override_class ≡ override_of class → isolate ≡ is_isolate_initiator class → record { level = level; override_class = override_class; is_isolate = isolate } ≡ entry_at depth cs para p qs
 entry-is depth cs para qs p class level override_class isolate t k l f i = grind (arith, state-taken)
 
--- an initiator inside none that was refused is taken, where its level is not above the depth, and only there
+-- an initiator inside no overflow initiator is valid exactly if its level is not above the depth
 module _ (depth : ℕ) (cs : List Class) (para : ℕ) (qs : List ℕ) (p : ℕ) (n : StatusStack) (represents : Represents depth cs para qs n) where
   module _ (level : ℕ) (is : level ≡ asked depth cs para p qs) (sound : (n.overflow_isolates == 0 && n.overflow_embeddings == 0) ≡ true) where
     sound-by : is_taken depth cs para p qs ≡ nat_le level depth
@@ -133,7 +133,7 @@ module _ (depth : ℕ) (cs : List Class) (para : ℕ) (qs : List ℕ) (p : ℕ) 
     pub sound-refused : depth < level → is_taken depth cs para p qs ≡ false
     sound-refused h = sound-by ∙ lt-leb level depth h
 
-  -- and inside one that was refused it is refused
+  -- an initiator inside an overflow initiator is an overflow initiator
   pub within-refused : (n.overflow_isolates == 0 && n.overflow_embeddings == 0) ≡ false → is_taken depth cs para p qs ≡ false
   within-refused refused = takes-is_taken depth cs para qs p n represents ∙ ap (λ b. b && nat_le (asked depth cs para p qs) depth) refused
 

@@ -1,4 +1,4 @@
--- What a class does to the initiators that are open.
+-- What a class does to the open initiators.
 use Rattle.std.proofs.Common.{arith, ◌≡◌, ℕ, ◌<◌, Bool, true, false, List, length, get_or, refl}
 use Rattle.std.proofs.lemmas.Bool.{false≢true}
 use Rattle.std.proofs.lemmas.List.{get_or-map}
@@ -59,6 +59,6 @@ kind_of c = grind (arith, role)
 pub embedding_is_no_pdf : (c : Class) → is_embedding_initiator c ≡ true → is_pdf c ≡ false
 embedding_is_no_pdf c h = grind (arith, role, false≢true)
 
--- the class of a unit that is read
+-- the class of the unit at a position
 pub class_read : (units : List BidiUnit) (p : ℕ) (d : BidiUnit) → p < length units → class_at (classes_of units) p ≡ (get_or units p d).class
 class_read units p d h = get_or-map (λ unit. unit.class) units p d L h

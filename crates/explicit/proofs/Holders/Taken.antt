@@ -1,4 +1,4 @@
--- The initiators that are taken and those that are refused, and their counts.
+-- Valid initiators and overflow initiators, and their counts.
 use Rattle.std.proofs.Common.{◌≡◌, ℕ, ◌+◌, ◌<◌, ◌≤◌, Bool, true, false, ◌&&◌, List, [], ◌∷◌, ◌++◌, length, arith, refl, sym, ◌∙◌, cond, inl, inr, length-append, append-nil}
 use Rattle.std.specs.Prelude.{nat_le}
 use Rattle.std.proofs.lemmas.Bool.{cases_Bool, cond-true, cond-false, false≢true, and_parts, leb-true, lt-ltb}
@@ -29,7 +29,7 @@ pub state-refused : (depth : ℕ) (cs : List Class) (para q : ℕ) (qs : List �
 unfolding entered
 state-refused depth cs para q qs h = cond-false _ _ _ (sym (taken_is depth cs para q qs) ∙ h)
 
--- what is taken lies only within what is taken
+-- a valid initiator is only inside valid ones
 pub taken-outer : (depth : ℕ) (cs : List Class) (para q : ℕ) (qs : List ℕ) → is_taken depth cs para q qs ≡ true → (state_within depth cs para qs).sound ≡ true
 taken-outer depth cs para q qs h = (and_parts (state_within depth cs para qs).sound (nat_le (asked depth cs para q qs) depth) (sym (taken_is depth cs para q qs) ∙ h)).0
 
@@ -50,7 +50,7 @@ level-bound depth cs para [] most d h = h
 level-bound depth cs para (q ∷ qs) most d h =
     grind (arith, state-taken, leb-true, and_parts, taken_is, state-refused, level-bound depth cs para qs most d h)
 
--- the levels rise, so the entries are few
+-- the levels rise with each entry, so there are few entries
 pub entries-few : (depth : ℕ) (cs : List Class) (para : ℕ) (qs : List ℕ) → length (entries_of depth cs para qs) ≤ (state_within depth cs para qs).level + 1
 entries-few depth cs para [] = omega arith
 entries-few depth cs para (q ∷ qs) =
@@ -75,7 +75,7 @@ adds-embedding_within depth cs para q qs t u h = record { entry_is = rw t (sym (
 pub adds-embedding : (depth : ℕ) (cs : List Class) (para q : ℕ) (qs : List ℕ) → is_taken depth cs para q qs ≡ false → is_isolate cs q ≡ false → refused_isolates depth cs para qs ≡ 0 → Adds depth cs para q qs [] 0 1 0
 adds-embedding depth cs para q qs t u h = record { entry_is = rw t (sym (append-nil (entries_of depth cs para qs))); isolates_is = rw (t, u) refl; embeddings_is = rw (t, u, h) refl; taken_isolates_is = rw t refl }
 
--- as many as there are initiators, at most
+-- at most the number of initiators
 pub refused_isolates-few : (depth : ℕ) (cs : List Class) (para : ℕ) (qs : List ℕ) → refused_isolates depth cs para qs ≤ length qs
 refused_isolates-few depth cs para [] = omega arith
 refused_isolates-few depth cs para (q ∷ qs) = grind (arith, refused_isolates-few depth cs para qs)
@@ -88,7 +88,7 @@ pub taken_isolates-few : (depth : ℕ) (cs : List Class) (para : ℕ) (qs : List
 taken_isolates-few depth cs para [] = omega arith
 taken_isolates-few depth cs para (q ∷ qs) = grind (arith, taken_isolates-few depth cs para qs)
 
--- the last entry is that of the state within
+-- the last entry is that of the state inside these initiators
 pub last_entry : (depth : ℕ) (cs : List Class) (para : ℕ) (qs : List ℕ) → (front : List Status) × (isolate : Bool) × (entries_of depth cs para qs ≡ front ++ entry_of (state_within depth cs para qs) isolate ∷ [])
 last_entry depth cs para [] = ([], false, refl)
 last_entry depth cs para (q ∷ qs) =

@@ -1,4 +1,4 @@
--- The initiators that were refused are a tail of the chain.
+-- The overflow initiators are a tail of the chain.
 use Rattle.std.proofs.lemmas.Bool.Decides.{nat_tests}
 use Rattle.std.proofs.lemmas.Grind.{common_steps}
 use Rattle.std.proofs.Common.{◌≡◌, ℕ, ◌+◌, ◌<◌, Bool, true, false, not, ◌||◌, List, [], ◌∷◌, ◌++◌, length, arith, refl, sym, ap, ◌∙◌, cond, inl, inr, length-append, reverse}
@@ -20,7 +20,7 @@ count-cons t q qs = sum_by-append (λ x. cond (t x) 1 0) (q ∷ []) qs ∙ ap (�
 suffix-cons : (t : ℕ → Bool) (q : ℕ) (qs : List ℕ) → suffix_len t (q ∷ qs) ≡ cond (suffix_len t qs == length qs) (length qs + bit (t q)) (suffix_len t qs)
 suffix-cons t q qs = ap (prefix_len t) (reverse-append (q ∷ []) qs) ∙ prefix_len-append t (reverse qs) (q ∷ []) ∙ ap (λ n. cond (suffix_len t qs == n) (n + bit (t q)) (suffix_len t qs)) (length-reverse qs)
 
--- all pass from the end back where none fails, and not all where one does
+-- if no element passes, all fail from the end back, and not all if one passes
 suffix-all : (t : ℕ → Bool) (qs : List ℕ) → count_by t qs ≡ 0 → suffix_len (λ q. not (t q)) qs ≡ length qs
 suffix-all t [] h = refl
 suffix-all t (q ∷ qs) h = grind (arith, count-cons, suffix-cons, eq-eqb, suffix-all t qs)
@@ -71,7 +71,7 @@ cut-refused depth cs para q refused taken t c =
       valid_isolates = rw t (omega (arith, c.valid_isolates));
     }
 
--- whatever initiators are open, those that were refused stand in front of those that were taken
+-- whichever initiators are open, the overflow ones are inside the valid ones, so they come first in the list
 pub cut_of : (depth : ℕ) (cs : List Class) (para : ℕ) (qs : List ℕ) → (refused : List ℕ) × (taken : List ℕ) × (qs ≡ refused ++ taken) × IsRefusedTail depth cs para refused taken
 cut_of depth cs para [] = ([], [], refl, cut-sound depth cs para [] refl)
 cut_of depth cs para (q ∷ qs) =

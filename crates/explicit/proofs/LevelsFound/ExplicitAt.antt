@@ -1,4 +1,4 @@
--- Explicit levels from the initiators that are open.
+-- Explicit levels by the open initiators.
 use Rattle.std.proofs.Common.{◌≡◌, ℕ, zero, suc, ◌+◌, ◌<◌, ◌≤◌, Bool, true, false, List, [], ◌∷◌, ◌++◌, length, arith, refl, sym, ap, subst, ◌∙◌, inl, inr, zero-add, append-nil, get_or, set, Option, ◌^◌, reverse}
 use Rattle.std.proofs.lemmas.List.{reverse-append, get_or-set_same, get_or-set_other}
 use Rattle.std.specs.Prelude.{None, filter, fold, is_none}
@@ -40,7 +40,7 @@ fold-snoc : (f : State → ℕ → State) (s : State) (xs : List ℕ) (x : ℕ) 
 fold-snoc f s [] x = refl
 fold-snoc f s (y ∷ xs) x = fold-snoc f (f s y) xs x
 
--- what holds inside a rising list of initiators, or the same list falling
+-- the state inside initiators in rising order, or the same list in falling order
 within-filtered : (depth : ℕ) (cs : List Class) (para : ℕ) (t : ℕ → Bool) (p : ℕ) → state_of depth cs para (filter t (positions_from 0 p)) ≡ state_within depth cs para (filter t (below p))
 within-filtered depth cs para t zero = refl
 within-filtered depth cs para t (suc p) =
@@ -58,7 +58,7 @@ pub state-of_chain : (depth : ℕ) (cs : List Class) (para p : ℕ) → state_of
 unfolding chain
 state-of_chain depth cs para p = within-filtered depth cs para (holds cs p) p
 
--- the level and the class at p by what holds inside the initiators that hold it
+-- the level and the class at p, by the state inside the initiators around it
 pub explicit-leveled_in : (depth : ℕ) (cs : List Class) (para p : ℕ) → leveled_in (state_within depth cs para (holders cs p)) para (class_at cs p) ≡ explicit_at depth cs para p
 unfolding explicit_at
 explicit-leveled_in depth cs para p = ap (λ s. leveled_in s para (class_at cs p)) (sym (state-of_chain depth cs para p))
@@ -67,11 +67,11 @@ before-few : (cs : List Class) (p : ℕ) → length (open_before cs p) ≤ p
 before-few cs zero = omega arith
 before-few cs (suc p) = grind (arith, holders-few cs p)
 
--- what the pass keeps when it comes to p
+-- what the stack represents before p
 pub kept-before : (depth : ℕ) (cs : List Class) (base p : ℕ) (n : StatusStack) → depth ≤ 125 → base ≤ 1 → p < 2 ^ 63 → Represents depth cs base (open_before cs p) n → IsReachedStack n
 kept-before depth cs base p n d b l r = record { depth = depth; classes = cs; para_level = base; initiators = open_before cs p; represents = r; base = b; within = d; few = omega (arith, before-few cs p) }
 
--- the chain is the same list the other way round
+-- the chain is the same list in reverse
 chain-filtered : (t : ℕ → Bool) (p : ℕ) → filter t (positions_from 0 p) ≡ reverse (filter t (below p))
 chain-filtered t zero = refl
 chain-filtered t (suc p) =
@@ -87,7 +87,7 @@ pub chain-reversed : (cs : List Class) (p : ℕ) → chain cs p ≡ reverse (hol
 unfolding chain
 chain-reversed cs p = chain-filtered (holds cs p) p
 
--- what the pass keeps behind p, and what it finds there
+-- what the stack represents after p, and the level and the class at p
 pub record IsFoundAt (depth : ℕ) (cs : List Class) (base p : ℕ) (leveled : Option (ℕ × Class)) (n : StatusStack) : Type 0 where
   pub keeps : Represents depth cs base (open_before cs (p + 1)) n
   pub found : leveled ≡ explicit_at depth cs base p
@@ -104,11 +104,11 @@ passed-is depth cs base p class leveled n l e passed =
           ∙ explicit-leveled_in depth cs base p;
     }
 
--- what is found of the positions, one more
+-- one position more has its level and class
 pub explicit-more : (depth : ℕ) (cs : List Class) (base p : ℕ) (explicit : List (Option (ℕ × Class))) (leveled : Option (ℕ × Class)) → p < length explicit → leveled ≡ explicit_at depth cs base p → ((k : ℕ) → k < p → get_or explicit k None ≡ explicit_at depth cs base k) → (k : ℕ) → k < p + 1 → get_or (set explicit p leveled) k None ≡ explicit_at depth cs base k
 explicit-more depth cs base p explicit leveled room found below k h = grind (arith, get_or-set_same, get_or-set_other)
 
--- X6: what an ordinary class leaves as it was
+-- X6: what an ordinary class is not
 pub record IsPassedOver (c : Class) : Type 0 where
   pub pdi_is : is_pdi c ≡ false
   pub pdf_is : is_pdf c ≡ false
@@ -140,7 +140,7 @@ ordinary_left cs c qs h = let o = ordinary_is c h in rw (o.pdi_is, o.pdf_is) ref
 pub ordinary_opened : (cs : List Class) (p : ℕ) (qs : List ℕ) → is_ordinary (class_at cs p) ≡ true → opened cs p qs ≡ qs
 ordinary_opened cs p qs h = let o = ordinary_is (class_at cs p) h in rw o.initiator_is refl
 
--- X9: none stands exactly where the position is removed
+-- X9: there is none exactly if the position is removed
 leveled_in-none : (s : State) (para : ℕ) (own : Class) → is_none (leveled_in s para own) ≡ is_removed own
 leveled_in-none s para own = grind arith
 

@@ -1,4 +1,4 @@
--- What remains inside a matched isolate is all at its initiator's level, or not at all.
+-- If anything that remains inside a matched isolate is at its initiator's level, then all of it is.
 use Rattle.std.proofs.Common.{◌≡◌, ℕ, zero, suc, ◌+◌, ◌<◌, ◌≤◌, true, false, List, [], ◌∷◌, ◌++◌, length, Some, inl, inr, refl, sym, ap, ◌∙◌, arith}
 use Rattle.std.specs.Prelude.{is_some, ◌==◌}
 use Rattle.std.specs.Option.{option_map}
@@ -21,13 +21,13 @@ use Rattle.explicit.proofs.Matched.Matching.{matching_pdi_opens}
 use Rattle.explicit.proofs.Holders.MatchedIsolates.{Stacked, holders-stacked, is_among, among-filtered, holds-before, level-leveled_in, level-of_isolate, levels-matched}
 use Rattle.explicit.proofs.LevelsFound.Leveled.{level-read, matched-is}
 
--- inside further initiators the level does not fall
+-- inside further initiators the level is not lower
 levels-rise : (depth : ℕ) (cs : List Class) (para : ℕ) (xs ys : List ℕ) → (state_within depth cs para ys).level ≤ (state_within depth cs para (xs ++ ys)).level
 levels-rise depth cs para [] ys = omega arith
 levels-rise depth cs para (q ∷ xs) ys =
     grind (arith, next-above, state-taken, state-refused, levels-rise depth cs para xs ys)
 
--- and inside a refused one it stays
+-- inside an overflow initiator the level is unchanged
 record IsStuck (depth : ℕ) (cs : List Class) (para : ℕ) (inner outer : List ℕ) : Type 0 where
   sound : (state_within depth cs para inner).sound ≡ false
   level : (state_within depth cs para inner).level ≡ (state_within depth cs para outer).level
@@ -36,7 +36,7 @@ stuck : (depth : ℕ) (cs : List Class) (para : ℕ) (xs ys : List ℕ) → (sta
 stuck depth cs para [] ys h = record { sound = h; level = refl }
 stuck depth cs para (q ∷ xs) ys h = grind (arith, false≢true, taken-outer, state-refused, stuck depth cs para xs ys h)
 
--- behind an initiator among those that hold a position stand those that hold the initiator
+-- an initiator among those around a position is followed by the initiators around it
 behind : (cs : List Class) (i : ℕ) (qs : List ℕ) → Stacked cs qs → is_among i qs ≡ true → (xs : List ℕ) × (qs ≡ xs ++ i ∷ holders cs i)
 behind cs i [] s m = absurd (false≢true m)
 behind cs i (q ∷ qs) s m =
@@ -47,7 +47,7 @@ behind cs i (q ∷ qs) s m =
       | inr e ↦ let rest = behind cs i qs s.1 (rw e at m) in (q ∷ rest.0, ap (λ r. q ∷ r) rest.1)
     ]
 
--- the initiators that hold a position inside a matched isolate
+-- the initiators around a position inside a matched isolate
 within-isolate : (cs : List Class) (i r p : ℕ) → matching_pdi cs i ≡ Some r → i < p → p < r → (xs : List ℕ) × (holders cs p ≡ xs ++ i ∷ holders cs i)
 within-isolate cs i r p e low high =
     let b = match_bounds cs i r e in
@@ -63,7 +63,7 @@ remains-kept : (depth : ℕ) (cs : List Class) (para p : ℕ) → is_some (optio
 unfolding explicit_at
 remains-kept depth cs para p h = grind (arith, false≢true)
 
--- a separator stands nowhere but in last place
+-- a separator can only be in last place
 not_separator : (units : List BidiUnit) (p : ℕ) → SeparatorOnlyLast units → p + 1 < length units → is_separator (class_at (classes_of units) p) ≡ false
 not_separator [] p h lt = absurd (omega arith)
 not_separator (first ∷ []) p h lt = absurd (omega arith)

@@ -17,7 +17,7 @@ use Rattle.explicit.proofs.Matched.Nesting.{match_bounds}
 use Rattle.explicit.proofs.Matched.PartnerOf.{partner_of_other}
 use Rattle.explicit.proofs.Holders.MatchedIsolates.{level-at_most}
 
--- what is found at each position is read at it
+-- the value for each position is the one at it in the list
 pub get_or-of_positions : {A : Type 0} (cs : List Class) (f : ℕ → A) (p : ℕ) (d : A) → p < length cs → get_or (map f (positions_of cs)) p d ≡ f p
 get_or-of_positions cs f p d h =
     let n : length (positions_of cs) ≡ length cs = length-positions_from 0 (length cs) in
@@ -36,7 +36,7 @@ level-read depth cs para p h =
 pub size-is : (depth : ℕ) (cs : List Class) (para : ℕ) → size_of (leveled_of depth cs para) ≡ length cs
 size-is depth cs para = length-map (explicit_of depth cs para) (option_map (λ leveled. leveled.0)) ∙ length-of_positions cs (explicit_at depth cs para)
 
--- past the end stands no initiator
+-- past the end there is no initiator
 pub opener_within : (cs : List Class) (i : ℕ) → is_isolate_initiator (class_at cs i) ≡ true → i < length cs
 opener_within cs i h = grind (arith, get_or_past)
 

@@ -1,4 +1,4 @@
--- A text has one cutting into paragraphs.
+-- A text is cut into paragraphs in exactly one way.
 use Rattle.std.proofs.Common.{Some, None, ◌≡◌, ℕ, ◌+◌, ◌<◌, ◌≤◌, true, false, List, [], ◌∷◌, length, take, drop, inl, inr, refl, ap, ◌∙◌, arith, ◌↔◌}
 use Rattle.std.proofs.lemmas.Bool.{cases_Bool, lt-ltb, le-ltb}
 use Rattle.std.proofs.lemmas.Option.{same_Some, none-some}
@@ -38,7 +38,7 @@ pub IsCut-paragraphs_of : (text : List BidiUnit) → IsCut (paragraphs_of text)
 IsCut-paragraphs_of [] = tt
 IsCut-paragraphs_of (unit ∷ units) = IsCut-begin_with unit (paragraphs_of units) (IsCut-paragraphs_of units)
 
--- no other cutting joins to the text
+-- no other pieces that fulfil P1 join to the text
 pub one_cutting : (text : List BidiUnit) (pieces : List (List BidiUnit)) → IsCut pieces → joined pieces ≡ text → pieces ≡ paragraphs_of text
 one_cutting [] [] h e = refl
 one_cutting [] ([] ∷ pieces) h e = absurd (omega (arith, h.0))
@@ -56,7 +56,7 @@ one_cutting (unit ∷ units) ((first ∷ second ∷ others) ∷ pieces) h e =
 pub cutting_law : (text : List BidiUnit) (pieces : List (List BidiUnit)) → IsCutting text pieces ↔ (pieces ≡ paragraphs_of text)
 cutting_law text pieces = ((λ h. one_cutting text pieces h.1 h.0), (λ e. rw e (joined-paragraphs_of text, IsCut-paragraphs_of text)))
 
--- the first paragraph, and those of what follows it
+-- the first paragraph, and the paragraphs of the rest
 pub begin_with_separator : (unit : BidiUnit) (pieces : List (List BidiUnit)) → is_separator unit.class ≡ true → begin_with unit pieces ≡ (unit ∷ []) ∷ pieces
 begin_with_separator unit [] separates = refl
 begin_with_separator unit (piece ∷ pieces) separates = rw separates refl
@@ -70,7 +70,7 @@ paragraphs_of-cons unit [] =
 paragraphs_of-cons unit (second ∷ others) =
     grind (arith, begin_with_separator, begin_with_other, paragraphs_of-cons second others)
 
--- where the first separator stands
+-- the index of the first separator
 abbrev pub separator_place : List BidiUnit → ℕ
 separator_place text = position_or_len (λ u. is_separator u.class) text
 
@@ -86,7 +86,7 @@ pub first_length_within : (text : List BidiUnit) → first_length text ≤ lengt
 first_length_within [] = omega arith
 first_length_within (unit ∷ units) = grind (arith, first_length_within units)
 
--- what the place that `position` answers says of the first paragraph's length
+-- the length of the first paragraph, by the result of `position`
 pub first_length_at : (text : List BidiUnit) (k : ℕ) → position (λ u. is_separator u.class) text ≡ Some k → first_length text ≡ k + 1
 first_length_at text k e = grind (arith, lt-ltb, same_Some, first_length_found, le-ltb, none-some)
 
@@ -97,7 +97,7 @@ pub paragraphs_of_split : (text : List BidiUnit) → 0 < length text → paragra
 paragraphs_of_split [] h = absurd (omega arith)
 paragraphs_of_split (unit ∷ units) h = paragraphs_of-cons unit units
 
--- one unit in front makes at most one paragraph more
+-- one unit in front adds at most one paragraph
 pub length-begin_with : (unit : BidiUnit) (pieces : List (List BidiUnit)) → length (begin_with unit pieces) ≤ length pieces + 1
 length-begin_with unit [] = omega arith
 length-begin_with unit (piece ∷ pieces) =

@@ -1,4 +1,4 @@
--- Ordinary classes that follow one another: what they leave open, and the levels and classes of their positions.
+-- Successive ordinary classes: the initiators that are open there, and the levels and classes of their positions.
 use Rattle.std.proofs.Common.{◌≡◌, ℕ, zero, suc, ◌+◌, ◌-◌, ◌<◌, ◌≤◌, List, length, get_or, set, Option, arith, inl, inr, refl, sym, ap, subst, ◌∙◌}
 use Rattle.std.specs.Prelude.{None, Some, true}
 use Rattle.std.proofs.lemmas.Bool.{cases_lt, false≢true}
@@ -21,7 +21,7 @@ ordinary-next : (cs : List Class) (p : ℕ) → p < length cs → is_ordinary (c
 ordinary-next cs p l o = sym (open_before-next cs p) ∙ ordinary_opened cs p (holders cs p) o ∙ ordinary-holders cs p l o
 
 module _ (cs : List Class) (from end : ℕ) (s : IsStretch is_ordinary cs from end) where
-  -- what is open at its first position is open at all of it, and behind it
+  -- what is open at the first position of the stretch is open in all of it, and after it
   pub stretch-open : (n : ℕ) → from + n ≤ end → open_before cs (from + n) ≡ open_before cs from
   stretch-open zero h = let e : from + 0 ≡ from = omega arith in ap (open_before cs) e
   stretch-open (suc n) h =
@@ -40,7 +40,7 @@ module _ (cs : List Class) (from end : ℕ) (s : IsStretch is_ordinary cs from e
         here ∙ ap (λ qs. leveled_in (state_within depth cs base qs) base (class_at cs (from + n))) same ∙ explicit-leveled_in depth cs base (from + n)
 
     module _ (explicit : List (Option (ℕ × Class))) (room : end ≤ length explicit) (below : (k : ℕ) → k < from → get_or explicit k None ≡ explicit_at depth cs base k) where
-      -- what is found of the positions, with those of the stretch
+      -- the levels and classes so far, with those of the stretch
       pub stretch-filled : (k : ℕ) → k < end → get_or (with_leveled status cs from end explicit) k None ≡ explicit_at depth cs base k
       stretch-filled k l = elim (cases_lt k from) [
         | inl before ↦ stretched_outside (λ p. Some (leveled_by_status status (class_at cs p))) from end explicit k (omega arith) (inl before) ∙ below k before
@@ -59,7 +59,7 @@ pub explicit-next : (status : Status) (cs : List Class) (from p : ℕ) (explicit
     set (with_leveled status cs from p explicit) p (Some (leveled_by_status status (class_at cs p))) ≡ with_leveled status cs from (p + 1) explicit
 explicit-next status cs from p explicit low = stretched_next (λ q. Some (leveled_by_status status (class_at cs q))) from p explicit low
 
--- where its first position is of an ordinary class, it has that one at least
+-- a stretch from a position of an ordinary class includes that position
 pub stretch-moves : (cs : List Class) (from end : ℕ) → IsStretch is_ordinary cs from end → from < length cs → is_ordinary (class_at cs from) ≡ true → from < end
 stretch-moves cs from end s inside ordinary = let low = s.later in elim (cases_lt from end) [
   | inl more ↦ more

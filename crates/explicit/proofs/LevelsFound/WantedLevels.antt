@@ -1,4 +1,4 @@
--- The next odd and the next even level are the least above.
+-- The next odd and the next even level are the least ones above a level.
 use Rattle.std.proofs.Common.{ℕ, true, false, List, arith, inl, inr}
 use Rattle.std.proofs.lemmas.Bool.{cases_Bool}
 use Rattle.units.specs.Classes.{class_at}

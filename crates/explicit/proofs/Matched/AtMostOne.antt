@@ -1,4 +1,4 @@
--- What is one where something holds, and else none.
+-- A value that is 1 if a condition holds, and else 0.
 use Rattle.std.proofs.Common.{◌≤◌, Bool, true, false, arith}
 use Rattle.std.specs.Prelude.{if◌then◌else◌}
 

@@ -1,4 +1,4 @@
--- Matching by counting, for any two tests of positions that exclude each other: those that open and those that close.
+-- Matching by counting, for any two tests of positions that exclude each other: one for opening, one for closing.
 use Rattle.std.proofs.lemmas.Bool.Decides.{nat_tests}
 use Rattle.std.proofs.lemmas.Grind.{common_steps}
 use Rattle.std.proofs.Common.{◌≡◌, ◌≢◌, ℕ, zero, suc, ◌+◌, ◌-◌, ◌<◌, ◌≤◌, Bool, true, false, cond, Option, Some, None, inl, inr, refl, sym, ◌∙◌, arith}
@@ -81,7 +81,7 @@ match_extends o c k n i j h e =
     let within : j < i + 1 + (n - (i + 1)) = omega (arith, found.within, found.from) in
     first_from_is (as_many o c i) (i + 1) (n - (i + 1)) j found.from within found.passes found.fails_before
 
--- what has no match within n positions has none within fewer
+-- a position that has no match within n positions has none within fewer
 pub unmatched_before : (o c : ℕ → Bool) (k n i : ℕ) → k ≤ n → match_of o c n i ≡ None → match_of o c k i ≡ None
 unmatched_before o c k n i le none = grind (arith, match_extends)
 
@@ -135,7 +135,7 @@ surplus_open o c i k ex h opener none =
 pub open_until : (o c : ℕ → Bool) (n i a k : ℕ) → match_of o c n i ≡ Some a → k ≤ a → match_of o c k i ≡ None
 open_until o c n i a k e h = grind (arith, match_of_bounds, match_extends)
 
--- the match of a position that opens is one that closes
+-- the match of a position that opens is a position that closes
 pub match_closes : (o c : ℕ → Bool) (n i a : ℕ) → Exclude o c → o i ≡ true → match_of o c n i ≡ Some a → c a ≡ true
 match_closes o c n i a ex opener e =
     let b = match_of_bounds o c n i a e in

@@ -25,7 +25,7 @@ beside_exclude cs e = record { apart = λ p h. and_left _ _ (embedding_is_no_pdf
 pub opens_beside_itself : (cs : List Class) (e : ℕ) → is_embedding_initiator (class_at cs e) ≡ true → opens_beside cs e e ≡ true
 opens_beside_itself cs e h = and_from _ _ h (same_position_refl (isolate_around cs e))
 
--- the PDF that matches is the first position where the counts agree
+-- the matching PDF is the first position at which the counts agree
 pub matching_pdf_is : (cs : List Class) (e : ℕ) → is_embedding_initiator (class_at cs e) ≡ true → matching_pdf cs e ≡ match_of (opens_beside cs e) (closes_beside cs e) (length cs) e
 unfolding matching_pdf match_of
 matching_pdf_is cs e h = go (first_from (as_many (opens_beside cs e) (closes_beside cs e) e) (e + 1) (length cs - (e + 1))) refl

@@ -1,4 +1,4 @@
--- The pass that fills a map, over its two lists.
+-- The pass that fills a map writes two lists.
 use Rattle.std.proofs.Common.{◌≡◌, ℕ, suc, ◌+◌, ◌<◌, ◌≤◌, true, false, List, length, get_or, set, Option, Some, None, ap, ◌∙◌, arith}
 use Rattle.std.proofs.lemmas.List.{length-set, get_or-set_same, get_or-set_other}
 use Rattle.units.specs.Classes.{class_at, is_isolate_initiator, is_pdi}

@@ -1,4 +1,4 @@
--- Isolates are matched by counting, and that is matching by a stack.
+-- Isolates are matched by counting, which is the same as matching by a stack.
 use Rattle.std.proofs.Common.{arith, ◌≡◌, ℕ, Bool, true, false, List, length, Option, Some, None, refl, sym, ◌∙◌}
 use Rattle.std.proofs.lemmas.Bool.{true≢false}
 use Rattle.units.specs.Classes.{class_at, is_isolate_initiator, is_pdi}
@@ -29,7 +29,7 @@ matching_before cs k i = match_of (opens_at cs) (closes_at cs) k i
 abbrev pub IsOpenStack : List Class → ℕ → ℕ → (ℕ → ℕ) → Type 0
 IsOpenStack cs k m s = IsStack (opens_at cs) (closes_at cs) k m s
 
--- of the whole paragraph
+-- for the whole paragraph
 pub matching_pdi_of : (cs : List Class) (i : ℕ) → is_isolate_initiator (class_at cs i) ≡ true → matching_pdi cs i ≡ matching_before cs (length cs) i
 unfolding matching_pdi match_of
 matching_pdi_of cs i h = rw h refl

@@ -26,7 +26,7 @@ pub match_injective : (cs : List Class) (i j a : ℕ) → matching_pdi cs i ≡ 
 match_injective cs i j a e e' =
     match_once (opens_at cs) (closes_at cs) (length cs) i j a (isolates_exclude cs) (matching_pdi_opens cs i a e) (matching_pdi_opens cs j a e') (matching_pdi_before cs i a e) (matching_pdi_before cs j a e')
 
--- that the isolate that begins at i holds p, in parts
+-- the isolate that begins at i contains p, in parts
 pub record IsHeld (cs : List Class) (i : ℕ) (p : ℕ) : Type 0 where
   pub opener : is_isolate_initiator (class_at cs i) ≡ true
   pub after : i < p
@@ -40,19 +40,19 @@ pub holds_from : (cs : List Class) (i p : ℕ) → IsHeld cs i p → isolate_hol
 unfolding isolate_holds
 holds_from cs i p h = grind (arith, and_from, lt-ltb)
 
--- what an isolate inside holds, the outer one holds too
+-- an outer isolate contains what an inner one contains
 pub holds_through : (cs : List Class) (i j p : ℕ) → IsHeld cs i j → IsHeld cs j p → IsHeld cs i p
 holds_through cs i j p outer inner = grind (arith, inner_match)
 
--- what an isolate holds, it holds from its beginning on
+-- an isolate contains the positions from its beginning to any position in it
 pub holds_down : (cs : List Class) (i p q : ℕ) → IsHeld cs i p → i < q → q ≤ p → IsHeld cs i q
 holds_down cs i p q h lt le = record { opener = h.opener; after = lt; before = λ a e. omega (arith, h.before a e) }
 
--- of two isolates that hold a position, the outer one holds the beginning of the inner one
+-- if two isolates contain a position, then the outer one contains the beginning of the inner one
 pub holds_nested : (cs : List Class) (i j p : ℕ) → IsHeld cs i p → IsHeld cs j p → i < j → IsHeld cs i j
 holds_nested cs i j p hi hj lt = holds_down cs i p j hi lt (omega (arith, hj.after))
 
--- of two isolates the one that begins later lies within the other, or they are apart
+-- the isolate that begins later lies within the other one, or the two are apart
 pub nest_or_apart : (cs : List Class) (outer inner : ℕ) → outer < inner → IsWithin cs inner outer ⊎ AreApart cs inner outer
 nest_or_apart cs outer inner lt =
     elim (cases_Bool (isolate_holds cs outer inner)) [

@@ -1,4 +1,4 @@
--- The stack of what is open, for any two tests of positions that exclude each other.
+-- The stack of open positions, for any two tests of positions that exclude each other.
 use Rattle.std.proofs.Common.{◌≡◌, ℕ, suc, ◌+◌, ◌-◌, ◌<◌, Bool, true, false, Some, None, inl, inr, sym, ap, ◌∙◌, arith}
 use Rattle.std.proofs.lemmas.Bool.{cases_eq, true≢false}
 use Rattle.units.specs.Positions.{as_many}
@@ -45,7 +45,7 @@ still_next o c k m n n' q lt h e some =
     let next : k + 1 ≡ suc k = omega arith in
     rw (next, some) (open_next o c k m n' q lt h (rw some at e))
 
--- a position that neither opens nor closes leaves it
+-- a position that neither opens nor closes leaves the stack unchanged
 pub stack_stays : (o c : ℕ → Bool) (k m : ℕ) (s : ℕ → ℕ) → IsStack o c k m s → o k ≡ false → c k ≡ false → IsStack o c (k + 1) m s
 stack_stays o c k m s stack ok ck = record {
   before = λ a h. let b = stack.before a h in omega arith;
@@ -116,6 +116,6 @@ stack_pop o c k n s stack ok ck = record {
       ];
 }
 
--- with nothing open it closes nothing
+-- with nothing open, a position closes nothing
 pub stack_none_left : (o c : ℕ → Bool) (k : ℕ) (s : ℕ → ℕ) → IsStack o c k 0 s → o k ≡ false → IsStack o c (k + 1) 0 s
 stack_none_left o c k s stack ok = grind (arith, true≢false, unmatched_before)

@@ -11,7 +11,7 @@ use Rattle.explicit.proofs.Matched.OpenStack.{unlevel_at_other, unlevel_at_openi
 use Rattle.explicit.proofs.Matched.Matching.{opens_at, closes_at, matching_before, IsOpenStack, matching_pdi_of, matching_pdi_none, matching_pdi_opens, matching_pdi_before}
 use Rattle.units.proofs.Positions.{last_below_is, last_below_nowhere, same_position_true, same_position_refl}
 
--- what an initiator has after one more position
+-- the match of an initiator after one more position
 pub matching_kept : (cs : List Class) (k i : ℕ) → i < k → (matching_before cs k i ≡ None → as_many (opens_at cs) (closes_at cs) i k ≡ false) → matching_before cs (k + 1) i ≡ matching_before cs k i
 matching_kept cs k i h u = grind (arith, stays_unclosed, match_stays)
 
@@ -30,7 +30,7 @@ pub kept_at_closing_none : (cs : List Class) (k i : ℕ) (s : ℕ → ℕ) → I
 kept_at_closing_none cs k i s stack h opener =
     matching_kept cs k i h (λ none. let at = stack.complete i h opener none in absurd (omega (arith, at.1)))
 
--- whom the PDI at k matches
+-- the initiator that the PDI at k matches
 pub new_match_is_open : (cs : List Class) (k i : ℕ) → i < k → matching_before cs (k + 1) i ≡ Some k → matching_before cs k i ≡ None
 new_match_is_open cs k i h e = grind (arith, match_stays, match_of_bounds)
 
@@ -62,7 +62,7 @@ initiator_top cs k n s inside stack o c =
     let no : None ≡ Some k = sym none ∙ sym kept ∙ at.2 in
     absurd (cc)))
 
--- what the pass knows after the first k positions: the open initiators, and the partners found
+-- the pass after the first k positions: the open initiators, and the partners so far
 pub record IsPass (cs : List Class) (k : ℕ) (m : ℕ) (s : ℕ → ℕ) (t : ℕ → Option ℕ) : Type 0 where
   pub stack : IsOpenStack cs k m s
   pub initiators : (p : ℕ) → p < k → is_isolate_initiator (class_at cs p) ≡ true → t p ≡ matching_before cs k p

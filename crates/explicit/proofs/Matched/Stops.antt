@@ -1,4 +1,4 @@
--- What the walk that finds isolates passes: partners are none there, and nothing is opened or closed.
+-- What the pass that finds isolates skips: there are no partners, and nothing is opened or closed.
 use Rattle.std.proofs.Common.{◌≡◌, ℕ, zero, suc, ◌+◌, ◌-◌, ◌≤◌, Bool, true, false, List, length, set, Option, None, inl, inr, refl, sym, subst, ◌∙◌, arith}
 use Rattle.std.proofs.lemmas.Bool.{cases_eq, cases_lt}
 use Rattle.std.specs.Prelude.{not, ◌||◌, ◌&&◌}
@@ -37,7 +37,7 @@ none_of_four false false true d h = absurd (cc)
 none_of_four false false false true h = absurd (cc)
 none_of_four false false false false h = (refl, refl, refl, refl)
 
--- nor at a position and the three behind it
+-- nor at a position and the three after it
 pub no_formatting_four : (cs : List Class) (k : ℕ) (a b c d : Bool) → a ≡ is_isolate_formatting (class_at cs k) → b ≡ is_isolate_formatting (class_at cs (k + 1)) → c ≡ is_isolate_formatting (class_at cs (k + 2)) → d ≡ is_isolate_formatting (class_at cs (k + 3)) →
     (((a || b) || c) || d) ≡ false → HasNoFormatting cs k (k + 4)
 no_formatting_four cs k a b c d at0 at1 at2 at3 h q low high =
@@ -54,7 +54,7 @@ no_formatting_four cs k a b c d at0 at1 at2 at3 h q low high =
       ]
     ]
 
--- what is passed four at a time
+-- the positions that are skipped four at a time
 pub passed_by_fours : (sought : Bool) (cs : List Class) (from end : ℕ) → HasNoFormatting cs from end → (sought ≡ true → end ≡ from) → ArePassed sought cs from end
 passed_by_fours true cs from end none seeks p low high = let e = seeks refl in absurd (omega arith)
 passed_by_fours false cs from end none seeks p low high = rw (none p low high) refl
@@ -65,7 +65,7 @@ none_of false true c h = absurd (cc)
 none_of false false true h = absurd (cc)
 none_of false false false h = (refl, refl, refl)
 
--- what a class that is passed is not
+-- the properties of a class that is skipped
 pub record IsNoStop (sought : Bool) (c : Class) : Type 0 where
   pub initiator_is : is_isolate_initiator c ≡ false
   pub pdi_is : is_pdi c ≡ false
@@ -76,7 +76,7 @@ no_stop sought c h =
     let parts = none_of (is_isolate_initiator c) (is_pdi c) (sought && is_strong c) h in
     record { initiator_is = parts.0; pdi_is = parts.1; strong_is = parts.2 }
 
--- after what is passed
+-- after the skipped positions
 pub filling_passed : (cs : List Class) (sought : Bool) (from end depth room : ℕ) (partners : List (Option ℕ)) (openers : List ℕ) → IsFilling cs from depth room partners openers → ArePassed sought cs from end → end ≤ length cs → (n : ℕ) → from + n ≤ end → IsFilling cs (from + n) depth room (without_partners from (from + n) partners) openers
 filling_passed cs sought from end depth room partners openers now passed inside zero h =
     let e : from + 0 ≡ from = omega arith in

@@ -6,12 +6,12 @@ use Rattle.units.specs.declared.class.Class.{Class}
 use Rattle.units.proofs.Positions.{last_below_some, last_below_is, last_below_nowhere}
 use Rattle.explicit.proofs.Matched.Nesting.{IsHeld, held, holds_from}
 
--- what the answer says
+-- the isolate is around the position
 pub around_holds : (cs : List Class) (p i : ℕ) → isolate_around cs p ≡ Some i → IsHeld cs i p
 unfolding isolate_around
 around_holds cs p i e = held cs i p (last_below_some _ p i e).passes
 
--- and what fixes it
+-- an isolate around the position is the innermost one if none that begins later is around it
 pub around_is : (cs : List Class) (p i : ℕ) → IsHeld cs i p → ((j : ℕ) → i < j → IsHeld cs j p → ⊥) → isolate_around cs p ≡ Some i
 unfolding isolate_around
 around_is cs p i h inner = last_below_is _ p i h.after (holds_from cs i p h) (λ q lt b. false_from_ne_true _ (λ t. absurd (inner q lt (held cs q p t))))

@@ -1,4 +1,4 @@
--- The first strong classes that were noted, after positions that the walk passes.
+-- The noted first strong classes, after positions that the pass skips.
 use Rattle.std.proofs.Common.{◌≡◌, ℕ, zero, suc, ◌+◌, ◌-◌, ◌<◌, ◌≤◌, Bool, true, false, List, length, get_or, set, Option, inl, inr, refl, sym, ap, ◌∙◌, arith}
 use Rattle.std.proofs.lemmas.Bool.{cases_Bool}
 use Rattle.std.proofs.lemmas.List.{set-get_or, get_or-set_same}
@@ -14,12 +14,12 @@ use Rattle.explicit.proofs.Matched.Filling.{IsFilling}
 use Rattle.explicit.proofs.Matched.Stops.{no_stop, filling_passed, filling_passed_all}
 use Rattle.explicit.proofs.StrongSides.Sides.{AreNoted, noted_weak, noted_strong}
 
--- the first strong class is noted in the last of the open isolates, or outside of all where none is open
+-- the first strong class is noted in the last of the open isolates, or outside of all isolates if none is open
 pub record IsFound (depth : ℕ) (s : ℕ → ℕ) (sides : List Side) (outside : Side) : Type 0 where
   pub outside_is : depth ≡ 0 → outside ≡ Unknown → ⊥
   pub inside_is : (d : ℕ) → depth ≡ d + 1 → get_or sides (s d) Unknown ≡ Unknown → ⊥
 
--- it stays as it is
+-- a known side is unchanged
 noted_again : (side : Side) (c : Class) → (side ≡ Unknown → ⊥) → noted side c ≡ side
 noted_again Unknown c known = absurd (known refl)
 noted_again LeftToRight c known = refl
@@ -67,7 +67,7 @@ noted_passed_all cs sought from end depth room partners openers sides outside no
     let whole : from + (end - from) ≡ end = omega arith in
     rw whole at (noted_passed cs sought from end depth room partners openers sides outside now passed inside fit found noted' (end - from) (omega arith))
 
--- a strong class that was noted there is found
+-- a strong class that was noted there is known
 pub found_strong : (depth : ℕ) (s : ℕ → ℕ) (class : Class) (sides new : List Side) (outside found : Side) → (depth ≡ 0 → (found ≡ noted outside class) × (new ≡ sides)) → ((d : ℕ) → depth ≡ d + 1 → (found ≡ outside) × (new ≡ noted_at sides (s d) class)) → ((d : ℕ) → depth ≡ d + 1 → s d < length sides) → IsFound depth s new found
 found_strong depth s class sides new outside found none some within = record {
   outside_is = λ z e. noted_known outside class (sym (none z).0 ∙ e);

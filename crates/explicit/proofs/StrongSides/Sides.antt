@@ -43,19 +43,19 @@ or_here cs k (Some p) = sym (noted_once (class_at cs p) (class_at cs k))
 one_more : (cs : List Class) (isolate : Option ℕ) (k : ℕ) → first_from (is_strong_in cs isolate) 0 (k + 1) ≡ or_else (first_from (is_strong_in cs isolate) 0 k) (cond (is_strong_in cs isolate k) (Some k) None)
 one_more cs isolate k = grind (arith, first_from_more)
 
--- one position more, where it isn't looked for, and where it is
+-- one position more, which is no strong class of the isolate, or is one
 side_kept : (cs : List Class) (isolate : Option ℕ) (k : ℕ) → is_strong_in cs isolate k ≡ false → side_before cs (k + 1) isolate ≡ side_before cs k isolate
 side_kept cs isolate k fails = ap (side_at cs) (one_more cs isolate k ∙ (rw fails (or_nothing (first_from (is_strong_in cs isolate) 0 k))))
 
 side_noted : (cs : List Class) (isolate : Option ℕ) (k : ℕ) → is_strong_in cs isolate k ≡ true → side_before cs (k + 1) isolate ≡ noted (side_before cs k isolate) (class_at cs k)
 side_noted cs isolate k holds = ap (side_at cs) (one_more cs isolate k ∙ (rw holds refl)) ∙ or_here cs k (first_from (is_strong_in cs isolate) 0 k)
 
--- an isolate has nothing before it begins
+-- an isolate has no strong class before it begins
 side_unknown : (cs : List Class) (k : ℕ) → side_before cs (k + 1) (Some k) ≡ Unknown
 side_unknown cs k =
     ap (side_at cs) (first_from_nowhere (is_strong_in cs (Some k)) 0 (k + 1) (λ q a b. elsewhere cs (Some k) q (λ here. let after = (around_holds cs q k here).after in absurd (omega arith))))
 
--- what the pass has noted of the first k positions
+-- the sides that the pass has noted after the first k positions
 pub record AreNoted (cs : List Class) (k : ℕ) (sides : List Side) (outside : Side) : Type 0 where
   pub inside_is : (i : ℕ) → i < k → is_isolate_initiator (class_at cs i) ≡ true → get_or sides i Unknown ≡ side_before cs k (Some i)
   pub outside_is : outside ≡ side_before cs k None
@@ -107,7 +107,7 @@ module _ {cs : List Class} {k : ℕ} {sides : List Side} {outside : Side} (now :
   noted_inside q below room begins strong here =
       grind (arith, nat_tests, get_or-set_same, side_noted, strong_here, get_or-set_other, not_opener, strong_kept)
 
--- a strong class, in the last of the open isolates, or outside of all where none is open
+-- a strong class, in the last of the open isolates, or outside of all isolates if none is open
 pub noted_strong : (cs : List Class) (k depth : ℕ) (s : ℕ → ℕ) (class : Class) (sides new : List Side) (outside found : Side) → AreNoted cs k sides outside → k < length cs → k ≤ length sides → IsOpenStack cs k depth s → class_at cs k ≡ class → is_strong (class_at cs k) ≡ true →
     (depth ≡ 0 → (found ≡ noted outside class) × (new ≡ sides)) → ((d : ℕ) → depth ≡ d + 1 → (found ≡ outside) × (new ≡ noted_at sides (s d) class)) → AreNoted cs (k + 1) new found
 noted_strong cs k zero s class sides new outside found now inside room stack same strong none some =
@@ -120,7 +120,7 @@ noted_strong cs k (suc n) s class sides new outside found now inside room stack 
     let below = stack.before n (omega arith) in
     rw (e.0, e.1, ← same) (noted_inside now (s n) below (omega (arith, below)) (stack.opener n (omega arith)) strong (around_last_open cs k inside n s stack plain.0 plain.1))
 
--- and as many sides are kept
+-- and the number of sides is unchanged
 pub sides_kept : (depth : ℕ) (s : ℕ → ℕ) (class : Class) (sides new : List Side) (outside found : Side) →
     (depth ≡ 0 → (found ≡ noted outside class) × (new ≡ sides)) → ((d : ℕ) → depth ≡ d + 1 → (found ≡ outside) × (new ≡ noted_at sides (s d) class)) → length new ≡ length sides
 sides_kept zero s class sides new outside found none some = ap length (none refl).1
@@ -130,7 +130,7 @@ sides_kept (suc n) s class sides new outside found none some = let one : suc n �
 pub pdi_is_weak : (c : Class) → is_pdi c ≡ true → is_strong c ≡ false
 pdi_is_weak c h = false_from_ne_true _ (λ t. absurd (true≢false (sym h ∙ (strong_is_other c t).1)))
 
--- at the paragraph's end all are found
+-- at the paragraph's end all sides are known
 pub noted_all_inside : (cs : List Class) (sides : List Side) (outside : Side) → AreNoted cs (length cs) sides outside → HasSides sides cs
 unfolding first_strong
 noted_all_inside cs sides outside now = now.inside_is
