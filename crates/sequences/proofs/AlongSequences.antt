@@ -1,4 +1,4 @@
--- What holds of each position of a sequence: its level, its successor.
+-- Properties of each position of a sequence: its level, its successor.
 use Rattle.std.specs.Prelude.{Option, Some, None, ℕ, zero, suc, true, ◌+◌, ◌<◌, ◌≤◌, ◌≡◌, List, filter, length, unwrap_or, Contains, IfSome, is_some, slice_get, slice_index, refl}
 use Rattle.std.specs.Option.{option_map}
 use Rattle.std.proofs.Common.{arith, ap, sym, ◌∙◌, subst, inl, inr}
@@ -13,7 +13,7 @@ use Rattle.sequences.proofs.Joined.{successor_cases}
 use Rattle.sequences.proofs.Links.{followed_chain, followed-steps}
 use Rattle.sequences.proofs.Once.{remains_within}
 
--- what holds of the sequence that begins at each first position holds of each sequence
+-- a property of the sequence from each first position is one of each sequence
 module _ (t : LeveledView) (P : SequenceView → Type 0) (each : (x : ℕ) → begins_sequence t x ≡ true → P (sequence_at t x)) where
   abbrev firsts : List ℕ
   firsts = filter (begins_sequence t) (positions_from 0 (size_of t))
@@ -33,7 +33,7 @@ module _ (t : LeveledView) (P : SequenceView → Type 0) (each : (x : ℕ) → b
 first_remains : (t : LeveledView) (x : ℕ) → begins_sequence t x ≡ true → remains t x ≡ true
 first_remains t x begins = (and_parts _ _ begins).0
 
--- a position that has a level has this one
+-- if there is a level, the base is not used
 level_is : (found : Option ℕ) (base : ℕ) → is_some found ≡ true → found ≡ Some (unwrap_or found base)
 level_is None base e = absurd (false≢true e)
 level_is (Some level) base e = refl
@@ -54,7 +54,7 @@ module _ (t : LeveledView) (nested : IsNested t) (level : Option ℕ) where
   walk_level (suc most) (Some x) is p (suc k, within, e) =
       walk_level most (successor t x) (next_level x (successor t x) refl is) p (k, omega (arith, within), e)
 
--- BD13: each position of a sequence has its level
+-- BD13: each position of a sequence has the sequence's level
 pub levels_along : (t : LeveledView) → IsNested t → (j p : ℕ) (s : SequenceView) → slice_get (sequences_of t) j ≡ Some s → Contains s.positions p → level_of t p ≡ Some s.level
 levels_along t nested j p s found c =
     of_each t (λ s. (q : ℕ) → Contains s.positions q → level_of t q ≡ Some s.level)
@@ -62,7 +62,7 @@ levels_along t nested j p s found c =
     walk_level t nested (Some (level_or_base t (Some x))) (size_of t) (Some x) (level_is (level_of t x) t.base (first_remains t x begins)) q d)
     j s found p c
 
--- BD13: each position of a sequence leads to the next one of it, and the last to none
+-- BD13: each position of a sequence leads to the next one in it, and the last one to none
 pub successors_along : (t : LeveledView) → IsLeveled t → (j k : ℕ) (s : SequenceView) → slice_get (sequences_of t) j ≡ Some s → k < length s.positions →
     successor t (slice_index s.positions k) ≡ slice_get s.positions (k + 1)
 successors_along t leveled j k s found within =
@@ -70,7 +70,7 @@ successors_along t leveled j k s found within =
     (λ x begins i l. followed_chain (successor t) (size_of t) (successor_later t leveled) x (remains_within t x (first_remains t x begins)) i l)
     j s found k within
 
--- a walk that may take more steps is no longer
+-- more steps than positions change nothing
 pub enough_steps : (t : LeveledView) (p most : ℕ) → IsLeveled t → p < size_of t → size_of t ≤ most → followed (successor t) most (Some p) ≡ sequence_from t p
 enough_steps t p most leveled within more =
     followed-steps (successor t) (size_of t) (successor_later t leveled) most (size_of t) (Some p) (within, omega arith) (within, omega arith)

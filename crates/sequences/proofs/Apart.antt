@@ -1,4 +1,4 @@
--- No position stands in two sequences, and each that remains stands in one.
+-- No position is in two sequences, and each remaining position is in one.
 use Rattle.std.proofs.lemmas.Bool.Decides.{nat_tests}
 use Rattle.std.proofs.lemmas.Grind.{common_steps}
 use Rattle.std.specs.Prelude.{Some, ℕ, zero, suc, ◌<◌, ◌≤◌, ◌≡◌, List, [], ◌∷◌, Contains, slice_get, refl}

@@ -1,4 +1,4 @@
--- What the link of a position of a sequence leads to.
+-- The position that a link of a sequence leads to.
 use Rattle.std.specs.Prelude.{Option, Some, ℕ, ◌+◌, ◌<◌, ◌≡◌, List, length, Contains, IfSome, slice_get, slice_index}
 use Rattle.std.proofs.Common.{arith, ap, sym, ◌∙◌}
 use Rattle.std.proofs.lemmas.List.{get_or_default}

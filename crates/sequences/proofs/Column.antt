@@ -1,4 +1,4 @@
--- The column of the positions of all sequences, and the heads that tell where each begins and ends in it.
+-- The column of the positions of all sequences, and the heads, which say where each one begins and ends in it.
 use Rattle.std.specs.Prelude.{Option, Some, None, ℕ, zero, suc, true, false, ◌+◌, ◌-◌, ◌<◌, ◌≤◌, ◌≡◌, List, [], ◌∷◌, ◌++◌, length, map, filter, IfSome, All, unwrap_or, slice_range, sum_by, refl}
 use Rattle.std.specs.List.{flat_map}
 use Rattle.std.proofs.Common.{arith, ap, sym, ◌∙◌, subst, inl, inr, take, drop, append_assoc}
@@ -77,7 +77,7 @@ column_grows t k (suc n) =
       | inr b ↦ omega (arith, column_grows t k n, ap (λ j. length (column_before t j)) e, ap length (column_same t (k + n) b))
     ]
 
--- at each step it has room for one sequence more
+-- at each step there is space for one more sequence
 pub column_room : (t : LeveledView) → IsLeveled t → IsNested t → (k : ℕ) → k < size_of t → begins_sequence t k ≡ true →
     length (column_before t k) + length (sequence_from t k) ≤ size_of t
 column_room t h n k l b =
@@ -94,7 +94,7 @@ column_room t h n k l b =
 slice_here : (before here after : List ℕ) → slice_range (before ++ (here ++ after)) (length before) (length before + length here) ≡ here
 slice_here before here after = grind (arith, drop-append_seam, take_at)
 
--- the column from here on, with what lies behind the part that is in use
+-- the column from here on, with the unused rest
 abbrev rest_of : LeveledView → List ℕ → List ℕ → List ℕ
 rest_of t spare [] = spare
 rest_of t spare (p ∷ ps) = sequence_from t p ++ rest_of t spare ps
@@ -119,7 +119,7 @@ views_are t spare before start s (p ∷ ps) =
     ∙ views_are t spare (before ++ sequence_from t p) (start + n) (omega (arith, s, length-append before (sequence_from t p))) ps in
     cc
 
--- the positions of all sequences stand at the front of the column
+-- the positions of all sequences are at the front of the column
 abbrev pub IsInFront : LeveledView → List ℕ → Type 0
 IsInFront t column = take (length (column_of t)) column ≡ column_of t
 
@@ -166,7 +166,7 @@ module _ (t : LeveledView) (h : IsLeveled t) (links : List (Option ℕ)) (fit : 
         | inr f ↦ subst P (sym (cond-false (begins_sequence t a) (a ∷ later) later f)) (headed spare (a + 1) n (omega arith) before start s)
       ]
 
-  -- each head stands over the column and the links
+  -- each head describes a part of the column and its links
   pub heads_stand : (column : List ℕ) → IsInFront t column → All (IsHead column links) (heads_of t)
   heads_stand column front =
       let spare : List ℕ = drop (length (column_of t)) column in

@@ -1,4 +1,4 @@
--- What the filled lists say of the successors.
+-- What the filled lists say about the successors.
 use Rattle.std.specs.Prelude.{Option, Some, None, ℕ, zero, suc, ◌≡◌, List, ◌∷◌, ◌++◌, length, take, refl}
 use Rattle.std.proofs.Common.{arith, ap, ◌∙◌, drop}
 use Rattle.std.proofs.lemmas.Bool.{cond-false}
@@ -9,7 +9,7 @@ use Rattle.sequences.specs.Links.{link_at, linked, LinksForward}
 use Rattle.sequences.specs.Heads.{AreSuccessors}
 use Rattle.sequences.proofs.Forward.{successor_later}
 
--- a loan of a whole list, given back
+-- a whole list that was borrowed and is put back
 pub put_back : {X : Type 0} (n : ℕ) (new old : List X) → length new ≡ n → take n (new ++ drop (length new) old) ≡ new
 put_back n new old e = take_at new (drop (length new) old) n e
 
@@ -22,14 +22,14 @@ same_walk f g e (suc n) None = refl
 same_walk f g e (suc n) (Some p) = ap (λ (ps : List ℕ). p ∷ ps) (same_walk f g e n (f p) ∙ ap (followed g n) (e p))
 
 module _ (t : LeveledView) (links : List (Option ℕ)) (fit : length links ≡ size_of t) (are : AreSuccessors t links) where
-  -- past the end no position has a link, and none a successor
+  -- past the end no position has a link or a successor
   pub links_are : (p : ℕ) → link_at links p ≡ successor t p
   links_are p = grind (arith, get_or_past, removed_successor)
 
   pub links_lead_on : IsLeveled t → LinksForward links
   links_lead_on h p = grind (arith, successor_later, links_are)
 
-  -- a walk along the links is a walk along the successors
+  -- following the links is following the successors
   pub linked_is : (p : ℕ) → linked links (Some p) ≡ followed (successor t) (size_of t) (Some p)
   linked_is p =
       same_walk (link_at links) (successor t) links_are (length links) (Some p) ∙ ap (λ n. followed (successor t) n (Some p)) fit

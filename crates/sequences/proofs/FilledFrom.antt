@@ -1,4 +1,4 @@
--- What the isolates and the explicit levels of a paragraph say of it, position by position.
+-- What the isolates and the explicit levels say about a paragraph, position by position.
 use Rattle.std.specs.Prelude.{Option, None, ℕ, true, false, [], ◌∷◌, ◌<◌, ◌≤◌, ◌≡◌, List, length, take, IfSome, slice_index_or}
 use Rattle.std.specs.List.{list_any}
 use Rattle.std.specs.Option.{option_map}
@@ -33,7 +33,7 @@ no_separator [] e = tt
 no_separator (u ∷ []) e = tt
 no_separator (u ∷ v ∷ us) e = grind (arith, or_parts, no_separator (v ∷ us))
 
--- the front of what was found is what the rules give
+-- the front of the column is what X1 to X9 give
 pub found_front : (depth : ℕ) (explicit : List (Option (ℕ × Class))) (cs : List Class) (para : ℕ) → HoldsLevels explicit depth cs para → take (length cs) explicit ≡ explicit_of depth cs para
 found_front depth explicit cs para holds =
     let n : length (explicit_of depth cs para) ≡ length cs = length-of_positions cs (explicit_at depth cs para) in
@@ -41,7 +41,7 @@ found_front depth explicit cs para holds =
     ext_get_or None (take (length cs) explicit) (explicit_of depth cs para) (m ∙ sym n)
     (λ i h. get_or-take (length cs) explicit i None (omega arith) ∙ holds.at i (omega arith) ∙ sym (get_or-of_positions cs (explicit_at depth cs para) i None (omega arith)))
 
--- with what X1 to X9 give up to a depth, the paragraph is that of this depth
+-- with the levels of X1 to X9 up to a depth, the paragraph is the one of this depth
 pub leveled_by-is : (depth : ℕ) (explicit : List (Option (ℕ × Class))) (cs : List Class) (para : ℕ) → HoldsLevels explicit depth cs para → leveled_by explicit cs para ≡ leveled_of depth cs para
 leveled_by-is depth explicit cs para holds = grind (arith, found_front)
 
@@ -50,7 +50,7 @@ pub size-of_paragraph : (explicit : List (Option (ℕ × Class))) (units : List 
 size-of_paragraph explicit units para levels =
     ap size_of (leveled_by-is levels.depth explicit (classes_of units) para levels.found) ∙ size-is levels.depth (classes_of units) para ∙ length-classes_of units
 
--- what was found of a paragraph
+-- the isolates and the explicit levels are those of the paragraph
 pub found_of : (units : List BidiUnit) (isolates : Isolates) (explicit : List (Option (ℕ × Class))) (base : ℕ) → SeparatorOnlyLast units → IsFilledFrom isolates (classes_of units) → AreExplicitLevels explicit (classes_of units) base →
     base ≤ 1 → AreOfParagraph units isolates explicit base
 found_of units isolates explicit base only matched levels low =

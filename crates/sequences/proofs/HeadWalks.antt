@@ -17,7 +17,7 @@ pub record Stored (t : LeveledView) (k : ℕ) (heads : List Head) (column : List
   pub few : length heads ≤ k
   pub column_is : column ≡ column_before t k
 
--- besides, the pass knows the last remaining position before k
+-- and the pass knows the last remaining position before k
 pub record HeadWalk (t : LeveledView) (k : ℕ) (heads : List Head) (column : List ℕ) (last : Option ℕ) : Type 0 where
   pub stored : Stored t k heads column
   pub last_is : last ≡ last_remaining t k
@@ -34,7 +34,7 @@ module _ {t : LeveledView} {k : ℕ} {heads : List Head} {column : List ℕ} (w 
   pub stored_same : (new : List Head) (more : List ℕ) → begins_sequence t k ≡ false → new ≡ heads → more ≡ column → Stored t (k + 1) new more
   stored_same new more b n m = grind (arith, heads_same, column_same)
 
--- what is stored at the fronts of two columns
+-- the fronts of two columns
 module _ (t : LeveledView) (k count end : ℕ) (heads : List Head) (column : List ℕ) (w : Stored t k (take count heads) (take end column)) (c : count ≤ length heads) (e : end ≤ length column) where
   pub stored_count : count ≡ length (heads_from t 0 (firsts_before t k))
   stored_count = sym (length-take-le count heads c) ∙ ap length w.heads_are
@@ -50,12 +50,12 @@ module _ {t : LeveledView} {k : ℕ} {heads : List Head} {column : List ℕ} {la
   pub head_walk_same : remains t k ≡ false → HeadWalk t (k + 1) new more last
   head_walk_same r = grind (arith, cond-false)
 
--- what is linked to the position right behind it, from the first to the last
+-- each position is linked to the one right after it, from the first to the last
 abbrev pub IsRun : LeveledView → ℕ → ℕ → Type 0
 IsRun t first last = (p : ℕ) → first ≤ p → p < last → successor t p ≡ Some (p + 1)
 
 module _ (t : LeveledView) (h : IsLeveled t) (n : IsNested t) (first last : ℕ) (run : IsRun t first last) where
-  -- no sequence begins behind the first of them
+  -- no sequence begins after the first of them
   stored_run : (count k : ℕ) → k + count ≡ last → first ≤ k → (heads : List Head) (column : List ℕ) → Stored t (k + 1) heads column → Stored t (last + 1) heads column
   stored_run zero k e low heads column w = let same : k ≡ last = omega (arith, e) in let P : ℕ → Type 0 = λ j. Stored t (j + 1) heads column in subst P same w
   stored_run (suc count) k e low heads column w =
@@ -76,7 +76,7 @@ module _ (t : LeveledView) (h : IsLeveled t) (n : IsNested t) (first last : ℕ)
   pub last_remains : first ≤ last → remains t first ≡ true → remains t last ≡ true
   last_remains low = run_remains (last - first) first (omega arith) (omega arith)
 
--- the pass behind the last position of a sequence's stretch
+-- the pass after the last position of a sequence's stretch
 pub head_walk_at : (t : LeveledView) (k : ℕ) (heads : List Head) (column : List ℕ) → Stored t (k + 1) heads column → remains t k ≡ true → HeadWalk t (k + 1) heads column (Some k)
 head_walk_at t k heads column d r =
     let one : k + 1 ≡ suc k = omega arith in
@@ -86,7 +86,7 @@ head_walk_at t k heads column d r =
       last_within = omega arith;
     }
 
--- or behind one that does not remain, which is the one that the pass came to
+-- or after a removed position, which the pass came to
 pub head_walk_next : {t : LeveledView} {p next : ℕ} {heads : List Head} {column : List ℕ} {last : Option ℕ} → HeadWalk t p heads column last → (next ≡ p) ⊎ (remains t next ≡ true) →
     (new : List Head) (more : List ℕ) → Stored t (next + 1) new more → remains t next ≡ false → HeadWalk t (next + 1) new more last
 head_walk_next {t} {p} {next} {heads} {column} {last} w (inl e) new more d r =

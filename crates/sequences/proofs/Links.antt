@@ -1,11 +1,11 @@
--- What a walk along links passes: each position and then the rest, rising.
+-- Following links passes each position and then the rest, in rising order.
 use Rattle.std.specs.Prelude.{Option, ℕ, zero, suc, ◌+◌, ◌<◌, ◌≤◌, ◌≡◌, List, [], ◌∷◌, ◌++◌, length, Some, None, IfSome, slice_index, slice_get, refl}
 use Rattle.std.proofs.Common.{arith, ap, sym, ◌∙◌, subst, append_assoc}
 use Rattle.std.proofs.lemmas.Option.{IfSome_then}
 use Rattle.units.specs.Runs.{followed}
 use Rattle.sequences.specs.Links.{link_at, linked, IsForward, LinksForward, ArePositions}
 
--- each position is at least low and below high, and they rise
+-- each position is at least low and below high, in rising order
 abbrev pub IsRising : ℕ → ℕ → List ℕ → Type 0
 IsRising low high [] = Unit {0}
 IsRising low high (p ∷ ps) = (low ≤ p) × (p < high) × IsRising (p + 1) high ps
@@ -28,7 +28,7 @@ rising_positions high ps r = record {
   rising = rising_order 0 high ps r;
 }
 
--- the walk has steps enough for what is left from here
+-- there are enough steps for the positions from here on
 abbrev pub HasSteps : ℕ → ℕ → Option ℕ → Type 0
 HasSteps end steps at = IfSome at (λ p. (p < end) × (end ≤ p + steps))
 
@@ -46,7 +46,7 @@ module _ (next : ℕ → Option ℕ) (end : ℕ) (h : IsForward next end) where
   steps_on : (p steps : ℕ) → end ≤ p + suc steps → HasSteps end steps (next p)
   steps_on p steps e = IfSome_then (next p) (h p) (λ q w. (w.1, omega (arith, w.0)))
 
-  -- more steps than are left change nothing
+  -- more steps than that change nothing
   pub followed-steps : (a b : ℕ) (at : Option ℕ) → HasSteps end a at → HasSteps end b at → followed next a at ≡ followed next b at
   followed-steps zero zero at ha hb = refl
   followed-steps zero (suc b) None ha hb = refl
@@ -62,7 +62,7 @@ module _ (next : ℕ → Option ℕ) (end : ℕ) (h : IsForward next end) where
   followed-at (suc n) p e l =
       ap (λ (ps : List ℕ). p ∷ ps) (followed-steps n (suc n) (next p) (steps_on p n (omega arith)) (steps_on p (suc n) (omega arith)))
 
-  -- a walk from p is p and a walk from the next
+  -- the positions from p on are p and the positions from the next one on
   pub followed-some : (p : ℕ) → p < end → followed next end (Some p) ≡ p ∷ followed next end (next p)
   followed-some p l = followed-at end p refl l
 
@@ -72,7 +72,7 @@ module _ (next : ℕ → Option ℕ) (end : ℕ) (h : IsForward next end) where
   followed-rises (suc n) low (Some p) w =
       (w.0, w.1, followed-rises n (p + 1) (next p) (IfSome_then (next p) (h p) (λ q v. (omega (arith, v.0), v.1))))
 
-  -- a walk rises
+  -- they are in rising order
   pub followed_rises : (p : ℕ) → p < end → IsRising 0 end (followed next end (Some p))
   followed_rises p l = followed-rises end 0 (Some p) (omega arith, l)
 
@@ -83,17 +83,17 @@ module _ (next : ℕ → Option ℕ) (end : ℕ) (h : IsForward next end) where
   chained (suc n) (Some p) s zero l = sym (followed-first next end n (next p) (steps_on p n s.1))
   chained (suc n) (Some p) s (suc k) l = chained n (next p) (steps_on p n s.1) k (omega arith)
 
-  -- each position of a walk leads to the next one of it
+  -- each of them leads to the next one
   pub followed_chain : (p : ℕ) → p < end → (k : ℕ) → k < length (followed next end (Some p)) →
       next (slice_index (followed next end (Some p)) k) ≡ slice_get (followed next end (Some p)) (k + 1)
   followed_chain p w k l = grind (arith, chained)
 
--- a walk along links
+-- the same for links
 pub linked-some : (links : List (Option ℕ)) (p : ℕ) → LinksForward links → p < length links →
     linked links (Some p) ≡ p ∷ linked links (link_at links p)
 linked-some links p h l = followed-some (link_at links) (length links) h p l
 
--- what is pushed, and what the links still lead to, is the whole
+-- the pushed positions and those that the links still lead to are the whole list
 pub record IsPushed (links : List (Option ℕ)) (whole pushed : List ℕ) (at : Option ℕ) : Type 0 where
   pub within : IfSome at (λ p. p < length links)
   pub all : pushed ++ linked links at ≡ whole
@@ -108,11 +108,11 @@ module _ {links : List (Option ℕ)} {whole pushed : List ℕ} {at : Option ℕ}
   pub pushed_more : (p : ℕ) → at ≡ Some p → (more : List ℕ) → more ≡ pushed ++ p ∷ [] → (next : Option ℕ) → next ≡ link_at links p → IsPushed links whole more next
   pushed_more p e more m next n = grind (arith, append_assoc, pushed_step)
 
--- before a walk nothing of it is pushed
+-- before the first step nothing is pushed
 pub pushed_first : (links : List (Option ℕ)) (first : ℕ) → first < length links → (pushed : List ℕ) → IsPushed links (pushed ++ linked links (Some first)) pushed (Some first)
 pushed_first links first l pushed = record { within = l; all = refl }
 
--- what is pushed up to a position, and what that one leads to
+-- the positions are pushed up to one, whose link leads on
 pub pushed_to : (links : List (Option ℕ)) → LinksForward links → (whole pushed : List ℕ) (p : ℕ) → pushed ++ linked links (link_at links p) ≡ whole →
     (next : Option ℕ) → next ≡ link_at links p → IsPushed links whole pushed next
 pushed_to links h whole pushed p e next n = rw n (record { within = IfSome_then (link_at links p) (h p) (λ q v. v.1); all = e })

@@ -1,4 +1,4 @@
--- Each remaining position stands once in all sequences together.
+-- All sequences together contain each remaining position once.
 use Rattle.std.proofs.lemmas.Bool.Decides.{nat_tests}
 use Rattle.std.proofs.lemmas.Grind.{common_steps}
 use Rattle.std.specs.Prelude.{Option, Some, None, ℕ, zero, suc, Bool, true, false, not, ◌==◌, ◌+◌, ◌<◌, ◌≤◌, ◌≡◌, List, [], ◌∷◌, ◌++◌, cond, map, filter, IfSome, is_some, refl}
@@ -18,7 +18,7 @@ use Rattle.sequences.proofs.Forward.{successor_later}
 use Rattle.sequences.proofs.Joined.{successor_remains, successor_once, successor_cases}
 use Rattle.sequences.proofs.Nearest.{any_from, any_none}
 
--- 1 where the two are one
+-- 1 if the two are equal
 abbrev pub one_if : ℕ → ℕ → ℕ
 one_if x p = cond (x == p) 1 0
 
@@ -67,7 +67,7 @@ times-positions a (suc n) p g l =
       | inr other ↦ omega (arith, times-cons a (positions_from (a + 1) n) p, one_if-other a p other, times-positions (a + 1) n p (omega arith) (omega arith))
     ]
 
--- how often p stands in the sequences that begin at one of these
+-- how often p is in the sequences that begin at one of these
 abbrev held : LeveledView → ℕ → List ℕ → ℕ
 held t p xs = times (flat_map (sequence_from t) (filter (begins_sequence t) xs)) p
 
@@ -82,7 +82,7 @@ module _ (t : LeveledView) (h : IsLeveled t) (n : IsNested t) where
   pub begins_remains : (p : ℕ) → begins_sequence t p ≡ true → remains t p ≡ true
   begins_remains p b = (and_parts _ _ b).0
 
-  -- where a sequence begins, nothing leads to
+  -- nothing leads to the beginning of a sequence
   begins_first : (p : ℕ) → begins_sequence t p ≡ true → (q : ℕ) → successor t q ≡ Some p → ⊥
   begins_first p b q e =
       let led : Bool = list_any (λ q. same_position (successor t q) (Some p)) (positions_from 0 (size_of t)) in
@@ -96,7 +96,7 @@ module _ (t : LeveledView) (h : IsLeveled t) (n : IsNested t) where
   pub leads_to_remaining : (x : ℕ) → IfSome (successor t x) (λ y. remains t y ≡ true)
   leads_to_remaining x = grind (arith, if_some, successor_cases, successor_remains)
 
-  -- a removed position stands in no walk
+  -- following successors never comes to a removed position
   walk_removed : (p : ℕ) → remains t p ≡ false → (steps : ℕ) (from : Option ℕ) → IfSome from (λ x. remains t x ≡ true) →
       times (followed (successor t) steps from) p ≡ 0
   walk_removed p r zero from s = refl
@@ -104,7 +104,7 @@ module _ (t : LeveledView) (h : IsLeveled t) (n : IsNested t) where
   walk_removed p r (suc steps) (Some x) s =
       grind (arith, times-cons, one_if-other, false≢true, leads_to_remaining, walk_removed p r steps)
 
-  -- a position to which nothing leads stands in a walk only as its first
+  -- it comes to a position that nothing leads to only if it begins there
   walk_past : (p : ℕ) → ((q : ℕ) → successor t q ≡ Some p → ⊥) → (steps : ℕ) (from : Option ℕ) → (from ≡ Some p → ⊥) →
       times (followed (successor t) steps from) p ≡ 0
   walk_past p f zero from s = refl
@@ -117,7 +117,7 @@ module _ (t : LeveledView) (h : IsLeveled t) (n : IsNested t) where
   walk_first p f (suc steps) x l =
       omega (arith, times-cons x (followed (successor t) steps (successor t x)) p, walk_past p f steps (successor t x) (f x))
 
-  -- a position stands in a walk as its first, or as often as the one that leads to it
+  -- it comes to a position if it begins there, or as often as to the one that leads to it
   walk_step : (p q : ℕ) → successor t q ≡ Some p → (steps x : ℕ) (next : Option ℕ) → successor t x ≡ next →
       ((y : ℕ) → next ≡ Some y → times (followed (successor t) steps (Some y)) p ≡ one_if y p + times (followed (successor t) steps (Some y)) q) →
       times (followed (successor t) steps next) p ≡ one_if x q + times (followed (successor t) steps next) q
@@ -196,7 +196,7 @@ pub flat_views : (t : LeveledView) (xs : List ℕ) → flat_map (λ (s : Sequenc
 flat_views t [] = refl
 flat_views t (x ∷ xs) = ap (λ (ps : List ℕ). sequence_from t x ++ ps) (flat_views t xs)
 
--- the sequences hold each remaining position exactly once
+-- the sequences contain each remaining position exactly once
 pub sequences_hold_once : (t : LeveledView) → IsLeveled t → IsNested t → HoldsOnce t (sequences_of t)
 sequences_hold_once t h n p l =
     ap (λ (ps : List ℕ). times ps p) (flat_views t (filter (begins_sequence t) (positions_from 0 (size_of t))))

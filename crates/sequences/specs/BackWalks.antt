@@ -7,15 +7,15 @@ use Rattle.units.specs.Runs.{LeveledView, size_of, remains, successor, eos_at, l
 use Rattle.units.specs.declared.class.Class.{Class}
 use Rattle.sequences.specs.Links.{is_joined, link_at}
 
--- of the positions from start on, count of them, one leads to q
+-- one of the count positions from start on leads to q
 abbrev pub is_led_to : (ℕ → Option ℕ) → ℕ → ℕ → ℕ → Bool
 is_led_to next start count q = list_any (λ p. same_position (next p) (Some q)) (positions_from start count)
 
--- the positions from k on are marked, by the links of those
+-- the positions from k on are marked if one of them leads there
 abbrev pub AreMarked : (ℕ → Option ℕ) → ℕ → ℕ → List Bool → Type 0
 AreMarked next end k joined = (q : ℕ) → k ≤ q → q < end → is_joined joined q ≡ is_led_to next k (end - k) q
 
--- the pass has treated the positions from k on
+-- the pass has handled the positions from k on
 pub record BackWalk (t : LeveledView) (k : ℕ) (next : Option ℕ) (links : List (Option ℕ)) (ends : List Class)
     (joined : List Bool) : Type 0 where
   pub within : k ≤ size_of t

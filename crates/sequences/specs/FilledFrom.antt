@@ -1,4 +1,4 @@
--- What was found of a paragraph before its sequences.
+-- The isolates and the explicit levels of a paragraph, which its sequences are found from.
 use Rattle.std.specs.Prelude.{Option, ℕ, ◌≤◌, List, length, map, take}
 use Rattle.std.specs.Option.{option_map}
 use Rattle.units.specs.Classes.{classes_of}
@@ -20,8 +20,8 @@ leveled_by explicit cs para_level = record {
   base = para_level;
 }
 
--- X1 to X9: these are the explicit levels, up to some depth that is allowed (BD2), and the current classes of a
--- paragraph with these classes, whose level is para_level
+-- X1 to X9: these are the explicit levels, up to some allowed depth (BD2), and the current classes of a paragraph with
+-- these classes and this level
 pub record AreExplicitLevels (explicit : List (Option (ℕ × Class))) (cs : List Class) (para_level : ℕ) : Type 0 where
   pub depth : ℕ
   pub within : depth ≤ 125

@@ -1,11 +1,11 @@
--- The fixed room of the sequences.
+-- The fixed capacity of the columns of sequences.
 use Rattle.std.specs.Prelude.{Option, ℕ, ◌<◌, ◌≤◌, ◌≡◌, Bool, List, length, take, All}
 use Rattle.units.specs.OptionalPositions.{no_position}
 use Rattle.units.specs.declared.class.Class.{Class}
 use Rattle.sequences.specs.declared.heads.Head.{Head}
 use Rattle.sequences.specs.Heads.{IsHead}
 
--- the columns have room for as many positions, of which the first are in use, and so are the first heads
+-- the columns have one capacity; the first size positions and the first count heads are in use
 pub record HasRoomForSequences (links : List (Option ℕ)) (ends : List Class) (joined : List Bool) (heads : List Head)
     (column : List ℕ) (count size : ℕ) : Type 0 where
   pub small : length links < no_position

@@ -1,4 +1,4 @@
-//! Where sequences begin: their first positions, and what is said of each (BD13, X10).
+//! The heads of the sequences: where each one begins, its level, and its sos and eos (BD13, X10).
 ghost use Rattle.std.specs.Prelude.{◌≡◌, ◌≤◌, ◌+◌, ◌-◌, ◌++◌, ◌<◌, ◌↔◌, IfSome, IsTrue, Some, length, take};
 ghost use Rattle.units.specs.Runs.{size_of, last_remaining, begins_sequence, sequence_from};
 ghost use Rattle.sequences.specs.Links.{IsLinkedStretch, link_at, linked, LinksForward};
@@ -12,7 +12,7 @@ use units::level::Level;
 use units::optional_position::OptionalPosition;
 use units::steps::Steps;
 
-/// What is stored of a sequence beside its positions, which stand in their column from `start` up to `end`.
+/// A sequence without its positions, which are in the column from `start` up to `end`.
 #[derive(Clone, Copy)]
 pub struct Head {
     pub start: u32,
@@ -22,7 +22,7 @@ pub struct Head {
     pub eos: Class,
 }
 
-/// Whether a sequence begins at `p` (BD13).
+/// Returns whether a sequence begins at `p` (BD13).
 fn begins(t: &Leveled, joined: &[bool], p: usize) -> bool
     requires here { p < size_of t.now }
     requires fits { size_of t.now ≤ length joined.now }
@@ -32,15 +32,15 @@ fn begins(t: &Leveled, joined: &[bool], p: usize) -> bool
     t.level(p).is_some() && !joined[p]
 }
 
-/// What was written of a sequence: where its positions end in the column, and the last of those that follow its first
-/// one without a gap.
+/// A sequence that was written to the column: the end of its positions there, and the last one of those that follow its
+/// first position without a gap.
 #[derive(Clone, Copy)]
 struct Written {
     end: usize,
     last: usize,
 }
 
-/// Whether a position is linked to the one right behind it.
+/// Returns whether a position is linked to the one right after it.
 fn leads_on(links: &[OptionalPosition], p: usize) -> bool
     requires small { length links.now < u32.MAX }
     requires here { p < length links.now }
@@ -49,8 +49,8 @@ fn leads_on(links: &[OptionalPosition], p: usize) -> bool
     links[p] == OptionalPosition::some(p + 1)
 }
 
-/// Writes the position that is given, and those behind it as long as each is linked to the one right behind it, into
-/// the column from `start` on. Answers the last of them. Each that is written is a step.
+/// Writes `first` into the column at `start`, followed by the positions after it, as long as each one is linked to the
+/// one right after it. Returns the last of these positions. Each written position is a step.
 fn write_stretch<L: Ledger>(
     links: &[OptionalPosition],
     first: usize,
@@ -80,7 +80,7 @@ fn write_stretch<L: Ledger>(
     p
 }
 
-/// Writes the position that is given, and what its links lead to, into the column from `start` on.
+/// Writes `first` and the positions that its links lead to into the column, from `start` on.
 fn write_linked<L: Ledger>(
     links: &[OptionalPosition],
     first: usize,
@@ -108,7 +108,7 @@ fn write_linked<L: Ledger>(
     Written { end, last }
 }
 
-/// What is stored of the sequence that begins at `p`, whose positions stand in the column from `start` up to `end`.
+/// Returns the head of the sequence that begins at `p`, whose positions are in the column from `start` up to `end`.
 fn make_head(
     t: &Leveled,
     ends: &[Class],
@@ -137,10 +137,10 @@ fn make_head(
     }
 }
 
-/// Writes the heads of the sequences in the order of their first positions, and the positions of each in one column,
-/// both from the front on. Answers how many sequences there are. No sequence begins at a position that another is
-/// linked to, so those that are written without a gap are passed at once. A step for each position that is passed, and
-/// one for each that is written.
+/// Writes the heads of the sequences in the order of their first positions, and the positions of each sequence into one
+/// column, both from the front on. Returns the number of sequences. A sequence never begins at a position that another
+/// one is linked to, so the pass skips the positions that are written without a gap. Each position of the paragraph is
+/// a step, and so is each written one.
 pub fn fill_heads<L: Ledger>(
     t: &Leveled,
     links: &[OptionalPosition],
@@ -175,7 +175,7 @@ pub fn fill_heads<L: Ledger>(
             heads[count] = make_head(t, ends, last, p, end, written.end);
             count += 1;
             end = written.end;
-            // No turn is taken for these, but callers are told a step for each position that is passed.
+            // The loop skips these positions, but each position of the paragraph counts as a step.
             steps.add(written.last - p);
             p = written.last;
         }

@@ -1,4 +1,4 @@
-//! A paragraph after X1 to X9, as the walks that find its sequences read it.
+//! A paragraph after X1 to X9, as the passes that find its sequences read it.
 ghost use Rattle.std.specs.Prelude.{◌≡◌, ◌<◌, ◌≤◌, IfSome, None, Some, length, slice_index_or};
 ghost use Rattle.units.specs.Classes.{class_at, classes_of, is_isolate_initiator};
 ghost use Rattle.units.specs.Paragraphs.{SeparatorOnlyLast};
@@ -36,7 +36,7 @@ impl<'a> Model for Leveled<'a> {
     ghost invariant = { λ t. AreOfParagraph t.para.now t.isolates.now t.explicit.now t.base };
 }
 
-/// What was found of the position `p`: its explicit level and its current class, or none where it is removed.
+/// Returns the explicit level and the current class of the position `p`, or none if it is removed.
 fn at(explicit: &[LeveledClass], p: usize) -> LeveledClass
     requires { p < length explicit.now }
     ensures { result ≡ slice_index_or explicit.now p None }
@@ -45,7 +45,7 @@ fn at(explicit: &[LeveledClass], p: usize) -> LeveledClass
 }
 
 impl<'a> Leveled<'a> {
-    /// The paragraph, of this level, with the isolates and the explicit levels that were found of it.
+    /// Combines the paragraph and its level with its isolates and its explicit levels.
     pub fn new(
         para: &'a [Unit],
         isolates: &'a IsolateMap,
@@ -65,7 +65,7 @@ impl<'a> Leveled<'a> {
         }
     }
 
-    /// How many positions the paragraph has.
+    /// Returns the number of positions of the paragraph.
     pub fn len(&self) -> usize
         ensures value { result ≡ size_of self.now }
         ensures leveled { IsLeveled self.now }
@@ -74,14 +74,14 @@ impl<'a> Leveled<'a> {
         self.para.len()
     }
 
-    /// The paragraph's level.
+    /// Returns the paragraph's level.
     pub fn base(&self) -> Level
         ensures { result ≡ self.now.base }
     {
         self.base
     }
 
-    /// The explicit level of the position, if it remains (X9).
+    /// Returns the explicit level of the position, if it remains (X9).
     pub fn level(&self, p: usize) -> Option<Level>
         requires { p < size_of self.now }
         ensures value { result ≡ level_of self.now p }
@@ -90,7 +90,7 @@ impl<'a> Leveled<'a> {
         at(self.explicit, p).level()
     }
 
-    /// Whether the position remains, at this level.
+    /// Returns whether the position remains and is at this level.
     pub fn is_at(&self, p: usize, level: Level) -> bool
         requires { p < size_of self.now }
         ensures { result ≡ at_one_level (level_of self.now p) (Some level) }
@@ -98,7 +98,7 @@ impl<'a> Leveled<'a> {
         at(self.explicit, p).is_at(level)
     }
 
-    /// Whether the position's own class is LRI, RLI or FSI.
+    /// Returns whether the position's own class is LRI, RLI or FSI.
     pub fn is_isolate_initiator(&self, p: usize) -> bool
         requires { p < size_of self.now }
         ensures { result ≡ is_isolate_initiator (class_at self.now.classes p) }
@@ -107,7 +107,8 @@ impl<'a> Leveled<'a> {
         para[p].class.is_isolate_initiator()
     }
 
-    /// The PDI that matches the isolate initiator at the position (BD9); none where no initiator stands.
+    /// Returns the PDI that matches the isolate initiator at the position (BD9), or none if there is no initiator or no
+    /// PDI matches it.
     pub fn matched_pdi(&self, p: usize) -> Option<usize>
         requires { p < size_of self.now }
         ensures value { result ≡ matched_pdi self.now p }

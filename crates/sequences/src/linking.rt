@@ -1,4 +1,4 @@
-//! The links from each position to the next of its sequence (BD13), and what each sequence ends with (X10).
+//! The links from each position to the next one of its sequence (BD13), and the eos of each sequence (X10).
 ghost use Rattle.std.specs.Prelude.{◌≡◌, ◌+◌, ◌<◌, ◌≤◌, ◌&&◌, IfSome, Some, None, is_some, if◌then◌else◌, length};
 ghost use Rattle.units.specs.Runs.{size_of, level_of, at_one_level, level_or_base, remains, matched_pdi, successor, eos_at, eos_by, last_in, sequence_from};
 ghost use Rattle.explicit.specs.Leveled.{IsLeveled};
@@ -14,8 +14,8 @@ use units::level::Level;
 use units::optional_position::OptionalPosition;
 use units::steps::Steps;
 
-/// What stands behind a position: the next remaining position, its level, and what its sequence ends with. Where none
-/// remains, the level is the paragraph's.
+/// What comes after a position: the next remaining position, its level, and the eos of its sequence. If none remains,
+/// the level is the paragraph's.
 #[derive(Clone, Copy)]
 struct Behind {
     next: Option<usize>,
@@ -23,14 +23,14 @@ struct Behind {
     end: Class,
 }
 
-/// How the sequence of a position goes on: the position after it, if there is one, and what the sequence ends with.
+/// How the sequence of a position continues: the next position, if there is one, and the eos of the sequence.
 #[derive(Clone, Copy)]
 struct Continuation {
     link: Option<usize>,
     end: Class,
 }
 
-/// The level of the position that is given, or the paragraph's.
+/// Returns the level of the position, or the paragraph's level if there is no position or it is removed.
 pub fn level_or_base(t: &Leveled, at: Option<usize>) -> Level
     requires { IfSome at (λ p. p < size_of t.now) }
     ensures { result ≡ level_or_base t.now at }
@@ -44,7 +44,7 @@ pub fn level_or_base(t: &Leveled, at: Option<usize>) -> Level
     }
 }
 
-/// Whether the level run of `p` goes on behind it (BD7): the next remaining position is at the same level.
+/// Returns whether the level run of `p` continues after it (BD7): the next remaining position is at the same level.
 fn run_goes_on(t: &Leveled, p: usize, behind: &Behind) -> bool
     requires here { p < size_of t.now }
     ensures { result ≡ (is_some behind.now.next && at_one_level (level_of t.now p) (Some behind.now.level)) }
@@ -55,7 +55,7 @@ fn run_goes_on(t: &Leveled, p: usize, behind: &Behind) -> bool
     }
 }
 
-/// The PDI that goes on with the sequence of `p` (BD13), whose level run ends there.
+/// Returns the PDI with which the sequence of `p` continues (BD13), if the level run of `p` ends there.
 fn pdi_after(t: &Leveled, p: usize, behind: &Behind) -> Option<usize>
     requires here { p < size_of t.now }
     ensures value { result ≡ (if remains t.now p && is_some behind.now.next then matched_pdi t.now p else None) }
@@ -68,7 +68,7 @@ fn pdi_after(t: &Leveled, p: usize, behind: &Behind) -> Option<usize>
     }
 }
 
-/// The end of a sequence that ends at `p` (X10).
+/// Returns the eos of a sequence that ends at `p` (X10).
 fn eos(t: &Leveled, p: usize, behind: &Behind) -> Class
     requires here { p < size_of t.now }
     requires level { behind.now.level ≡ level_or_base t.now behind.now.next }
@@ -79,7 +79,8 @@ fn eos(t: &Leveled, p: usize, behind: &Behind) -> Class
     level_or_base(t, Some(p)).direction_with(after)
 }
 
-/// How the sequence of `p` goes on (BD13): within its level run, or at the PDI that matches `p`, or not.
+/// Returns how the sequence of `p` continues (BD13): within its level run, or at the PDI that matches `p`, or not at
+/// all.
 fn go_on(t: &Leveled, p: usize, behind: &Behind, ends: &[Class]) -> Continuation
     requires here { p < size_of t.now }
     requires fits { size_of t.now ≤ length ends.now }
@@ -106,7 +107,6 @@ fn go_on(t: &Leveled, p: usize, behind: &Behind, ends: &[Class]) -> Continuation
     }
 }
 
-/// The link to the position that is given, if one is.
 fn link_to(at: Option<usize>) -> OptionalPosition
     requires { IfSome at (λ p. p < u32.MAX) }
     ensures { result ≡ at }
@@ -117,7 +117,6 @@ fn link_to(at: Option<usize>) -> OptionalPosition
     }
 }
 
-/// Marks the position that a link leads to.
 fn mark(link: Option<usize>, joined: &mut [bool])
     requires { IfSome link (λ q. q < length joined.old) }
     ensures { joined.new ≡ marked joined.old link }
@@ -127,9 +126,9 @@ fn mark(link: Option<usize>, joined: &mut [bool])
     }
 }
 
-/// From a position of this level back, links each one before it to the one behind it, as long as they are at that level
-/// and none is between. What their sequence ends with is given. Answers the first of them. Each that is linked is a
-/// step.
+/// Links each position before `from` to the one right after it, from the last one back, as long as they are at this
+/// level. `end` is the eos of their sequence. Returns the first of these positions, or `from` if there is none. Each
+/// linked position is a step.
 fn link_level<L: Ledger>(
     t: &Leveled,
     from: usize,
@@ -164,8 +163,8 @@ fn link_level<L: Ledger>(
     p
 }
 
-/// From the last position back, links each position to the next of its sequence, finds what its sequence ends with, and
-/// marks the positions that come after another.
+/// Links each position to the next one of its sequence, finds the eos of its sequence, and marks the positions that
+/// another one is linked to. The pass goes from the last position back.
 pub fn link<L: Ledger>(
     t: &Leveled,
     links: &mut [OptionalPosition],

@@ -1,4 +1,4 @@
-//! A paragraph in which nothing begins an embedding or an isolate: what remains of it is one sequence.
+//! A paragraph in which nothing begins an embedding or an isolate: all positions that remain are one sequence.
 ghost use Rattle.std.specs.Prelude.{◌≡◌, ◌+◌, ◌<◌, ◌≤◌, length, slice_get, take, true};
 ghost use Rattle.units.specs.Classes.{classes_of, is_removed};
 ghost use Rattle.units.specs.Isolates.{level_of_para};
@@ -29,7 +29,7 @@ fn write_all<L: Ledger>(end: usize, column: &mut [u32], steps: &mut Steps<L>)
     }
 }
 
-/// Writes the positions that remain (X9) into the column, from the front on. Answers how many they are.
+/// Writes the positions that remain (X9) into the column, from the front on. Returns their number.
 fn write_remaining<L: Ledger>(para: &[Unit], column: &mut [u32], steps: &mut Steps<L>) -> usize
     requires small { length para.now < u32.MAX }
     requires room { length para.now ≤ length column.old }
@@ -49,7 +49,7 @@ fn write_remaining<L: Ledger>(para: &[Unit], column: &mut [u32], steps: &mut Ste
     count
 }
 
-/// The position after the one with this number, if it isn't the last.
+/// Returns the position at the index `k + 1`, or none if `k` is the last index.
 fn position_after(positions: &[u32], k: usize) -> OptionalPosition
     requires here { k < length positions.now }
     requires rise { ArePositions positions.now u32.MAX }
@@ -61,7 +61,7 @@ fn position_after(positions: &[u32], k: usize) -> OptionalPosition
     }
 }
 
-/// Links each of these positions to the next.
+/// Links each of these positions to the next one.
 fn link_all<L: Ledger>(positions: &[u32], links: &mut [OptionalPosition], steps: &mut Steps<L>)
     requires small { length links.old < u32.MAX }
     requires rise { ArePositions positions.now (length links.old) }
@@ -74,7 +74,7 @@ fn link_all<L: Ledger>(positions: &[u32], links: &mut [OptionalPosition], steps:
     }
 }
 
-/// What is stored of a sequence of so many positions at the front of the column, in a paragraph of this level.
+/// Returns the head of a sequence of `count` positions at the front of the column, in a paragraph of this level.
 fn only_head(level: Level, count: usize) -> Head
     requires { count < u32.MAX }
     ensures { result ≡ only_head level count }
@@ -88,8 +88,8 @@ fn only_head(level: Level, count: usize) -> Head
     }
 }
 
-/// Writes the positions that remain (X9) into the column, from the front on: all of them, and without a look at a
-/// class, if `all_remain`. Answers how many they are.
+/// Writes the positions that remain (X9) into the column, from the front on, and returns their number. If `all_remain`,
+/// writes all positions without reading a class.
 fn write_positions<L: Ledger>(
     para: &[Unit],
     all_remain: bool,
@@ -111,7 +111,7 @@ fn write_positions<L: Ledger>(
     write_remaining(para, column, steps)
 }
 
-/// Links each position of a paragraph to the next.
+/// Links each position of a paragraph to the next one.
 fn link_successive<L: Ledger>(links: &mut [OptionalPosition], steps: &mut Steps<L>)
     requires some { 0 < length links.old }
     requires small { length links.old < u32.MAX }
@@ -126,7 +126,7 @@ fn link_successive<L: Ledger>(links: &mut [OptionalPosition], steps: &mut Steps<
     links[end - 1] = OptionalPosition::none();
 }
 
-/// Links each of the positions that were written to the next: all of the paragraph, if `all_remain`.
+/// Links each written position to the next one. If `all_remain`, these are all positions of the paragraph.
 fn link_written<L: Ledger>(
     positions: &[u32],
     all_remain: bool,
@@ -147,8 +147,7 @@ fn link_written<L: Ledger>(
     link_all(positions, links, steps);
 }
 
-/// Fills the columns, of which the paragraph takes the fronts. Answers how many sequences there are: one, or none
-/// where no position remains.
+/// Fills the columns from the front on, and returns the number of sequences: 1, or 0 if no position remains.
 pub fn fill_one_sequence<L: Ledger>(
     para: &[Unit],
     all_remain: bool,

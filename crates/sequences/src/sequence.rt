@@ -1,4 +1,4 @@
-//! One sequence, as what resolves it reads it: its positions, its level, and its two ends.
+//! One sequence, as the resolving rules read it: its positions, its level, its sos and its eos.
 ghost use Rattle.std.specs.Prelude.{◌≡◌, ℕ, ◌+◌, ◌<◌, ◌≤◌, List, Some, length, slice_index, slice_get, IfSome, Contains};
 ghost use Rattle.std.specs.Iterator.{YieldsFirst, item_count};
 ghost use Rattle.units.specs.Runs.{LeveledView, SequenceView, sequences_of, successor};
@@ -55,7 +55,7 @@ impl<'a> Model for Sequence<'a> {
 }
 
 impl<'a> Sequence<'a> {
-    /// The positions, rising, one by one.
+    /// Returns an iterator over the positions, in rising order.
     pub fn positions(&self) -> Positions<'a>
         ensures value { result ≡ self.now.positions }
         ensures rise { ArePositions self.now.positions self.now.extent }
@@ -65,7 +65,7 @@ impl<'a> Sequence<'a> {
         }
     }
 
-    /// The positions, rising, as one slice.
+    /// Returns the positions in rising order as one slice.
     pub fn as_slice(&self) -> &'a [u32]
         ensures value { result.now ≡ self.now.positions }
         ensures rise { ArePositions self.now.positions self.now.extent }
@@ -73,7 +73,7 @@ impl<'a> Sequence<'a> {
         self.positions
     }
 
-    /// The level of its positions, 0 to 125.
+    /// Returns the level of its positions, 0 to 125.
     pub fn level(&self) -> Level
         ensures value { result ≡ self.now.level }
         ensures within { result ≤ 125 }
@@ -81,21 +81,21 @@ impl<'a> Sequence<'a> {
         self.level
     }
 
-    /// What stands before its first position: L or R (X10).
+    /// Returns the sos, L or R: the class before its first position (X10).
     pub fn sos(&self) -> Class
         ensures { result ≡ self.now.sos }
     {
         self.sos
     }
 
-    /// What stands after its last position: L or R (X10).
+    /// Returns the eos, L or R: the class after its last position (X10).
     pub fn eos(&self) -> Class
         ensures { result ≡ self.now.eos }
     {
         self.eos
     }
 
-    /// The position after `p` in the sequence, its successor (BD13), or none where `p` is its last.
+    /// Returns the position after `p` in the sequence, which is its successor (BD13), or none if `p` is the last one.
     pub fn after(&self, p: usize) -> Option<usize>
         requires { Contains self.now.positions p }
         ensures value { (k : ℕ) → k < length self.now.positions → slice_index self.now.positions k ≡ p

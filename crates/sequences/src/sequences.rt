@@ -1,4 +1,4 @@
-//! Room for the sequences of paragraphs, and what was found of the last one.
+//! The sequences of a paragraph, in memory that is allocated once.
 ghost use Rattle.std.specs.Prelude.{◌≡◌, ◌+◌, ◌*◌, ◌<◌, ◌≤◌, ℕ, [], Some, map, take, length, slice_get, IfOk, sum_by, true};
 ghost use Rattle.std.specs.Box.{boxed_slice_items, boxed_slice_len};
 ghost use Rattle.units.specs.Classes.{classes_of, is_removed};
@@ -33,9 +33,9 @@ use units::memory::Memory;
 use units::optional_position::OptionalPosition;
 use units::steps::Steps;
 
-/// The isolating run sequences of a paragraph (BD13), in the order of their first positions, in room that is made
-/// once: four bytes a position for links, four for the column of positions, twelve for heads, two more for ends and
-/// marks. The first `count` heads are in use, and so are the first `size` of what is kept for each position.
+/// The isolating run sequences of a paragraph (BD13), in the order of their first positions. The memory is allocated
+/// once. For each position it takes four bytes for links, four for the column of positions, twelve for heads, and two
+/// for ends and marks. The first `count` heads are in use, and in the columns by position the first `size` items.
 #[derive(Drop)]
 pub struct Sequences {
     links: BoxedSlice<OptionalPosition>,
@@ -55,7 +55,7 @@ impl Model for Sequences {
     ghost invariant = { λ s. HasRoomForSequences (boxed_slice_items s.links) (boxed_slice_items s.ends) (boxed_slice_items s.joined) (boxed_slice_items s.heads) (boxed_slice_items s.column) s.count s.size };
 }
 
-/// Fills the columns, of which the paragraph takes the fronts. Answers how many sequences there are.
+/// Fills the columns from the front on, and returns the number of sequences.
 fn fill_columns<L: Ledger>(
     t: &Leveled,
     links: &mut [OptionalPosition],
@@ -80,7 +80,6 @@ fn fill_columns<L: Ledger>(
     fill_heads(t, links, ends, joined, heads, column, steps)
 }
 
-/// A column of `n` items, all with this value.
 fn column<T: Copy>(alloc: Global, value: T, n: usize) -> Result<BoxedSlice<T>, Memory>
     ensures { IfOk result (λ column. boxed_slice_len column ≡ n) }
 {
@@ -95,7 +94,7 @@ struct LinkColumns {
     joined: BoxedSlice<bool>,
 }
 
-/// The columns of links for `n` positions.
+/// Allocates the columns of links for `n` positions.
 fn link_columns(alloc: Global, n: usize) -> Result<LinkColumns, Memory>
     ensures links { IfOk result (λ columns. boxed_slice_len columns.links ≡ n) }
     ensures ends { IfOk result (λ columns. boxed_slice_len columns.ends ≡ n) }
@@ -109,8 +108,8 @@ fn link_columns(alloc: Global, n: usize) -> Result<LinkColumns, Memory>
 }
 
 impl Sequences {
-    /// No sequences, with room for a paragraph of `n` positions. Memory that is refused is answered as `Memory`, and
-    /// so are 2^32 - 1 positions and more, which links of 32 bits can't count.
+    /// Allocates memory for a paragraph of `n` positions, without sequences. Fails with `Memory` if there isn't enough
+    /// memory, or if `n` is 2^32 - 1 or more, which links of 32 bits can't count.
     pub fn with_room(alloc: Global, n: usize) -> Result<Sequences, Memory>
         ensures { IfOk result (λ s. s ≡ record { all = []; extent = 0; room = n }) }
     {
@@ -142,7 +141,7 @@ impl Sequences {
         })
     }
 
-    /// Finds the sequences of a paragraph, which has no more positions than there is room for.
+    /// Finds the sequences of a paragraph within the capacity.
     fn fill_from<L: Ledger>(&mut self, t: &Leveled, steps: &mut Steps<L>)
         requires { size_of t.now ≤ self.old.room }
         ensures all { self.new.all ≡ sequences_of t.now }
@@ -164,8 +163,9 @@ impl Sequences {
         self.size = t.len();
     }
 
-    /// Finds the sequences of a paragraph of this level, from its isolates (BD9) and its explicit levels, up to
-    /// whatever depth (X1 to X9). There is room for it. What was found of an earlier one is gone.
+    /// Finds the sequences of a paragraph of this level, from its isolates (BD9) and its explicit levels (X1 to X9),
+    /// which can be up to any depth. The paragraph must fit into the capacity. The sequences of an earlier paragraph
+    /// are overwritten.
     pub fn fill<L: Ledger>(
         &mut self,
         para: &[Unit],
@@ -192,8 +192,8 @@ impl Sequences {
     }
 
     /// Finds the one sequence of a paragraph of this level in which nothing begins an embedding or an isolate: all
-    /// that remains of it (X9), which is all of it if `all_remain`. There is room for it. What was found
-    /// of an earlier one is gone.
+    /// positions that remain (X9), which are all positions if `all_remain`. The paragraph must fit into the capacity.
+    /// The sequences of an earlier paragraph are overwritten.
     pub fn fill_flat<L: Ledger>(
         &mut self,
         para: &[Unit],
@@ -222,14 +222,14 @@ impl Sequences {
         self.size = para.len();
     }
 
-    /// How many sequences there are.
+    /// Returns the number of sequences.
     pub fn count(&self) -> usize
         ensures { result ≡ length self.now.all }
     {
         self.count
     }
 
-    /// The sequence with this number, counted from 0 in the order of first positions.
+    /// Returns the sequence with this number, counted from 0 in the order of first positions.
     pub fn get(&self, k: usize) -> Sequence<'_>
         requires { k < length self.now.all }
         ensures value { slice_get self.now.all k ≡ Some result }
