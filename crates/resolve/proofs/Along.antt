@@ -1,4 +1,4 @@
--- A run of one class along a sequence, as a walk goes on over it.
+-- A run of one class along a sequence, over which a pass continues.
 use Rattle.std.specs.Prelude.{Option, Some, ℕ, zero, suc, ◌+◌, ◌-◌, ◌<◌, ◌≤◌, ◌≡◌, List, ◌∷◌, length, slice_index, refl}
 use Rattle.std.proofs.Common.{arith, ap, sym, subst, ◌∙◌, drop, inl, inr, set}
 use Rattle.std.proofs.lemmas.Bool.{cases_eq}
@@ -13,7 +13,7 @@ use Rattle.resolve.proofs.Gathered.{apart}
 use Rattle.resolve.proofs.Raising.{RaisePass, raise_write}
 use Rattle.resolve.proofs.Walked.{Walk, WalkSteps, walked, walk_next, walk_value, walk_steps_next}
 
--- what stands at a later index is as it was
+-- the class at a later index is unchanged
 pub unwritten : (ps : List ℕ) (start n j : ℕ) (v : Class) (cs : List Class) → ArePositions ps (length cs) → start + n ≤ j → j < length ps →
     class_at (with_along ps start n v cs) (slice_index ps j) ≡ class_at cs (slice_index ps j)
 unwritten ps start zero j v cs are low within = refl
@@ -40,7 +40,7 @@ all_more {IsSuch} {ps} {start} {k} {cs} all inside here = record {
   ];
 }
 
--- the same where those before have been written
+-- the same if the classes before have been written
 pub all_more_written : {IsSuch : Class → Type 0} {ps : List ℕ} {start k : ℕ} {old now : List Class} (made : Class) → ArePositions ps (length old) → now ≡ with_along ps start (k - start) made old →
     AreAll IsSuch ps start k old → k < length ps → IsSuch (class_at now (slice_index ps k)) → AreAll IsSuch ps start (k + 1) old
 all_more_written {IsSuch} {ps} {start} {k} {old} {now} made are is all inside here =
@@ -57,11 +57,11 @@ along_next {X} {start} {k} {now} ps v xs low is =
 
 module _ {X : Type 0} {given : X → Class → List Class → Class} {past : X → Class → List Class → X} {begin : X} {ps : List ℕ} {start now : List Class} {x : X} {k : ℕ}
     (w : Walk given past begin ps start now x k) (class made : Class) (gives : (cs : List Class) → given x class cs ≡ made) (stays : (cs : List Class) → past x class cs ≡ x) where
-  -- the class at the next index behind n of a run
+  -- the class at the next index after n indices of a run
   run_reads : (n : ℕ) → k + n < length ps → class_at now (slice_index ps (k + n)) ≡ class → class_at (with_along ps k n made now) (slice_index ps (k + n)) ≡ class
   run_reads n within same = unwritten ps k n (k + n) made now w.pass.positions (omega arith) within ∙ same
 
-  -- a run is given one class, and nothing else is known behind it
+  -- a run gets one class, and what is known after it is unchanged
   pub walk_run : (n : ℕ) → k + n ≤ length ps → ((i : ℕ) → k ≤ i → i < k + n → class_at now (slice_index ps i) ≡ class) →
       Walk given past begin ps start (with_along ps k n made now) x (k + n)
   walk_run zero within same = let e : k ≡ k + 0 = omega arith in subst (λ m. Walk given past begin ps start now x m) e w
@@ -76,7 +76,7 @@ module _ {X : Type 0} {given : X → Class → List Class → Class} {past : X �
       (sym (ap (λ (c : Class). given x c cs) read ∙ gives cs))
       (sym (ap (λ (c : Class). past x c cs) read ∙ stays cs)))
 
-  -- what the walk makes of each class of a run
+  -- the class that the pass gives to each class of a run
   pub run_value : (n : ℕ) → k + n < length ps → ((i : ℕ) → k ≤ i → i ≤ k + n → class_at now (slice_index ps i) ≡ class) →
       made ≡ class_at (walked given past begin (classes_at start ps)) (k + n)
   run_value n inside same =

@@ -1,4 +1,4 @@
--- A direction that is given to a bracket and to the marks that follow it.
+-- A direction that a bracket takes with the marks that follow it.
 use Rattle.std.proofs.Common.{◌≡◌, ◌≢◌, ℕ, zero, suc, ◌+◌, ◌-◌, ◌<◌, ◌≤◌, Bool, true, false, ◌&&◌, ◌||◌, List, [], ◌∷◌, ◌++◌, length, set, ltb, cond, refl, sym, ap, ◌∙◌, arith, inl, inr}
 use Rattle.std.specs.List.{list_all}
 use Rattle.std.proofs.lemmas.Bool.{cases_lt, eq-eqb, ne_eqb, lt-ltb, le-ltb, and_left, and_right}
@@ -39,13 +39,13 @@ follows_bracket-more before b j le =
     ∙ ap (λ t. marks before b j && t) (and-true (mark (suc j)) true refl)
     ∙ ap (λ t. t && mark (suc j)) (sym (follows_bracket-from before b j le))
 
--- no mark follows what is no mark
+-- no mark follows across a class that is no mark
 pub follows_bracket-past : (before : List Class) (b k : ℕ) → b < k → is_nonspacing (class_at before k) ≡ false → (j : ℕ) → k ≤ j → follows_bracket before b j ≡ false
 follows_bracket-past before b k lt ends zero le = absurd (omega arith)
 follows_bracket-past before b k lt ends (suc j) le =
     grind (arith, follows_bracket-more, and_right, and_left, follows_bracket-past before b k lt ends j)
 
--- the positions from b on and below k have the direction, and no other has changed
+-- the positions from b on and below k have the direction, and no other position has changed
 pub record IsGiving (before : List Class) (b : ℕ) (direction : Class) (old now : List Class) (k : ℕ) : Type 0 where
   pub begun : b < k
   pub long : length now ≡ length old
@@ -84,7 +84,7 @@ giving_goes_on before b direction old now (suc k) g lt mark =
       kept_above = λ j above. get_or-set_other now (suc k) j direction L (let apart : j ≢ suc k = omega arith in apart) ∙ g.kept_above j (omega arith);
     }
 
--- from k on nothing follows the bracket
+-- from k on no mark follows the bracket
 pub giving_ends : (before : List Class) (b : ℕ) (direction : Class) (old now : List Class) (k : ℕ) → IsGiving before b direction old now k
     → ((j : ℕ) → k ≤ j → j < length old → follows_bracket before b j ≡ false) → now ≡ given_to before b direction old
 giving_ends before b direction old now k g past =

@@ -1,4 +1,4 @@
--- Where no class is one that W1 to W7 can change, they change nothing.
+-- W1 to W7 change nothing if no class is one that they can change.
 use Rattle.std.specs.Prelude.{ℕ, true, false, ◌<◌, ◌≡◌, List, [], ◌∷◌, length, slice_index, refl}
 use Rattle.std.specs.List.{list_any}
 use Rattle.std.proofs.Common.{arith, ap, ◌∙◌, inl, inr}
@@ -58,7 +58,7 @@ walked-idle x (c ∷ cs) none = grind (arith, or_parts, by_context-idle, walked-
 pub after_weak-idle : (sos : Class) (cs : List Class) → list_any may_weaken cs ≡ false → after_weak sos cs ≡ cs
 after_weak-idle sos cs none = after_weak-walked sos cs ∙ walked-idle (context_at_start sos) cs none
 
--- what is imposed is no such class
+-- a class that replaces own ones is no such class
 imposed-idle : (c : Class) → is_imposed c ≡ true → may_weaken c ≡ false
 imposed-idle L h = refl
 imposed-idle R h = refl
@@ -68,7 +68,7 @@ imposed-idle c h = cc
 own-idle : (cs : List Class) (p : ℕ) → list_any may_weaken cs ≡ false → may_weaken (class_at cs p) ≡ false
 own-idle cs p none = grind (arith, list_any_at, get_or_past)
 
--- the current classes at a sequence's positions, where no own class of the paragraph is such a one
+-- the current classes at a sequence's positions, if no own class of the paragraph is such a class
 pub current-idle : (us : List BidiUnit) (before : List Class) (ps : List ℕ) → AreOwn ps us before → list_any may_weaken (classes_of us) ≡ false →
     list_any may_weaken (classes_at before ps) ≡ false
 current-idle us before ps own none = list_any_none may_weaken (classes_at before ps) (λ k d lt.

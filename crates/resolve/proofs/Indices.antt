@@ -1,4 +1,4 @@
--- The index at which a position of a sequence stands.
+-- The index of a position in a sequence.
 use Rattle.std.specs.Prelude.{Option, Some, None, ℕ, zero, suc, ◌==◌, ◌+◌, ◌<◌, ◌≤◌, ◌≡◌, ◌≢◌, List, [], ◌∷◌, length, Contains, slice_index, slice_get, refl}
 use Rattle.std.proofs.Common.{arith, ap, sym, subst, ◌∙◌, inl, inr, set}
 use Rattle.std.proofs.lemmas.Bool.{cases_lt, cases_order, cond-true, cond-false, eq-eqb, ne_eqb, eqb-true}
@@ -20,11 +20,11 @@ first-index (q ∷ ps) (suc k) lt others =
     ∙ ap (λ n. n + 1) (first-index ps k (omega arith) (λ j below. others (suc j) (omega arith)))
     ∙ omega arith
 
--- the position at an index stands there
+-- the index of the position at an index is that index
 pub index_of-index : (ps : List ℕ) (n : ℕ) → ArePositions ps n → (k : ℕ) → k < length ps → index_of ps (slice_index ps k) ≡ k
 index_of-index ps n are k lt = first-index ps k lt (λ j below. apart ps n j k are (omega arith) lt (let ne : j ≢ k = omega arith in ne))
 
--- a position that stands among them stands at its index
+-- the position at the index of a position is that position
 pub index-index_of : (ps : List ℕ) (p : ℕ) → index_of ps p < length ps → slice_index ps (index_of ps p) ≡ p
 index-index_of [] p lt = absurd (omega arith)
 index-index_of (q ∷ ps) p lt = grind (arith, cond-true, eqb-true, cond-false, index-index_of ps p)
@@ -32,7 +32,7 @@ index-index_of (q ∷ ps) p lt = grind (arith, cond-true, eqb-true, cond-false, 
 pub contains-index_of : (ps : List ℕ) (p : ℕ) → index_of ps p < length ps → Contains ps p
 contains-index_of ps p lt = (index_of ps p, lt, get_or_default ps (index_of ps p) p 0 lt ∙ index-index_of ps p lt)
 
--- positions before another one stand before it
+-- a position before another one has an index before that one's
 pub index_before : (ps : List ℕ) (n : ℕ) → ArePositions ps n → (k p : ℕ) → k < length ps → index_of ps p < length ps → slice_index ps k < p → k < index_of ps p
 index_before ps n are k p inside within lt =
     let at = index-index_of ps p within in
@@ -55,17 +55,17 @@ index_not_before ps n are k p inside within le =
       | inr not_before ↦ not_before
     ]
 
--- the index of what comes next, or the end
+-- the index of the next position, or the end
 abbrev pub index_or_end : List ℕ → Option ℕ → ℕ
 index_or_end ps None = length ps
 index_or_end ps (Some p) = index_of ps p
 
--- what a position is that comes next
+-- the next position, if there is one, is in the list
 abbrev pub IsNext : List ℕ → Option ℕ → Type 0
 IsNext ps None = ℕ
 IsNext ps (Some p) = index_of ps p < length ps
 
--- what comes next after an index
+-- the position at an index, as the next one
 pub next_index : (ps : List ℕ) (n k : ℕ) → ArePositions ps n → k ≤ length ps → (next : Option ℕ) → next ≡ slice_get ps k → (index_or_end ps next ≡ k) × IsNext ps next
 next_index ps n k are le None e =
     let end : length ps ≤ k = elim (cases_lt k (length ps)) [
@@ -79,12 +79,12 @@ next_index ps n k are le (Some p) e =
     let here : index_of ps p ≡ k = ap (index_of ps) (sym at) ∙ index_of-index ps n are k within in
     (here, omega arith)
 
--- the index of what comes next, where it is a position
+-- the index of the next position, if there is one, is within the list
 pub next_within : (ps : List ℕ) (next : Option ℕ) (p : ℕ) → IsNext ps next → next ≡ Some p → index_of ps p < length ps
 next_within ps None p h e = absurd (cc)
 next_within ps (Some q) p h e = grind arith
 
--- what comes next after a position
+-- the position after a position, as the next one
 pub next_after : (ps : List ℕ) (n p : ℕ) → ArePositions ps n → index_of ps p < length ps → (next : Option ℕ) →
     ((k : ℕ) → k < length ps → slice_index ps k ≡ p → next ≡ slice_get ps (k + 1)) → (index_or_end ps next ≡ index_of ps p + 1) × IsNext ps next
 next_after ps n p are within next is =

@@ -1,5 +1,5 @@
--- W1 to W7 over classes that they leave unchanged: what is known after them follows from the last one of them if the last
--- strong class stays.
+-- W1 to W7 over classes that they leave unchanged: if the last strong class is the same, the last of these classes
+-- decides what is known after them.
 use Rattle.std.specs.Prelude.{true, false, ℕ, zero, suc, ◌+◌, ◌-◌, ◌<◌, ◌≤◌, ◌≡◌, List, ◌∷◌, length, slice_index, if◌then◌else◌, refl}
 use Rattle.std.proofs.Common.{arith, ap, sym, subst, ◌∙◌, take, drop}
 use Rattle.std.proofs.lemmas.List.{get_or-drop, length-drop, set-get_or, take_rest}
@@ -29,7 +29,7 @@ context_free_idle CS h other = cc
 context_free_idle NSM h other = cc
 context_free_idle c h other = refl
 
--- W1 to W7 make R of AL, whatever is known before it and comes behind it
+-- W1 to W7 change AL to R, whatever is known before it and comes after it
 by_w2-letter : (strong : Class) → by_w2 strong AL ≡ AL
 by_w2-letter AL = refl
 by_w2-letter strong = refl
@@ -57,7 +57,7 @@ owes-letter x cs =
     owes_not_here x.settled (by_w1_to_w3 x.preceding AL) (all_by_w1_to_w3 (preceding_past x.preceding AL) cs)
     (letter_is_no_terminator (by_w1_to_w3 x.preceding AL) (through_w3-letter x.preceding))
 
--- the positions behind an index
+-- the positions after an index
 pub within_rest : (ps : List ℕ) (extent n : ℕ) → ArePositions ps extent → (k : ℕ) → k < length (take (length ps - n) (drop n ps)) →
     slice_index (take (length ps - n) (drop n ps)) k < extent
 within_rest ps extent n are k lt =
@@ -90,7 +90,7 @@ owes-idle x c cs h =
     owes_not_here x.settled (by_w1_to_w3 x.preceding c) (all_by_w1_to_w3 (preceding_past x.preceding c) cs)
     (λ e. idle_is_no_terminator c h (sym (through_w3-idle x.preceding c h) ∙ e))
 
--- what is passed is left as it is
+-- W1 to W7 leave a class that is passed unchanged
 passed-idle : (d c : Class) → is_passed d c ≡ true → may_weaken c ≡ false
 passed-idle L AL h = cc
 passed-idle L EN h = cc
@@ -112,7 +112,7 @@ passed-idle d CS h = cc
 passed-idle d NSM h = cc
 passed-idle d c h = refl
 
--- and behind it the last strong class is still this one
+-- and after it the last strong class is still this one
 strong-passed : (d c : Class) → is_passed d c ≡ true → (if is_strong c then c else d) ≡ d
 strong-passed L L h = refl
 strong-passed R R h = refl
@@ -143,7 +143,7 @@ preceding-passed f c h =
 abbrev with_preceding : Preceding → Class → Context
 with_preceding f c = record { preceding = f; before = c; settled = c }
 
--- the last one tells all
+-- only the last one counts
 kept_twice : (x : Context) (b c : Class) → is_passed x.preceding.strong b ≡ true → is_passed x.preceding.strong c ≡ true → kept_past (kept_past x b) c ≡ kept_past x c
 kept_twice x b c hb hc =
     let d : Class = x.preceding.strong in
@@ -152,7 +152,7 @@ kept_twice x b c hb hc =
 
 module _ {begin : Context} {ps : List ℕ} {start now : List Class} {x : Context} {k : ℕ} (w : Walk by_context context_past begin ps start now x k) (inside : k < length ps)
     (idle : may_weaken (class_at now (slice_index ps k)) ≡ false) (y : Context) (known : y ≡ kept_past x (class_at now (slice_index ps k))) where
-  -- the walk goes on over a class that is left as it is
+  -- the pass continues over a class that is left unchanged
   pub walk_kept : Walk by_context context_past begin ps start now y (k + 1)
   walk_kept =
       let c : Class = class_at now (slice_index ps k) in
@@ -160,7 +160,7 @@ module _ {begin : Context} {ps : List ℕ} {start now : List Class} {x : Context
       subst (λ (all : List Class). Walk by_context context_past begin ps start all y (k + 1)) (set-get_or now (slice_index ps k) L)
       (walk_next w inside c y (drop (k + 1) ps) refl (sym (by_context-idle x c cs idle)) (known ∙ sym (past-idle x c cs idle)))
 
-  -- a step for it
+  -- it takes a step
   pub walk_steps_kept : (first last : ℕ) → WalkSteps owed_in (classes_at start ps) x k first last → WalkSteps owed_in (classes_at start ps) y (k + 1) first (last + 1)
   walk_steps_kept first last s =
       let c : Class = class_at now (slice_index ps k) in
@@ -168,14 +168,14 @@ module _ {begin : Context} {ps : List ℕ} {start now : List Class} {x : Context
       walk_steps_next w inside owed_in y (drop (k + 1) ps) refl first last (last + 1) s (omega arith) (omega (arith, owes-idle x c cs idle))
 
 module _ {begin : Context} {ps : List ℕ} {start now : List Class} {x : Context} {k : ℕ} (w : Walk by_context context_past begin ps start now x k) where
-  -- what is known one index further on
+  -- what is known one index later
   known_further : (n : ℕ) → ((i : ℕ) → k ≤ i → i < k + suc n → is_passed x.preceding.strong (class_at now (slice_index ps i)) ≡ true) →
       context_past_run x ps k (suc n) now ≡ kept_past (context_past_run x ps k n now) (class_at now (slice_index ps (k + n)))
   known_further zero h = refl
   known_further (suc m) h =
       sym (kept_twice x (class_at now (slice_index ps (k + m))) (class_at now (slice_index ps (k + suc m))) (h (k + m) (omega arith) (omega arith)) (h (k + suc m) (omega arith) (omega arith)))
 
-  -- the walk goes on over what is passed
+  -- the pass continues over the classes that are passed
   pub walk_past_run : (n : ℕ) → k + n ≤ length ps → ((i : ℕ) → k ≤ i → i < k + n → is_passed x.preceding.strong (class_at now (slice_index ps i)) ≡ true) →
       Walk by_context context_past begin ps start now (context_past_run x ps k n now) (k + n)
   walk_past_run zero within h = let e : k ≡ k + 0 = omega arith in subst (λ m. Walk by_context context_past begin ps start now x m) e w
@@ -187,7 +187,7 @@ module _ {begin : Context} {ps : List ℕ} {start now : List Class} {x : Context
       subst (λ m. Walk by_context context_past begin ps start now (context_past_run x ps k (suc n) now) m) e
       (walk_kept before inside idle (context_past_run x ps k (suc n) now) (known_further n h))
 
-  -- a step for each
+  -- each takes a step
   pub walk_steps_past_run : (first last : ℕ) → WalkSteps owed_in (classes_at start ps) x k first last →
       (n : ℕ) → k + n ≤ length ps → ((i : ℕ) → k ≤ i → i < k + n → is_passed x.preceding.strong (class_at now (slice_index ps i)) ≡ true) →
       WalkSteps owed_in (classes_at start ps) (context_past_run x ps k n now) (k + n) first (last + n)

@@ -1,4 +1,4 @@
--- N1 and N2 behind text of the embedding direction: neutrals take this direction, whatever comes behind them.
+-- N1 and N2 after text of the embedding direction: neutrals take this direction, whatever comes after them.
 use Rattle.std.specs.Prelude.{true, ℕ, zero, suc, ◌+◌, ◌<◌, ◌≤◌, ◌≡◌, List, [], ◌∷◌, length, slice_index, refl}
 use Rattle.std.proofs.Common.{arith, ap, sym, subst, ◌∙◌, ◌⊎◌, inl, inr, drop}
 use Rattle.std.proofs.lemmas.Bool.{cases_Bool, cond-true, cond-false, false≢true}
@@ -31,7 +31,7 @@ agreed_same d after = refl
 by_sides_same : (d after : Class) → side_of d ≡ d → by_sides d d after ≡ d
 by_sides_same d after side = ap (λ (b : Class). agreed b (side_of after) d) side ∙ agreed_same d (side_of after)
 
--- what leans is the direction or a neutral
+-- such a class is the direction or a neutral
 leaning_parts : (d c : Class) → is_leaning d c ≡ true → (is_neutral c ≡ true) ⊎ (c ≡ d)
 leaning_parts L L h = inr refl
 leaning_parts R R h = inr refl
@@ -48,7 +48,7 @@ leans_inside d x e = record { embedding = e; takes = λ cs. refl }
 leans_outside : (d : Class) (x : Sides) → x.embedding ≡ d → side_of d ≡ d → Leans d (outside_runs x d)
 leans_outside d x e side = record { embedding = e; takes = λ cs. let after : Class = first_class is_no_neutral cs x.end in ap (λ (f : Class). by_sides f d after) e ∙ by_sides_same d after side }
 
--- the embedding direction stays
+-- the embedding direction is unchanged
 pub past_embedding : (x : Sides) (c : Class) (cs : List Class) → (sides_past x c cs).embedding ≡ x.embedding
 past_embedding x c cs =
     elim (cases_Bool (is_neutral c)) [
@@ -56,7 +56,7 @@ past_embedding x c cs =
       | inr f ↦ ap (λ (y : Sides). y.embedding) (cond-false (is_neutral c) (inside_run x (taken_before x cs)) (outside_runs x c) f)
     ]
 
--- what is known behind a class that became the embedding direction
+-- what is known after a class that became the embedding direction
 pub leans_taken : (d : Class) (x y : Sides) (c made : Class) (cs : List Class) → side_of d ≡ d → x.embedding ≡ d → made ≡ d →
     made ≡ by_run x c cs → y ≡ sides_past x c cs → Leans d y
 leans_taken d x y c made cs side embedding is value known =
@@ -74,7 +74,7 @@ leans_taken d x y c made cs side embedding is value known =
     ]
 
 module _ (d : Class) (side : side_of d ≡ d) where
-  -- what leans becomes the direction
+  -- a neutral, or the direction itself, becomes the direction
   leaning_given : (x : Sides) → Leans d x → (c : Class) (cs : List Class) → is_leaning d c ≡ true → by_run x c cs ≡ d
   leaning_given x l c cs h =
       elim (cases_Bool (is_neutral c)) [
@@ -85,7 +85,7 @@ module _ (d : Class) (side : side_of d ≡ d) where
         ]
       ]
 
-  -- and behind it the direction is still what comes next
+  -- and after it a neutral would still take the direction
   leaning_past : (x : Sides) → Leans d x → (c : Class) (cs : List Class) → is_leaning d c ≡ true → Leans d (sides_past x c cs)
   leaning_past x l c cs h = leans_taken d x (sides_past x c cs) c (by_run x c cs) cs side l.embedding (leaning_given x l c cs h) refl refl
 
@@ -96,7 +96,7 @@ module _ (d : Class) (side : side_of d ≡ d) where
         | inr f ↦ ap (λ (y : Sides). y.end) (cond-false (is_neutral c) (inside_run x (taken_before x cs)) (outside_runs x c) f)
       ]
 
-  -- nothing else is to be known
+  -- only that and the end of the sequence matter
   leaning_alike : (x y : Sides) → Leans d x → Leans d y → x.end ≡ y.end → (cs : List Class) → walked by_run sides_past x cs ≡ walked by_run sides_past y cs
   leaning_alike x y l m end [] = refl
   leaning_alike x y l m end (c ∷ cs) =
@@ -126,7 +126,7 @@ module _ (d : Class) (side : side_of d ≡ d) where
         is_leaning d (class_at (with_along ps k n d now) (slice_index ps (k + n))) ≡ true
     leaning_reads n within h = ap (is_leaning d) (unwritten ps k n (k + n) d now w.pass.positions (omega arith) within) ∙ h
 
-    -- the walk goes on over what leans
+    -- the pass continues over neutrals and this direction
     pub walk_leaning : (n : ℕ) → k + n ≤ length ps → ((i : ℕ) → k ≤ i → i < k + n → is_leaning d (class_at now (slice_index ps i)) ≡ true) →
         Walk by_run sides_past begin ps start (with_along ps k n d now) x (k + n)
     walk_leaning zero within h = let e : k ≡ k + 0 = omega arith in subst (λ m. Walk by_run sides_past begin ps start now x m) e w
@@ -142,7 +142,7 @@ module _ (d : Class) (side : side_of d ≡ d) where
         let e : k + n + 1 ≡ k + suc n = omega arith in
         subst (λ m. Walk by_run sides_past begin ps start (with_along ps k (suc n) d now) x m) e (record { pass = next.pass; left = next.left ∙ alike })
 
-    -- what it makes of each
+    -- the class that the pass gives to each
     pub leaning_value : (n : ℕ) → k + n < length ps → ((i : ℕ) → k ≤ i → i ≤ k + n → is_leaning d (class_at now (slice_index ps i)) ≡ true) →
         d ≡ class_at (walked by_run sides_past begin (classes_at start ps)) (k + n)
     leaning_value n inside h =
@@ -163,6 +163,6 @@ owes_front x (suc n) (c ∷ cs) = omega (arith, owes_less x c cs, owes_front x n
 owes_fewer : (x : Sides) (k n : ℕ) (cs : List Class) → owed_in_run x (drop k cs) ≤ owed_in_run x (drop (k + n) cs) + n
 owes_fewer x k n cs = omega (arith, owes_front x n (drop k cs), ap (owed_in_run x) (drop-drop n k cs))
 
--- a step for each
+-- each takes a step
 pub leaning_steps : (x : Sides) (k n first last : ℕ) (cs : List Class) → WalkSteps owed_in_run cs x k first last → WalkSteps owed_in_run cs x (k + n) first (last + n)
 leaning_steps x k n first last cs s = record { at_least = omega (arith, s.at_least); at_most = omega (arith, s.at_most, owes_fewer x k n cs) }

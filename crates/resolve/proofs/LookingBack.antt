@@ -1,4 +1,4 @@
--- How far back the nearest strong class before an index is looked for.
+-- How far back the search for the nearest strong class before an index goes.
 use Rattle.std.specs.Prelude.{Option, Some, None, Bool, true, ℕ, ◌-◌, ◌<◌, ◌≤◌, ◌≡◌, List, refl}
 use Rattle.std.specs.Option.{is_some}
 use Rattle.std.proofs.Common.{arith, sym, ◌∙◌, inl, inr}

@@ -1,4 +1,4 @@
--- Without room for an open bracket the first opener is the stop, and no pair counts.
+-- If no bracket can be open, the first opener is the stop, and there is no pair.
 use Rattle.std.proofs.Common.{◌≡◌, ℕ, zero, suc, ◌<◌, Bool, true, false, List, [], length, refl, sym, ap, ◌∙◌, arith, eqb, inl, inr}
 use Rattle.std.proofs.lemmas.Bool.{and_from, and_parts, both_ways, eq-eqb, false_from_ne_true}
 use Rattle.units.specs.Brackets.{bracket_at, is_open, is_open_at, is_uncovered, pairs_before, open_before, has_no_room, stop_of, bracket_pairs_of}
@@ -11,7 +11,7 @@ use Rattle.resolve.proofs.CountingPairs.{opener_cases}
 use Rattle.resolve.proofs.Depth.{few_open}
 use Rattle.resolve.proofs.Nesting.{ends_somewhere, matched}
 
--- nothing pairs up to a stop
+-- there is no pair before a stop
 none_paired : (bs : List Bracket) (p : ℕ) → ((j : ℕ) → j < p → has_no_room 0 bs j ≡ false) → pairs_before bs p ≡ []
 none_paired bs zero going = refl
 none_paired bs (suc p) going =
@@ -30,7 +30,7 @@ no_pair_counts bs =
     let w = ends_somewhere 0 bs in
     w.1.pairs ∙ none_paired bs w.0 w.1.going
 
--- what is no stop is no opener
+-- a bracket at which nothing stops is no opener
 shut_at : (bs : List Bracket) (p : ℕ) → ((j : ℕ) → j < p → has_no_room 0 bs j ≡ false) → has_no_room 0 bs p ≡ false → is_open (bracket_at bs p) ≡ false
 shut_at bs p going here =
     let none : length (open_before bs p) ≡ 0 = omega (arith, few_open 0 bs p going) in

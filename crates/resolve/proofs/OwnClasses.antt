@@ -1,4 +1,4 @@
--- An override imposes L or R, and what is removed is BN: any other class after X1 to X8 is the own one.
+-- An override imposes L or R, and a removed position is BN: any other class after X1 to X8 is the own one.
 use Rattle.std.specs.Prelude.{Option, Some, None, ℕ, Bool, true, false, ◌≡◌, List, [], ◌∷◌, length, fold, refl, IfSome, unwrap_or, if◌then◌else◌}
 use Rattle.std.specs.Option.{option_map_or}
 use Rattle.std.proofs.Common.{arith, ap, sym, ◌∙◌, inl, inr}
@@ -34,7 +34,7 @@ fold-direction : (depth : ℕ) (cs : List Class) (s : State) (qs : List ℕ) →
 fold-direction depth cs s [] h = h
 fold-direction depth cs s (q ∷ qs) h = fold-direction depth cs (entered depth cs s q) qs (entered-direction depth cs s q h)
 
--- the class at a place, or BN
+-- the class of a position, or BN
 abbrev placed : Option (ℕ × Class) → Class
 placed place = option_map_or (λ (x : ℕ × Class). x.1) place BN
 

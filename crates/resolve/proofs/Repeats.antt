@@ -1,5 +1,5 @@
--- A class that follows one of its own kind: W1 to W7, and N1 and N2, make of it what they made of the one before, and
--- know behind it what they knew before it.
+-- A class that follows one of its own kind: W1 to W7, and N1 and N2, change it as they changed the one before, and know
+-- the same after it as before it.
 use Rattle.std.specs.Prelude.{Option, Some, None, ℕ, Bool, true, false, ◌≡◌, List, ◌∷◌, if◌then◌else◌, refl}
 use Rattle.std.specs.List.{prefix_len}
 use Rattle.std.proofs.Common.{◌+◌, ◌≤◌, arith, ap, sym, ◌∙◌, inl, inr}
@@ -18,7 +18,7 @@ use Rattle.resolve.specs.declared.preceding.Preceding.{Preceding}
 use Rattle.resolve.specs.declared.weak.Context.{Context}
 use Rattle.resolve.proofs.ByKind.{owes_not_here}
 
--- W2 changes EN alone
+-- W2 changes only EN
 abbrev is_en : Class → Bool
 is_en EN = true
 is_en _ = false
@@ -141,7 +141,7 @@ neutral_past_again x c cs =
           ap (λ (y : Sides). sides_past y c cs) out ∙ again ∙ sym out
     ]
 
--- where a plain class has just been taken, the next one of its kind becomes the same, and nothing else is known then
+-- after a plain class, the next one of its kind becomes the same, and what is known is unchanged
 pub record Repeats (c made : Class) (x : Context) : Type 0 where
   pub given : (cs : List Class) → by_context x c cs ≡ made
   pub past : (cs : List Class) → context_past x c cs ≡ x
@@ -173,12 +173,12 @@ repeats_plain x c ds h =
 pub repeats_taken : (x y : Context) (c made : Class) (ds : List Class) → is_plain c ≡ true → made ≡ by_context x c ds → y ≡ context_past x c ds → Repeats c made y
 repeats_taken x y c made ds plain value known = rw (value, known) (repeats_plain x c ds plain)
 
--- the same of N1 and N2, of each class
+-- the same for N1 and N2 and every class
 pub record RunsOn (c made : Class) (x : Sides) : Type 0 where
   pub given : (cs : List Class) → by_run x c cs ≡ made
   pub past : (cs : List Class) → sides_past x c cs ≡ x
 
--- behind a class it is known what a run of its kind takes
+-- after a class, the class that a run of its kind takes is known
 taken_known : (x : Sides) (c : Class) (cs ds : List Class) → is_neutral c ≡ true → taken_before (sides_past x c ds) cs ≡ taken_before (sides_past x c ds) ds
 taken_known x c cs ds t =
     let e : sides_past x c ds ≡ inside_run x (taken_before x ds) = cond-true (is_neutral c) (inside_run x (taken_before x ds)) (outside_runs x c) t in
@@ -199,7 +199,7 @@ owes_along : (taken : Option Class) (c : Class) (cs : List Class) → owed_along
 owes_along None c cs = omega arith
 owes_along (Some v) c cs = one_less (is_neutral c) (prefix_len is_neutral cs)
 
--- a run owes one step less behind each of its classes
+-- after each of its classes, a run owes one step less
 pub owes_less : (x : Sides) (c : Class) (cs : List Class) → owed_in_run x (c ∷ cs) ≤ owed_in_run x cs + 1
 owes_less x c cs = owes_along x.taken c cs
 

@@ -1,4 +1,4 @@
--- The levels that the last classes of a sequence give.
+-- The levels of a sequence, from its last classes.
 use Rattle.std.specs.Prelude.{Option, ℕ, ◌≡◌, List}
 use Rattle.std.proofs.Common.{arith}
 use Rattle.std.proofs.lemmas.List.{get_or-map}

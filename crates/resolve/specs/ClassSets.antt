@@ -43,13 +43,13 @@ is_leaning L L = true
 is_leaning R R = true
 is_leaning direction c = is_neutral c
 
--- what W1 to W7 change in the same way in every context: AL becomes R, the others are unchanged
+-- the classes that W1 to W7 change in the same way in every context: AL becomes R, the others are unchanged
 abbrev pub is_context_free : Class → Bool
 is_context_free AL = true
 is_context_free c = not (may_weaken c)
 
--- what W1 to W7 leave unchanged, and after which the last strong class is still this one: this class if it is L or R,
--- a neutral, or AN
+-- the classes that W1 to W7 leave unchanged, and after which the last strong class is still this one: this class if it
+-- is L or R, a neutral, or AN
 abbrev pub is_passed : Class → Class → Bool
 is_passed strong AN = true
 is_passed strong c = is_leaning strong c

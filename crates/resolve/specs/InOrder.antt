@@ -1,4 +1,4 @@
--- What the rules leave of a sequence when they are called one after another (W1 to I2).
+-- The result of the rules for a sequence when they are called one after another (W1 to I2).
 use Rattle.std.specs.Prelude.{Option, ℕ, ◌≡◌, List}
 use Rattle.units.specs.Classes.{classes_at}
 use Rattle.units.specs.Neutral.{after_neutral}
@@ -12,7 +12,7 @@ use Rattle.resolve.specs.Raised.{Raises}
 use Rattle.resolve.specs.Resolved.{Resolves}
 use Rattle.resolve.specs.Rewritten.{Rewrites}
 
--- the columns of a paragraph: its classes, closers of bracket pairs, and levels after each call
+-- the columns of a paragraph after each call: its classes, closers of bracket pairs, and levels
 pub record AfterEach : Type 0 where
   pub weak : List Class
   pub closers : List (Option ℕ)
@@ -20,8 +20,8 @@ pub record AfterEach : Type 0 where
   pub neutral : List Class
   pub levels : List (Option ℕ)
 
--- `weak`, `bracket_pairs`, `paired`, `neutral` and `implicit` leave these columns, each of what the ones before it left;
--- the old ones are a copy of those before W1, and any levels
+-- `weak`, `bracket_pairs`, `paired`, `neutral` and `implicit` give these columns, each from those of the calls before
+-- it. The old columns are a copy of the classes before W1, and any levels.
 pub record AreLeftInOrder (most_open : ℕ) (s : SequenceView) (us : List BidiUnit) (before old_classes : List Class) (old_levels : List (Option ℕ)) (after : AfterEach) : Type 0 where
   pub copy : classes_at old_classes s.positions ≡ classes_at before s.positions
   pub weak : Rewrites (after_weak s.sos) s.positions old_classes after.weak
@@ -30,7 +30,7 @@ pub record AreLeftInOrder (most_open : ℕ) (s : SequenceView) (us : List BidiUn
   pub neutral : Rewrites (after_neutral (direction_of s.level) s.sos s.eos) s.positions after.paired after.neutral
   pub levels : Raises s.level after.neutral s.positions old_levels after.levels
 
--- the last columns are what `resolve_sequence` leaves of the same ones, with the pairs
+-- the last columns are those of `resolve_sequence`, with the pairs
 pub record AreResolved (most_open : ℕ) (s : SequenceView) (us : List BidiUnit) (before old_classes : List Class) (old_levels : List (Option ℕ)) (after : AfterEach) : Type 0 where
   pub resolved : Resolves most_open s us before old_classes after.neutral old_levels after.levels
   pub pairs : HoldsPairsAfterWeak most_open s us before after.closers

@@ -7,7 +7,7 @@ use Rattle.resolve.specs.declared.next_pair.Pair.{Pair}
 abbrev pub NoneBegins : List (Option ℕ) → List ℕ → ℕ → ℕ → Type 0
 NoneBegins table ps from end = (j : ℕ) → from ≤ j → j < end → closer_in table (slice_index ps j) ≡ None
 
--- of the pairs that the table holds, this is the first of the sequence that begins at an index from this one on
+-- this is the first pair in the table that begins at an index of the sequence from this one on
 pub record IsNextPair (table : List (Option ℕ)) (ps : List ℕ) (from : ℕ) (pair : Pair) : Type 0 where
   pub later : from ≤ pair.index
   pub within : pair.index < length ps

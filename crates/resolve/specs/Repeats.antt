@@ -1,12 +1,12 @@
--- Classes that a run repeats (W1 to W7), and what a run takes.
+-- Classes that a run repeats (W1 to W7), and the class that a run takes.
 use Rattle.std.specs.Prelude.{Bool, true, false, ℕ, zero, suc, ◌+◌, ◌<◌, ◌≤◌, ◌≡◌, List, length, set, slice_index}
 use Rattle.units.specs.Classes.{class_at}
 use Rattle.units.specs.declared.class.Class.{Class}
 use Rattle.resolve.specs.ClassSets.{is_leaning, is_passed}
 use Rattle.units.specs.declared.class.Class.TheVariants.{L, R, AL, AN, S, WS, ON}
 
--- letters, Arabic numbers and spaces: what W1 to W7 make of one is what they make of the next of its kind, whatever comes
--- behind it
+-- letters, Arabic numbers and spaces: W1 to W7 change one as they change the one of its kind before it, whatever comes
+-- after it
 abbrev pub is_plain : Class → Bool
 is_plain L = true
 is_plain R = true
@@ -17,21 +17,21 @@ is_plain WS = true
 is_plain ON = true
 is_plain _ = false
 
--- the classes at the positions of the indices from start up to end are such ones
+-- the classes at the positions of the indices from start up to end are of this kind
 pub record AreAll (IsSuch : Class → Type 0) (ps : List ℕ) (start end : ℕ) (cs : List Class) : Type 0 where
   pub from_start : start ≤ end
   pub within : end ≤ length ps
   pub each : (k : ℕ) → start ≤ k → k < end → IsSuch (class_at cs (slice_index ps k))
 
--- they are this class
+-- the classes are this class
 abbrev pub IsRunOf : Class → List ℕ → ℕ → ℕ → List Class → Type 0
 IsRunOf class = AreAll (λ c. c ≡ class)
 
--- they are neutral or this direction
+-- the classes are neutral or this direction
 abbrev pub AreLeaning : Class → List ℕ → ℕ → ℕ → List Class → Type 0
 AreLeaning direction = AreAll (λ c. is_leaning direction c ≡ true)
 
--- W1 to W7 leave them as they are, and know behind each the same last strong class
+-- W1 to W7 leave the classes unchanged, and know the same last strong class after each
 abbrev pub ArePassed : Class → List ℕ → ℕ → ℕ → List Class → Type 0
 ArePassed strong = AreAll (λ c. is_passed strong c ≡ true)
 

@@ -1,4 +1,4 @@
--- What the rules look for in a paragraph, by the own classes and brackets of its units.
+-- The weak classes and brackets of a paragraph, by the own classes and brackets of its units.
 use Rattle.std.specs.Prelude.{ℕ, Bool, true, false, ◌≡◌, List, Contains}
 use Rattle.std.specs.List.{list_any}
 use Rattle.units.specs.Brackets.{is_open}
@@ -18,12 +18,12 @@ may_weaken CS = true
 may_weaken NSM = true
 may_weaken _ = false
 
--- what a paragraph is said to lack, its units lack; it may lack more
+-- if a flag is false, the units have none of this kind; if it is true, they may have some or none
 pub record IsSoughtIn (sought : Sought) (us : List BidiUnit) : Type 0 where
   pub weak : sought.weak ≡ false → list_any may_weaken (classes_of us) ≡ false
   pub openings : sought.openings ≡ false → list_any (λ unit. is_open unit.bracket) us ≡ false
 
--- X1 to X9: what stands in the place of an own class: L or R by an override, BN where a position is removed
+-- X1 to X9: a class that replaces own classes: L or R by an override, BN at a removed position
 abbrev pub is_imposed : Class → Bool
 is_imposed L = true
 is_imposed R = true

@@ -5,7 +5,7 @@ ghost use Rattle.resolve.specs.ClassSets.{holds, is_context_free, is_leaning, is
 
 use units::class::Class;
 
-/// A set of classes, a bit each.
+/// A set of classes, one bit for each class.
 #[derive(Clone, Copy)]
 pub(crate) struct ClassSet {
     bits: u32,
@@ -21,14 +21,15 @@ const PASSED: u32 = NEUTRALS | 0b100_0000;
 const CONTEXT_FREE: u32 = 0b111_1111_1111_1110_0100_0111;
 
 impl ClassSet {
-    /// The classes that W1 to W7 change in the same way in every context: AL becomes R, the others are unchanged.
+    /// Returns the classes that W1 to W7 change in the same way in every context: AL becomes R, the others are
+    /// unchanged.
     pub(crate) fn context_free() -> ClassSet
         ensures { (class : BidiClass) → holds result class ≡ is_context_free class }
     {
         ClassSet { bits: CONTEXT_FREE }
     }
 
-    /// The neutrals, and L or R if it is this direction.
+    /// Returns the neutrals, and L or R if it is this direction.
     pub(crate) fn leaning(direction: Class) -> ClassSet
         ensures { (class : BidiClass) → holds result class ≡ is_leaning direction class }
     {
@@ -40,7 +41,7 @@ impl ClassSet {
         ClassSet { bits }
     }
 
-    /// The neutrals, AN, and L or R if it is this last strong class: W1 to W7 leave these unchanged, and the
+    /// Returns the neutrals, AN, and L or R if it is this last strong class. W1 to W7 leave these unchanged, and the
     /// last strong class is the same after them.
     pub(crate) fn passed(strong: Class) -> ClassSet
         ensures { (class : BidiClass) → holds result class ≡ is_passed strong class }
@@ -53,7 +54,8 @@ impl ClassSet {
         ClassSet { bits }
     }
 
-    /// Whether it has this class. One shift tests any class, so a loop over several kinds of classes has one branch.
+    /// Returns whether the set contains this class. One shift tests any class, so a loop over several kinds of classes
+    /// has one branch.
     pub(crate) fn holds(self, class: Class) -> bool
         ensures { result ≡ holds self class }
     {

@@ -20,7 +20,7 @@ pub(crate) struct Pair {
     pub(crate) closer: usize,
 }
 
-/// Whether a pair begins at this index of a sequence, at these positions.
+/// Returns whether a pair begins at this index of a sequence, which has these positions.
 fn begins_at(positions: &[u32], index: usize, pairs: &Pairs) -> bool
     requires within { (k : ℕ) → k < length positions.now → slice_index positions.now k < length pairs.now }
     requires index { index < length positions.now }
@@ -29,7 +29,7 @@ fn begins_at(positions: &[u32], index: usize, pairs: &Pairs) -> bool
     pairs.closer(positions[index] as usize).is_some()
 }
 
-/// Whether a pair begins at this index or at one of the three behind it.
+/// Returns whether a pair begins at this index or at one of the three after it.
 fn begins_in_four(positions: &[u32], index: usize, pairs: &Pairs) -> bool
     requires within { (k : ℕ) → k < length positions.now → slice_index positions.now k < length pairs.now }
     requires index { index + 4 ≤ length positions.now }
@@ -41,8 +41,8 @@ fn begins_in_four(positions: &[u32], index: usize, pairs: &Pairs) -> bool
         | begins_at(positions, index + 3, pairs)
 }
 
-/// Passes indices from this one on at which no pair begins, four at a time. It answers the index behind them, and takes
-/// a step for each.
+/// Skips indices from `from` on at which no pair begins, four at a time. Returns the index after them. Each index is a
+/// step.
 fn pass_fours<L: Ledger>(
     positions: &[u32],
     from: usize,
@@ -64,8 +64,8 @@ fn pass_fours<L: Ledger>(
     k
 }
 
-/// The first pair of a sequence, at these positions, that begins at this index or later. Each index that is looked at
-/// takes a step.
+/// Returns the first pair that begins at the index `from` or later in a sequence, which has these positions. Each index
+/// that is looked at is a step.
 pub(crate) fn next_pair<L: Ledger>(
     positions: &[u32],
     from: usize,

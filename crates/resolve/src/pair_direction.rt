@@ -1,4 +1,4 @@
-//! The direction that a bracket pair takes (N0 b to d), by what is inside and by the strong class before it.
+//! The direction that a bracket pair takes (N0 b to d), from its content and the strong class before it.
 ghost use Rattle.std.specs.Prelude.{◌≡◌, ◌<◌, ◌≤◌, ◌+◌, ◌-◌, length};
 ghost use Rattle.units.specs.Brackets.{strong_as, same_direction, opposite, is_found_in, context_before, direction_of_pair};
 ghost use Rattle.units.specs.Classes.{classes_at};
@@ -10,7 +10,7 @@ use std::sync::ledger::Ledger;
 use units::class::Class;
 use units::steps::Steps;
 
-/// The strong class that `class` counts as, if it does: a number counts as R.
+/// Returns the strong class that `class` counts as, if any: a number counts as R.
 fn strong(class: Class) -> Option<Class>
     ensures { result ≡ strong_as class }
 {
@@ -21,7 +21,7 @@ fn strong(class: Class) -> Option<Class>
     }
 }
 
-/// Whether `class` counts as `direction`.
+/// Returns whether `class` counts as `direction`.
 fn counts_as(class: Class, direction: Class) -> bool
     ensures { result ≡ same_direction direction (strong_as class) }
 {
@@ -31,7 +31,7 @@ fn counts_as(class: Class, direction: Class) -> bool
     )
 }
 
-/// R for L, and L for all else.
+/// Returns R for L, and L for every other class.
 fn opposite(direction: Class) -> Class
     ensures { result ≡ opposite direction }
 {
@@ -41,8 +41,8 @@ fn opposite(direction: Class) -> Class
     }
 }
 
-/// The nearest strong class before an index of a sequence, or sos. It only moves on, and looks back no further than to
-/// where it was, so that all pairs together are looked back from once.
+/// The nearest strong class before an index of a sequence, or sos. The index only moves forward, and the search goes
+/// back no further than to the last index, so all pairs together search the sequence once.
 #[derive(Clone, Copy)]
 pub(crate) struct Nearest {
     index: usize,
@@ -50,7 +50,7 @@ pub(crate) struct Nearest {
 }
 
 impl Nearest {
-    /// Before the first index.
+    /// Returns sos, before the first index.
     pub(crate) fn new(sos: Class) -> Self
         ensures index { result.index ≡ 0 }
         ensures class { result.class ≡ sos }
@@ -61,7 +61,7 @@ impl Nearest {
         }
     }
 
-    /// The nearest strong class before a later index. Each class that is looked at on the way back takes a step.
+    /// Returns the nearest strong class before a later index. Each class on the way back to it is a step.
     fn class_before<L: Ledger>(
         &self,
         s: &Sequence,
@@ -88,7 +88,7 @@ impl Nearest {
         self.class
     }
 
-    /// Moves on to a later index, and answers the nearest strong class before it.
+    /// Moves on to a later index, and returns the nearest strong class before it.
     fn move_to<L: Ledger>(
         &mut self,
         s: &Sequence,
@@ -112,18 +112,18 @@ impl Nearest {
     }
 }
 
-/// Looks along a sequence for a class that counts as one direction. It only moves on, so that all pairs together are
-/// looked through once.
+/// Searches a sequence for a class that counts as one direction. The cursor only moves forward, so all pairs together
+/// search the sequence once.
 #[derive(Clone, Copy)]
 struct Lookout {
     direction: Class,
 
-    /// The index up to which it has looked.
+    /// The index that the search has reached.
     next: usize,
 }
 
 impl Lookout {
-    /// Before the first index.
+    /// Returns a cursor before the first index.
     fn new(direction: Class) -> Self
         ensures direction { result.direction ≡ direction }
         ensures next { result.next ≡ 0 }
@@ -131,7 +131,8 @@ impl Lookout {
         Lookout { direction, next: 0 }
     }
 
-    /// Whether such a class stands strictly inside a pair. Each class that is passed takes a step.
+    /// Returns whether a class that counts as the direction is strictly inside a pair. Each class that is passed is a
+    /// step.
     fn finds<L: Ledger>(
         &mut self,
         s: &Sequence,
@@ -167,7 +168,7 @@ impl Lookout {
     }
 }
 
-/// What stands inside the pairs of a sequence, looked at in the order of their openers.
+/// The content of the pairs of a sequence, which are handled in the order of their openers.
 #[derive(Clone, Copy)]
 pub(crate) struct Insides {
     embedding: Lookout,
@@ -175,7 +176,7 @@ pub(crate) struct Insides {
 }
 
 impl Insides {
-    /// Before the first pair.
+    /// Returns the state before the first pair.
     pub(crate) fn new(embedding: Class) -> Self
         ensures lookouts { AreLookoutsFor embedding 0 result }
     {
@@ -185,7 +186,7 @@ impl Insides {
         }
     }
 
-    /// The direction that a pair takes, by what stands inside and by the strong class before it (N0 b to d).
+    /// Returns the direction that a pair takes, from its content and the strong class before it (N0 b to d).
     pub(crate) fn pair_direction<L: Ledger>(
         &mut self,
         s: &Sequence,

@@ -1,4 +1,4 @@
-//! Runs of one class along a sequence, which take one class.
+//! Runs of one class along a sequence, which get the same class.
 ghost use Rattle.std.specs.Prelude.{◌≡◌, ℕ, ◌+◌, ◌-◌, ◌<◌, ◌≤◌, Some, length, slice_index};
 ghost use Rattle.sequences.specs.Links.{ArePositions};
 ghost use Rattle.units.specs.Classes.{class_at};
@@ -11,8 +11,8 @@ use units::class::Class;
 use units::level::Level;
 use units::steps::Steps;
 
-/// Gives the class `made` to the positions of a sequence from the index `start` on, as long as they have this class.
-/// It answers the index behind them, and takes a step for each.
+/// Gives the class `made` to the positions of a sequence from the index `start` on, as long as they have the class
+/// `class`. Returns the index after them. Each position is a step.
 pub(crate) fn give_run<L: Ledger>(
     positions: &[u32],
     start: usize,
@@ -36,7 +36,7 @@ pub(crate) fn give_run<L: Ledger>(
     k
 }
 
-/// The same, and it gives these positions a level too.
+/// Does the same as `give_run`, and also gives these positions a level.
 pub(crate) fn give_run_levels<L: Ledger>(
     positions: &[u32],
     start: usize,
@@ -66,7 +66,7 @@ pub(crate) fn give_run_levels<L: Ledger>(
 }
 
 /// Gives a direction and a level to the positions of a sequence from the index `start` on, as long as they are neutral
-/// or have this direction. It answers the index behind them, and takes a step for each.
+/// or have this direction. Returns the index after them. Each position is a step.
 pub(crate) fn give_direction<L: Ledger>(
     positions: &[u32],
     start: usize,
@@ -96,8 +96,8 @@ pub(crate) fn give_direction<L: Ledger>(
     k
 }
 
-/// Passes the positions of a sequence from the index `start` on, as long as they are neutral, AN, or this last strong
-/// class. Returns the index after them; each is a step.
+/// Skips the positions of a sequence from the index `start` on, as long as they are neutral, AN, or this last strong
+/// class. Returns the index after them. Each position is a step.
 pub(crate) fn pass_over<L: Ledger>(
     positions: &[u32],
     start: usize,

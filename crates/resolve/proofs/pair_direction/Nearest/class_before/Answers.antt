@@ -8,7 +8,7 @@ use Rattle.resolve.proofs.LookingBack.{looked_back-all, looked_back-found}
 use Rattle.resolve.proofs.PairInOrder.{context_before-found, context_before-passed}
 use Rattle.resolve.proofs.pair_direction.Nearest.class_before.Goals as goal
 
--- what is known of the class before index k of the sequence, which is read at these positions
+-- what is known about the class before index k of the sequence, which has these positions
 module _ (cs : List Class) (qs ps : List ℕ) (sos : Class) (k : ℕ) (same : qs ≡ ps) (some : 0 < k) (inside : k - 1 < length ps) where
   read_is : class_at cs (slice_index qs (k - 1)) ≡ class_at (classes_at cs ps) (k - 1)
   read_is = ap (λ (xs : List ℕ). class_at cs (slice_index xs (k - 1))) same ∙ sym (class_at-classes_at cs ps (k - 1) inside)
