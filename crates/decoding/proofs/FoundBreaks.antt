@@ -10,19 +10,19 @@ use Rattle.decoding.specs.Offsets.{Spelled, AreStarts, code_units}
 use Rattle.decoding.specs.Starts.{AreFound, AreOffsets}
 use Rattle.decoding.proofs.OffsetLemmas.{offset-end}
 
--- right breaks have no fault
+-- breaks that meet `AreBreaks` have no fault
 pub no_fault : (at : List ℕ) (len : ℕ) (fault : BreakFault) → AreBreaks at len → IsFirstBreakFault at len fault → ⊥
 no_fault at len (OutOfRange index) right (inside, _, wrong) =
     let ok : IsInside at len index = right.inside index inside in
     elim wrong [ inl e ↦ omega (arith, e, ok.after_start) | inr le ↦ omega (arith, le, ok.before_end) ]
 no_fault at len (NotRising index) right (inside, _, _, later, wrong) = omega (arith, wrong, right.rising index inside later)
 
--- what cannot be refused is done
+-- a result that cannot be an error is ok
 pub ok_unless : {T E : Type 0} (P : T → Type 0) (Q : E → Type 0) (r : Result T E) → MatchResult r P Q → ((e : E) → Q e → ⊥) → IsOk r
 ok_unless P Q (Ok x) m none = search rules
 ok_unless P Q (Err e) m none = absurd (none e m)
 
--- breaks rise by one at least, so there are fewer than code units
+-- breaks rise by at least one, so there are no more of them than code units
 breaks_above : (at : List ℕ) (len i : ℕ) → AreBreaks at len → i < length at → i < slice_index at i
 breaks_above at len zero right lt = (right.inside 0 lt).after_start
 breaks_above at len (suc i) right lt =
@@ -36,11 +36,11 @@ few_breaks (x ∷ xs) len right =
     let last : length xs < slice_index (x ∷ xs) (length xs) = breaks_above (x ∷ xs) len (length xs) right (omega arith) in
     omega (arith, last, (right.inside (length xs) (omega arith)).before_end)
 
--- the break with an index is the offset with the index that was found
+-- the break with the index i is the offset with the i-th of the character indices
 found_at : (starts breaks indices : List ℕ) (i : ℕ) → AreFound starts breaks indices → i < length indices → slice_index starts (slice_index indices i) ≡ slice_index breaks i
 found_at starts breaks indices i f lt = sym (get_or-map (slice_index starts) indices i 0 0 lt) ∙ ap (λ xs. slice_index xs i) f.found
 
--- the order of offsets is that of their indices
+-- indices have the order of their offsets
 index_before : (starts : List ℕ) (n j k : ℕ) → AreOffsets n starts → j ≤ n → slice_index starts j < slice_index starts k → j < k
 index_before starts n j k o le lt = elim (cases_lt j k) [
   | inl below ↦ below
@@ -50,7 +50,7 @@ index_before starts n j k o le lt = elim (cases_lt j k) [
   ]
 ]
 
--- breaks at offsets are breaks at the characters with the indices
+-- breaks at offsets are breaks at the characters with these indices
 pub breaks_of_found : (starts breaks indices : List ℕ) (n : ℕ) → AreOffsets n starts → length starts ≡ n + 1 → AreBreaks breaks (slice_index starts n) → AreFound starts breaks indices → AreBreaks indices n
 breaks_of_found starts breaks indices n o whole right f =
     let same : length indices ≡ length breaks = sym (length-map indices (slice_index starts)) ∙ ap length f.found in

@@ -7,14 +7,14 @@ use Rattle.std.proofs.lemmas.List.{get_or-map, map-append, take_more, take_more_
 use Rattle.std.proofs.lemmas.List.Elements.{All-push}
 use Rattle.decoding.specs.Starts.{BeginsAt, Rises}
 
--- of so many breaks the indices stand there, and the next one is none of the first k offsets
+-- the column has the indices of the first `next` breaks, and the next break is not among the first k offsets
 pub record IsIndexed (starts breaks column : List ℕ) (next k : ℕ) : Type 0 where
   pub few : next ≤ length breaks
   pub found : map (slice_index starts) (take next column) ≡ take next breaks
   pub inside : All (λ (j : ℕ). j < length starts) (take next column)
   pub passed : (j : ℕ) → j < k → next < length breaks → slice_index starts j ≢ slice_index breaks next
 
--- none yet
+-- no break has an index yet
 pub indexed_none : (starts breaks column : List ℕ) → IsIndexed starts breaks column 0 0
 indexed_none starts breaks column = record {
   few = omega arith;
@@ -45,7 +45,7 @@ indexed_more starts breaks column next k rises breaks_rise lt more room is i = r
       ];
 }
 
--- the offset with the index k is another
+-- the offset with the index k is not the next break
 pub indexed_past : (starts breaks column : List ℕ) (next k : ℕ) → slice_index starts k ≢ slice_index breaks next
     → IsIndexed starts breaks column next k → IsIndexed starts breaks column next (k + 1)
 indexed_past starts breaks column next k other i = record {
@@ -76,7 +76,7 @@ pub indexed_as : (starts breaks column now : List ℕ) (next more k : ℕ) → n
 indexed_as starts breaks column now next more k same_column same_next i =
     subst (λ xs. IsIndexed starts breaks xs more k) (sym same_column) (subst (λ n. IsIndexed starts breaks column n k) (sym same_next) i)
 
--- of the offsets up to an index, so many are not above the offset
+-- of the offsets before the index `to`, `count` are at most `at`
 pub record IsCounted (starts : List ℕ) (at count to : ℕ) : Type 0 where
   pub inside : count ≤ to
   pub below : (k : ℕ) → k < count → slice_index starts k ≤ at

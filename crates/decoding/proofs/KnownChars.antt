@@ -50,7 +50,7 @@ code_of_four x y z w c is = elim (shape c (scalar_cases c is.scalar)) [
       (omega (arith, l, p), omega (arith, f, q), omega (arith, g, r), omega (arith, k, t), omega (arith, l, f, g, k, s, p, q, r, t))
 ]
 
--- what is made of such a code
+-- the conversion of such a code to a character succeeds
 pub is_some : (r : Option ℕ) (code c : ℕ) → SomeIff r (IsScalar code) code → c ≡ code → IsScalar c → IsSome r
 is_some None code c h same is = absurd (h (subst IsScalar same is))
 is_some (Some d) code c h same is = search rules
@@ -71,7 +71,7 @@ begins : (bs cs : List ℕ) → scalars cs ≡ true → encodes cs ≡ bs → 0 
 begins bs [] p e some = absurd (omega (arith, some, ap length e))
 begins bs (c ∷ cs) p e some = record { c = c; rest = encodes cs; is = (and_parts (scalar c) (scalars cs) p).0; split = sym e }
 
--- a character begins behind a front that is well formed
+-- a character begins after a well-formed front
 first_char : (bs : List ℕ) (at : ℕ) → at < length bs → IsUtf8 bs → IsUtf8 (take at bs) → Begins (drop at bs)
 first_char bs at inside all front = let t = after_text bs at all front in begins (drop at bs) t.0 t.1.0 t.1.1 (omega (arith, length-drop at bs, inside))
 
@@ -81,7 +81,7 @@ byte_of bs at k p e = sym (ap (λ (l : List ℕ). get_or l k 0) e) ∙ get_or-dr
 first_byte : (bs : List ℕ) (at : ℕ) (p : List ℕ) → drop at bs ≡ p → get_or p 0 0 ≡ get_or bs at 0
 first_byte bs at p e = byte_of bs at 0 p e ∙ ap (λ n. get_or bs n 0) (let z : at + 0 ≡ at = omega arith in z)
 
--- it has two bytes, three or four, by the first of them
+-- the first byte says whether it has two, three or four bytes
 pub begins_two : (bs : List ℕ) (at : ℕ) → at < length bs → IsUtf8 bs → IsUtf8 (take at bs) → 128 ≤ get_or bs at 0 → get_or bs at 0 < 224
     → (at + 1 < length bs) × ((c : ℕ) × IsOfBytes (get_or bs at 0 ∷ get_or bs (at + 1) 0 ∷ []) c)
 begins_two bs at inside all front least most =

@@ -1,4 +1,4 @@
--- Texts in UTF-8 that need not be well formed, chunk by chunk.
+-- Texts in UTF-8 that may be ill-formed, chunk by chunk.
 use Rattle.std.proofs.Common.{◌≡◌, ℕ, zero, suc, ◌+◌, ◌-◌, ◌<◌, ◌≤◌, List, [], ◌∷◌, ◌++◌, length, drop, take, refl, sym, subst, ap, ◌∙◌, inl, inr, arith}
 use Rattle.std.specs.Prelude.{slice_index_or}
 use Rattle.std.specs.Str.{chars}
@@ -17,13 +17,13 @@ pub replaced_some : (n : ℕ) → 0 < n → replaced n ≡ record { code = 0xFFF
 replaced_some zero some = absurd (omega (arith, some))
 replaced_some (suc n) some = refl
 
--- no bytes have no text
+-- the text of no bytes is empty
 pub chunks_none : (k : ℕ) → chunks k [] ≡ []
 unfolding chunks utf8_valid_len utf8_error_len chars
 chunks_none zero = refl
 chunks_none (suc k) = chunks_none k
 
--- a chunk takes a byte, where there is one
+-- a chunk takes at least one byte if there is one
 shorter : (bs : List ℕ) → 0 < length bs → length (after_first_chunk bs) < length bs
 shorter bs some =
     let n = utf8_valid_len bs in
@@ -34,7 +34,7 @@ shorter bs some =
       | inr above ↦ omega (arith, left, above, some)
     ]
 
--- any number from that of the bytes up gives the same text
+-- the text is the same for each number of chunks from the number of bytes on
 chunks_any : (j k : ℕ) (bs : List ℕ) → length bs ≤ j → length bs ≤ k → chunks j bs ≡ chunks k bs
 unfolding chunks
 chunks_any j k [] p q = chunks_none j ∙ sym (chunks_none k)
@@ -52,7 +52,7 @@ lossy_step bs some =
     chunks_any (length bs) (suc (length bs)) bs (omega arith) (omega arith)
     ∙ ap (λ (t : List Spelled). first_chunk bs ++ t) (chunks_any (length bs) (length (after_first_chunk bs)) (after_first_chunk bs) (omega (arith, less)) (omega arith))
 
--- bytes in a text, in a fault behind it, and behind both
+-- the bytes are a well-formed part, an ill-formed part after it, and the rest
 pub record IsChunk (bs valid invalid rest : List ℕ) : Type 0 where
   pub parts : bs ≡ valid ++ (invalid ++ rest)
   pub valid_len : length valid ≡ utf8_valid_len bs
@@ -66,7 +66,7 @@ chunk_text bs valid invalid rest c =
     ap (λ (v : List ℕ). utf8_text v ++ replaced (utf8_invalid_len (drop (utf8_valid_len bs) bs))) front
     ∙ ap (λ (n : ℕ). utf8_text valid ++ replaced n) (sym c.invalid_len)
 
--- what stands behind a chunk, told from where the bytes begin
+-- the bytes after a chunk, by the offset in all bytes
 pub chunk_behind : (bytes valid invalid rest : List ℕ) (at : ℕ) → IsChunk (drop at bytes) valid invalid rest
     → after_first_chunk (drop at bytes) ≡ drop (at + length valid + length invalid) bytes
 chunk_behind bytes valid invalid rest at c =
@@ -95,7 +95,7 @@ chunk_within bytes valid invalid rest at left c =
       inside = omega (arith, ap length c.parts, length-append valid (invalid ++ rest), length-append invalid rest, len, left);
     }
 
--- what was handed out as a chunk of the bytes from an offset on is one
+-- what the iterator returned as a chunk of the bytes from an offset on is a chunk
 pub chunk_from : (bytes : List ℕ) (at : ℕ) (left valid given invalid told rest : List ℕ) → left ≡ take (length bytes - at) (drop at bytes) → given ≡ valid → told ≡ invalid
     → left ≡ valid ++ (invalid ++ rest) → length valid ≡ utf8_valid_len left → length invalid ≡ utf8_invalid_len (drop (utf8_valid_len left) left) → IsChunk (drop at bytes) given told rest
 chunk_from bytes at left valid given invalid told rest is_left is_valid is_invalid parts valid_len invalid_len =
@@ -104,7 +104,7 @@ chunk_from bytes at left valid given invalid told rest is_left is_valid is_inval
     (subst (λ (x : List ℕ). IsChunk left x told rest) (sym is_valid)
     (subst (λ (x : List ℕ). IsChunk left valid x rest) (sym is_invalid) (record { parts = parts; valid_len = valid_len; invalid_len = invalid_len })))
 
--- each of the characters takes some byte
+-- each of the characters takes at least one byte
 replaced_spelled : (n : ℕ) → IsSpelledOut (replaced n)
 replaced_spelled zero = λ k d lt. absurd (omega (arith, lt))
 replaced_spelled (suc n) = λ k d lt. subst (λ (i : ℕ). 0 < (slice_index_or (replaced (suc n)) i d).width) {x = 0} {y = k} (omega (arith, lt)) (omega arith)
@@ -122,7 +122,7 @@ chunks_spelled (suc k) bs =
 pub lossy_spelled : (bs : List ℕ) → IsSpelledOut (utf8_lossy_text bs)
 lossy_spelled bs = chunks_spelled (length bs) bs
 
--- the text of what is read is the whole at the end
+-- no text remains at the end of the bytes
 pub lossy_end : (bytes : List ℕ) (at : ℕ) → length bytes ≤ at → utf8_lossy_text (drop at bytes) ≡ []
 unfolding chunks
 lossy_end bytes at past = ap utf8_lossy_text (drop_all at bytes past)

@@ -1,4 +1,4 @@
--- Bytes that need not be well formed, read chunk by chunk.
+-- Bytes that may be ill-formed, read chunk by chunk.
 use Rattle.std.proofs.Common.{◌≡◌, ℕ, ◌+◌, ◌<◌, ◌≤◌, List, ◌++◌, length, drop, subst, sym, ap, ◌∙◌, arith}
 use Rattle.std.proofs.lemmas.List.{append-nil, append_assoc, length-drop}
 use Rattle.units.specs.declared.bracket.Unit.{Unit as BidiUnit}
@@ -27,7 +27,7 @@ read_chunk tables bytes front valid invalid rest before after units units_then s
           ∙ sym (append_assoc front (first_chunk bs) (utf8_lossy_text (drop after.code_units bytes)));
     }
 
--- what was read up to the end is the text
+-- the characters read up to the end are the whole text
 pub read_whole : (tables : TablesOf) (bytes : List ℕ) (front : List Spelled) (reached : Reached) (units : List BidiUnit) (starts : List ℕ)
     → length bytes ≤ reached.code_units → IsReadTo tables bytes front reached units starts → utf8_lossy_text bytes ≡ front
 read_whole tables bytes front reached units starts past r =

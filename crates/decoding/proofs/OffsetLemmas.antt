@@ -6,7 +6,7 @@ use Rattle.std.proofs.lemmas.List.Sums.{sum_by-cons, sum_by_more, sum_by-take-le
 use Rattle.decoding.specs.Offsets.{Spelled, AreStarts, IsSpelledOut, code_units, offset_of}
 use Rattle.decoding.specs.Starts.{AreOffsets}
 
--- what stands behind does not move a character
+-- characters after the front do not change the offsets in it
 pub offset-front : (front back : List Spelled) (k : ℕ) → k ≤ length front → offset_of (front ++ back) k ≡ offset_of front k
 offset-front front back k le = ap code_units (take-append-le k front back le)
 
@@ -14,7 +14,7 @@ offset-front front back k le = ap code_units (take-append-le k front back le)
 pub offset-end : (text : List Spelled) → offset_of text (length text) ≡ code_units text
 offset-end text = ap code_units (take_all (length text) text (omega arith))
 
--- the first character behind a front
+-- the offset of the first character after a front
 pub offset-behind : (front back : List Spelled) → offset_of (front ++ back) (length front) ≡ code_units front
 offset-behind front back = offset-front front back (length front) (omega arith) ∙ offset-end front
 

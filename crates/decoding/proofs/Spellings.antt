@@ -45,11 +45,11 @@ text_more bs at c behind front is =
 pub utf8_more : (bs : List ℕ) (at c behind : ℕ) → IsUtf8 (take at bs) → IsSpelled bs at (c, behind) → IsUtf8 (take behind bs)
 utf8_more bs at c behind front is = subst IsUtf8 (sym is.spelled) (IsUtf8-append (take at bs) (encode_utf8 c) front (IsUtf8-encode c is.scalar))
 
--- a character takes some bytes
+-- a character takes at least one byte
 pub forward : (bs : List ℕ) (at c behind : ℕ) → IsSpelled bs at (c, behind) → at < behind
 forward bs at c behind is = omega (arith, is.behind, length-encode c, (len_utf8_bounds c).0)
 
--- what is made of a code
+-- the conversion of a code returns the character of these bytes, or none if they begin no character
 pub made : (r : Option ℕ) (code : ℕ) (bs : List ℕ) → SomeIff r (IsScalar code) code → encode_utf8 code ≡ bs → MatchOption r (BeginNoChar bs) (IsOfBytes bs)
 made None code bs h is = λ rest c r s e. h (subst IsScalar (sym (encode_same code c rest r (ap (λ (b : List ℕ). b ++ rest) is ∙ e)).0) s)
 made (Some c) code bs h is = record { scalar = subst IsScalar (sym h.1) h.0; bytes_of = ap encode_utf8 h.1 ∙ is }
@@ -67,7 +67,7 @@ pub no_fourth : (x y z w : ℕ) (rest : List ℕ) → 240 ≤ x → (Continues w
 no_fourth x y z w rest least stops = no_char (x ∷ y ∷ z ∷ w ∷ rest) 0 (λ r.
     let fourth = r.fourth least in stops (record { least = omega (arith, fourth); most = omega (arith, fourth) }))
 
--- the first bytes of what is left
+-- the first bytes of the rest
 left_one : (bs : List ℕ) (at : ℕ) → at < length bs → drop at bs ≡ get_or bs at 0 ∷ drop (at + 1) bs
 left_one bs at lt = drop-cons bs at 0 lt ∙ ap (λ n. get_or bs at 0 ∷ drop n bs) (let e : suc at ≡ at + 1 = omega arith in e)
 
@@ -89,7 +89,7 @@ left_four bs at lt =
     ∙ ap (λ (xs : List ℕ). get_or bs at 0 ∷ get_or bs (at + 1) 0 ∷ get_or bs (at + 2) 0 ∷ xs)
     (left_one bs (at + 3) lt ∙ ap (λ n. get_or bs (at + 3) 0 ∷ drop n bs) (let e : at + 3 + 1 ≡ at + 4 = omega arith in e))
 
--- no character is spelled where these bytes begin none
+-- no character begins at an offset if its bytes there begin none
 pub unspelled_two : (bs : List ℕ) (at : ℕ) → at + 1 < length bs → BeginNoChar (get_or bs at 0 ∷ get_or bs (at + 1) 0 ∷ []) → StartsWithNoChar (drop at bs)
 unspelled_two bs at lt none = subst StartsWithNoChar (sym (left_two bs at lt)) (none (drop (at + 2) bs))
 

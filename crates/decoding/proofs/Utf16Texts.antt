@@ -28,12 +28,12 @@ utf16_spelled units = All-map (λ (s : Spelled). 0 < s.width) in_utf16 (utf16_lo
       | inr above ↦ omega (arith, two_units x above)
     ])
 
--- what may be a character is this one
+-- the optional character is this one if it is some
 pub is_value : (r : Option ℕ) (P : Type 0) (v : ℕ) → SomeIff r P v → IsSome r → Some v ≡ r
 is_value None P v h some = cc
 is_value (Some x) P v h some = ap Some (sym h.1)
 
--- the first of what is left
+-- the first of the remaining elements
 pub front_left : {X : Type 0} (xs ys : List X) (n : ℕ) (x d : X) → drop n xs ≡ x ∷ ys → (n < length xs) × (get_or xs n d ≡ x) × (drop (n + 1) xs ≡ ys)
 front_left xs ys n x d is = (
   omega (arith, length-drop n xs, ap length is),
@@ -48,7 +48,7 @@ pub record IsAt (units : List ℕ) (count at : ℕ) : Type 0 where
   pub few : count ≤ at
   pub inside : at ≤ length units
 
--- the next of them
+-- the next character and the offset after it
 pub record IsNext (units : List ℕ) (count at : ℕ) (found : Option ℕ) (behind : ℕ) : Type 0 where
   pub within : count < length (utf16_text units)
   pub read : in_utf16 (unwrap_or found 0xFFFD) ≡ get_or (utf16_text units) count (in_utf16 (unwrap_or found 0xFFFD))
@@ -98,6 +98,6 @@ whole_text units count at past now = take_all count (utf16_text units) (omega (a
 pub units_of_utf16 : (units : List ℕ) (count at : ℕ) → length units ≤ at → IsAt units count at → code_units (utf16_text units) ≡ length units
 units_of_utf16 units count at past now = ap code_units (sym (whole_text units count at past now)) ∙ sym now.offset ∙ omega (arith, past, now.inside)
 
--- a character is one
+-- some character is not none
 pub is_some : (c : ℕ) → Some c ≡ None → ⊥
 is_some c e = cc

@@ -8,18 +8,18 @@ use Rattle.std.proofs.lemmas.Str.{utf8_valid_len-IsValidUpTo, IsUtf8-append, IsU
 use Rattle.std.proofs.str.Faults.{not_text, valid_to}
 use lib.Lanes.{zip2, mask_l, top}
 
--- no character begins behind a front that is well formed: the first fault
+-- if no character begins after a well-formed front, the first fault is there
 pub first_fault : (bs : List ℕ) (at : ℕ) → at < length bs → IsUtf8 (take at bs) → StartsWithNoChar (drop at bs) → (IsUtf8 bs → ⊥) × (at ≡ utf8_valid_len bs)
 first_fault bs at inside front none =
     let longest = valid_to bs at inside front none in
     (not_text bs at longest, sym (utf8_valid_len-IsValidUpTo bs at longest))
 
--- a block of ASCII behind a front that is well formed
+-- a well-formed front and a block of ASCII after it are well formed
 pub utf8_block : (bs : List ℕ) (at n : ℕ) → IsUtf8 (take at bs) → IsAscii (take n (drop at bs)) → IsUtf8 (take (at + n) bs)
 utf8_block bs at n front ascii =
     subst IsUtf8 (sym (take-add at n bs)) (IsUtf8-append (take at bs) (take n (drop at bs)) front (IsUtf8-from_ascii (take n (drop at bs)) ascii))
 
--- what a lane of the comparison has
+-- the value of a lane of the comparison
 abbrev pub at_least : ℕ → ℕ → ℕ
 at_least a b = cond (leb a b) 255 0
 

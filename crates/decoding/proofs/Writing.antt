@@ -37,7 +37,7 @@ written_more tables text s n at units starts u next in_units in_starts is count 
   starts = starts_more text s starts n at w.characters w.code_units in_starts w.starts;
 }
 
--- the offset of the end is written behind the others
+-- the offset of the end is written after the others
 pub decoded_whole : (tables : TablesOf) (text : List Spelled) (reached : Reached) (units : List BidiUnit) (starts : List ℕ)
     → reached.characters < length starts → IsWritten tables text reached units starts
     → AreDecoded tables text reached.characters units (set starts reached.characters reached.code_units)
@@ -51,7 +51,7 @@ decoded_whole tables text reached units starts room w = record {
   ];
 }
 
--- the next character of a text, behind what was written before that
+-- the next character of a text is written after the characters before it
 pub written_next : (tables : TablesOf) (front text : List Spelled) (k : ℕ) (s : Spelled) (n at : ℕ) (units : List BidiUnit) (starts : List ℕ) (u : BidiUnit)
     → k < length text → s ≡ get_or text k s → n < length units → n < length starts → u ≡ unit_by tables s.code
     → IsWritten tables (front ++ take k text) (record { characters = n; code_units = at }) units starts

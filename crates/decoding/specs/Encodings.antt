@@ -10,7 +10,7 @@ use Rattle.decoding.specs.Offsets.{Spelled, offset_of}
 abbrev pub in_utf8 : ℕ → Spelled
 in_utf8 c = record { code = c; width = length (encode_utf8 c) }
 
--- the text that bytes spell which are well formed
+-- the text that well-formed bytes spell
 abbrev pub utf8_text : List ℕ → List Spelled
 utf8_text bytes = map in_utf8 (chars bytes)
 
@@ -18,19 +18,19 @@ utf8_text bytes = map in_utf8 (chars bytes)
 abbrev pub in_utf16 : ℕ → Spelled
 in_utf16 c = record { code = c; width = length (encode_utf16 c) }
 
--- the text that code units of 16 bits spell, with U+FFFD for each surrogate that stands alone
+-- the text that code units of 16 bits spell, with U+FFFD for each unpaired surrogate
 abbrev pub utf16_text : List ℕ → List Spelled
 utf16_text units = map in_utf16 (utf16_lossy_chars units)
 
--- the character with the index k is spelled by code units, and not by a surrogate that stands alone
+-- the character with the index k is not an unpaired surrogate
 abbrev pub IsPaired : List ℕ → ℕ → Type 0
 IsPaired units k = slice_index_or (utf16_chars units) k None ≢ None
 
--- the code units of 16 bits are well formed: no surrogate stands alone
+-- the code units of 16 bits are well formed: no surrogate is unpaired
 abbrev pub IsUtf16 : List ℕ → Type 0
 IsUtf16 units = (k : ℕ) → k < length (utf16_chars units) → IsPaired units k
 
--- the first surrogate that stands alone is at the offset
+-- the first unpaired surrogate is at the offset
 pub record IsFirstLone (units : List ℕ) (at : ℕ) : Type 0 where
   pub index : ℕ
   pub inside : index < length (utf16_chars units)

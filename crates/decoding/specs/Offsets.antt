@@ -15,15 +15,15 @@ codes_of text = map (λ s. s.code) text
 abbrev pub code_units : List Spelled → ℕ
 code_units text = sum_by (λ s. s.width) text
 
--- the offset of the character with the index k, or of the text's end: how many code units stand before it
+-- the offset of the character with the index k, or of the text's end: the number of code units before it
 abbrev pub offset_of : List Spelled → ℕ → ℕ
 offset_of text k = code_units (take k text)
 
--- the list has the offset of each character, and behind the last that of the text's end
+-- the list has the offset of each character, and after the last one the offset of the text's end
 abbrev pub AreStarts : List Spelled → List ℕ → Type 0
 AreStarts text starts = (k : ℕ) → k ≤ length text → slice_index starts k ≡ offset_of text k
 
--- each character is spelled by some code unit
+-- each character is spelled by at least one code unit
 abbrev pub IsSpelledOut : List Spelled → Type 0
 IsSpelledOut text = All (λ s. 0 < s.width) text
 

@@ -3,7 +3,7 @@ use Rattle.std.specs.Prelude.{ℕ, ◌≡◌, ◌+◌, ◌<◌, ◌≤◌, List,
 use Rattle.std.specs.Char.{encode_utf8, IsScalar}
 use Rattle.std.specs.Str.{StartsWithNoChar}
 
--- the byte can stand behind the first one of a character
+-- the byte is a continuation byte
 pub record Continues (byte : ℕ) : Type 0 where
   pub least : 0x80 ≤ byte
   pub most : byte < 0xC0
@@ -13,11 +13,11 @@ pub record IsOfBytes (bytes : List ℕ) (c : ℕ) : Type 0 where
   pub scalar : IsScalar c
   pub bytes_of : encode_utf8 c ≡ bytes
 
--- no character begins with these bytes, whatever stands behind them
+-- no character begins with these bytes, whatever follows them
 abbrev pub BeginNoChar : List ℕ → Type 0
 BeginNoChar bytes = (rest : List ℕ) → StartsWithNoChar (bytes ++ rest)
 
--- the bytes from the offset up to another one spell a character: it, and the offset behind it
+-- a character begins at the offset: `found` is the character and the offset after it
 pub record IsSpelled (bytes : List ℕ) (at : ℕ) (found : ℕ × ℕ) : Type 0 where
   pub scalar : IsScalar found.0
   pub behind : found.1 ≡ at + length (encode_utf8 found.0)

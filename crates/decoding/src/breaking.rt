@@ -1,4 +1,4 @@
-//! Breaks at characters that were found.
+//! Breaks at the indices of characters.
 ghost use Rattle.std.specs.Prelude.{◌≡◌};
 ghost use Rattle.lines.specs.LineBreaks.{AreBreaks};
 

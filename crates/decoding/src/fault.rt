@@ -1,6 +1,6 @@
-//! What is done about code units that spell no character.
+//! How ill-formed code units are treated.
 
-/// What is done about code units that spell no character.
+/// How code units that spell no character are treated.
 #[derive(Clone, Copy)]
 pub enum Faults {
     /// The text is rejected.

@@ -3,9 +3,9 @@ ghost use Rattle.std.specs.Prelude.{◌≡◌, ◌<◌, ◌≤◌, ◌+◌, ◌-
 ghost use Rattle.std.specs.List.{All};
 ghost use Rattle.decoding.specs.Starts.{AreOffsets, IsBetween, IsFirstBetween, IsNarrowed, Rises};
 
-/// Writes for each break, an offset of code units, the index of the character that begins there. The offsets of all
-/// characters, and of the text's end, are `starts`. Where no character begins at a break, its index among the breaks
-/// is answered.
+/// Writes for each break, which is an offset of code units, the index of the character that begins there. `starts`
+/// contains the offsets of all characters and of the text's end. If no character begins at a break, fails with the
+/// index of the first such break in `breaks`.
 pub fn write_indices(starts: &[u32], breaks: &[usize], indices: &mut [usize]) -> Result<(), usize>
     requires starts { Rises starts.now }
     requires breaks { (i : ℕ) → 0 < i → i < length breaks.now
@@ -32,11 +32,12 @@ pub fn write_indices(starts: &[u32], breaks: &[usize], indices: &mut [usize]) ->
     Ok(())
 }
 
-/// A search ends where so few offsets are left. They are counted, which takes the same way whatever they are; where a
-/// search turns is not to be foreseen.
+/// The number of offsets at which a binary search ends. The remaining offsets are counted one by one: that loop has no
+/// branch that depends on their values, and the branches of a search are hard to predict.
 const FEW: usize = 64;
 
-/// How many of the offsets are not above this one, where all before `first` are not and all from `end` on are.
+/// Returns how many of the offsets are at most `at`. The offsets before `first` are at most `at`, and those from `end`
+/// on are greater.
 fn count_between(starts: &[u32], first: usize, end: usize, at: u32) -> usize
     requires rises { Rises starts.now }
     requires forward { first ≤ end }
@@ -53,7 +54,7 @@ fn count_between(starts: &[u32], first: usize, end: usize, at: u32) -> usize
     first + few as usize
 }
 
-/// How many of the offsets are not above this one.
+/// Returns how many of the offsets are at most `at`.
 #[inline(never)]
 fn count_up_to(starts: &[u32], at: u32) -> usize
     requires { Rises starts.now }
@@ -71,7 +72,7 @@ fn count_up_to(starts: &[u32], at: u32) -> usize
     count_between(starts, first, first + size, at)
 }
 
-/// The index of the character that the code unit at an offset belongs to, none from the text's end on.
+/// Returns the index of the character that the code unit at an offset belongs to, or none from the text's end on.
 pub fn index_of(starts: &[u32], at: usize) -> Option<usize>
     requires some { 0 < length starts.now }
     requires starts { AreOffsets (length starts.now - 1) starts.now }

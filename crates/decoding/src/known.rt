@@ -1,9 +1,8 @@
-//! The character that begins at an offset of a text in UTF-8 that is well formed, from its bytes, which are not tested.
+//! The character that begins at an offset of well-formed UTF-8, read without tests of its bytes.
 ghost use Rattle.std.specs.Prelude.{ℕ, ◌≡◌, ◌<◌, [], ◌∷◌, length, take};
 ghost use Rattle.std.specs.Str.{IsUtf8};
 ghost use Rattle.decoding.specs.Spelling.{IsOfBytes, IsSpelled};
 
-/// Returns the character of these two bytes.
 #[inline(always)]
 fn of_two(x: u8, y: u8) -> char
     requires { (c : ℕ) × IsOfBytes (x ∷ y ∷ []) c }
@@ -12,7 +11,6 @@ fn of_two(x: u8, y: u8) -> char
     char::from_u32(u32::from(x - 0xC0) * 0x40 + u32::from(y - 0x80)).unwrap()
 }
 
-/// Returns the character of these three bytes.
 #[inline(always)]
 fn of_three(x: u8, y: u8, z: u8) -> char
     requires { (c : ℕ) × IsOfBytes (x ∷ y ∷ z ∷ []) c }
@@ -22,7 +20,6 @@ fn of_three(x: u8, y: u8, z: u8) -> char
     char::from_u32(front * 0x40 + u32::from(z - 0x80)).unwrap()
 }
 
-/// Returns the character of these four bytes.
 #[inline(never)]
 fn of_four(x: u8, y: u8, z: u8, w: u8) -> char
     requires { (c : ℕ) × IsOfBytes (x ∷ y ∷ z ∷ w ∷ []) c }

@@ -1,4 +1,4 @@
-//! Texts in UTF-8 and UTF-16 decoded: the unit of each character, and the offset of code units at which it begins.
+//! Decodes texts in UTF-8 and UTF-16: the unit of each character, and the offset of code units at which it begins.
 #![tactic(auto)]
 
 pub mod breaking;

@@ -1,4 +1,4 @@
-//! The characters of a text in UTF-8 that need not be well formed, with U+FFFD for what is not.
+//! The characters of a text in UTF-8 that may be ill-formed, with U+FFFD for each ill-formed part.
 ghost use Rattle.std.specs.Prelude.{◌≡◌, ◌<◌, ◌≤◌, ◌+◌, ◌^◌, ◌++◌, List, drop, length};
 ghost use Rattle.decoding.specs.Decoded.{AreDecoded, IsReadTo, IsWritten};
 ghost use Rattle.decoding.specs.LossyTexts.{first_chunk, replaced, utf8_lossy_text};
@@ -9,8 +9,8 @@ use crate::utf8::fill_str;
 use ucdfiles::tables::Tables;
 use units::bracket::Unit;
 
-/// Writes the unit and the offset of U+FFFD, for so many bytes that are no character, behind those of what was decoded
-/// before it; nothing for none.
+/// Appends the unit and the offset of U+FFFD, which replaces `width` ill-formed bytes, to the columns. Writes nothing
+/// if `width` is 0.
 fn fill_replaced(
     width: usize,
     tables: &Tables,
@@ -39,7 +39,7 @@ fn fill_replaced(
     }
 }
 
-/// Reads on from where a text was read to: the characters up to the next fault, and U+FFFD for that.
+/// Continues reading at `before`: writes the characters up to the next ill-formed bytes, and U+FFFD for these bytes.
 fn fill_chunk(
     bytes: &[u8],
     tables: &Tables,
@@ -68,8 +68,8 @@ fn fill_chunk(
     fill_replaced(chunk.invalid().len(), tables, reached, units, starts)
 }
 
-/// Writes the units and the offsets of a text, with U+FFFD for each maximal subpart of what is no UTF-8, and behind the
-/// offsets that of its end. It answers how many characters there are.
+/// Writes the units and the offsets of a text, with U+FFFD for each maximal subpart that is ill-formed. After the
+/// offsets, writes the offset of the text's end. Returns how many characters there are.
 pub fn decode_utf8_lossy(
     bytes: &[u8],
     tables: &Tables,

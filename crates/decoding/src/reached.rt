@@ -1,4 +1,4 @@
-//! How far a text is decoded.
+//! How much of a text is decoded.
 
 /// How many characters of a text were decoded, and how many code units spell them.
 #[derive(Clone, Copy)]

@@ -3,7 +3,7 @@ ghost use Rattle.std.specs.Prelude.{◌≡◌, ◌<◌, ◌≤◌, ◌↔◌, []
 ghost use Rattle.std.specs.Str.{StartsWithNoChar};
 ghost use Rattle.decoding.specs.Spelling.{BeginNoChar, Continues, IsOfBytes, IsSpelled};
 
-/// Whether a byte can stand behind the first one of a character.
+/// Returns whether a byte is a continuation byte of UTF-8.
 #[inline(always)]
 fn continues(byte: u8) -> bool
     ensures { IsTrue result ↔ Continues byte }
@@ -11,7 +11,7 @@ fn continues(byte: u8) -> bool
     0x80 <= byte && byte < 0xC0
 }
 
-/// The character of these two bytes, if they are well formed.
+/// Returns the character of these two bytes, if they are well formed.
 #[inline(always)]
 fn of_two(x: u8, y: u8) -> Option<char>
     requires { (0x80 ≤ x) × (x < 0xE0) }
@@ -23,7 +23,7 @@ fn of_two(x: u8, y: u8) -> Option<char>
     char::from_u32(u32::from(x - 0xC0) * 0x40 + u32::from(y - 0x80))
 }
 
-/// The character of these three bytes, if they are well formed.
+/// Returns the character of these three bytes, if they are well formed.
 #[inline(always)]
 fn of_three(x: u8, y: u8, z: u8) -> Option<char>
     requires { (0xE0 ≤ x) × (x < 0xF0) }
@@ -39,7 +39,7 @@ fn of_three(x: u8, y: u8, z: u8) -> Option<char>
     char::from_u32(front * 0x40 + u32::from(z - 0x80))
 }
 
-/// The character of these four bytes, if they are well formed.
+/// Returns the character of these four bytes, if they are well formed.
 #[inline(never)]
 fn of_four(x: u8, y: u8, z: u8, w: u8) -> Option<char>
     requires { 0xF0 ≤ x }
@@ -56,7 +56,7 @@ fn of_four(x: u8, y: u8, z: u8, w: u8) -> Option<char>
     char::from_u32(front * 0x1000 + back)
 }
 
-/// The character that begins at an offset, and the offset behind it; none where the bytes there begin no character.
+/// Returns the character that begins at an offset and the offset after it, or none if no character begins there.
 #[inline(always)]
 pub fn char_at(bytes: &[u8], at: usize) -> Option<(char, usize)>
     requires { at < length bytes.now }

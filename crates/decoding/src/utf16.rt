@@ -12,7 +12,7 @@ use crate::fault::Faults;
 use ucdfiles::tables::Tables;
 use units::bracket::Unit;
 
-/// The character that begins at an offset, none where a surrogate stands alone, and the offset behind it.
+/// Returns the character that begins at an offset, or none if it is an unpaired surrogate, and the offset after it.
 pub fn char_at(text: &[u16], at: usize) -> (Option<char>, usize)
     requires { at < length text.now }
     ensures first { utf16_chars (drop at text.now) ≡ result.0 ∷ utf16_chars (drop result.1 text.now) }
@@ -35,7 +35,7 @@ pub fn char_at(text: &[u16], at: usize) -> (Option<char>, usize)
     (char::from_u32(code), at + 2)
 }
 
-/// What is read of a character or a surrogate that stands alone.
+/// Returns what a character or an unpaired surrogate, given as none, is read as, or none if it is rejected.
 fn read(found: Option<char>, faults: Faults) -> Option<char>
     ensures { MatchOption result ((found ≡ None) × (faults ≡ Refused))
         (λ c. (c ≡ unwrap_or found 0xFFFD) × (faults ≡ Refused → found ≡ Some c)) }
@@ -46,8 +46,8 @@ fn read(found: Option<char>, faults: Faults) -> Option<char>
     }
 }
 
-/// Writes the units and the offsets of a text, and behind the offsets that of its end. It answers how many characters
-/// there are, or where faults are refused the offset of the first.
+/// Writes the units and the offsets of a text, and after the offsets the offset of the text's end. Returns how many
+/// characters there are. If `faults` rejects unpaired surrogates, fails with the offset of the first one.
 pub fn decode_utf16(
     text: &[u16],
     faults: Faults,

@@ -1,4 +1,4 @@
-//! The characters of a text in UTF-8: their units, the offsets at which they begin, and the offset of its first fault.
+//! The characters of a text in UTF-8: their units, the offsets at which they begin, and the offset of the first fault.
 ghost use Rattle.std.specs.Prelude.{◌≡◌, ◌<◌, ◌≤◌, ◌+◌, ◌^◌, ◌++◌, List, length, take, IfErr, IfOk, IsTrue, OnOk};
 ghost use Rattle.std.specs.Str.{chars, IsAscii, IsUtf8};
 ghost use Rattle.std.specs.Str.Lossy.{utf8_valid_len};
@@ -13,7 +13,8 @@ use std::simd::prelude::*;
 use ucdfiles::tables::Tables;
 use units::bracket::Unit;
 
-/// Writes the unit and the offset of each character of a text behind those of what was decoded before it.
+/// Appends the unit and the offset of each character of a text to the columns, after the `before.characters` that are
+/// written already.
 pub(crate) fn fill_str(
     text: &str,
     tables: &Tables,
@@ -49,7 +50,6 @@ pub(crate) fn fill_str(
 /// How many bytes are tested at once for being ASCII.
 const BLOCK: usize = 16;
 
-/// Whether each byte of a block is ASCII.
 #[inline(always)]
 fn is_ascii(block: u8x16) -> bool
     ensures { IsTrue result → IsAscii block }
@@ -57,7 +57,7 @@ fn is_ascii(block: u8x16) -> bool
     block.simd_ge(u8x16::splat(0x80)).to_bitmask() == 0
 }
 
-/// Returns where the blocks of ASCII that begin at an offset end.
+/// Returns the end of the blocks of ASCII that begin at an offset.
 #[inline(always)]
 fn ascii_end(bytes: &[u8], from: usize) -> usize
     requires inside { from ≤ length bytes.now }
@@ -73,8 +73,8 @@ fn ascii_end(bytes: &[u8], from: usize) -> usize
     at
 }
 
-/// Tests the characters that begin from an offset up to `end`, and returns where the last of them ends. Fails with the
-/// offset of the first fault.
+/// Tests the characters that begin between the offsets `from` and `end`, and returns the end of the last one. Fails
+/// with the offset of the first fault if there is one.
 #[inline(always)]
 fn test_chars(bytes: &[u8], from: usize, end: usize) -> Result<usize, usize>
     requires bounds { (from ≤ end) × (end ≤ length bytes.now) }
@@ -92,7 +92,7 @@ fn test_chars(bytes: &[u8], from: usize, end: usize) -> Result<usize, usize>
     Ok(at)
 }
 
-/// Tests whether a text is well formed, block by block. Fails with the offset of the first fault.
+/// Tests a text block by block. Fails with the offset of the first fault if the text is ill-formed.
 #[inline(never)]
 fn test_utf8(bytes: &[u8]) -> Result<(), usize>
     requires small { length bytes.now < 2 ^ 32 }
@@ -107,8 +107,8 @@ fn test_utf8(bytes: &[u8]) -> Result<(), usize>
     Ok(())
 }
 
-/// Writes the units and the offsets of a text that is well formed, and after the offsets that of its end. Returns how
-/// many characters there are.
+/// Writes the units and the offsets of a well-formed text, and after the offsets the offset of the text's end. Returns
+/// how many characters there are.
 #[inline(never)]
 fn decode_well_formed(
     bytes: &[u8],
@@ -138,9 +138,9 @@ fn decode_well_formed(
     count
 }
 
-/// Writes the units and the offsets of a text, and after the offsets that of its end. Returns how many characters there
-/// are. A first pass only tests the text; if it is ill-formed, nothing is written, and the offset of the first fault is
-/// returned.
+/// Writes the units and the offsets of a text, and after the offsets the offset of the text's end. Returns how many
+/// characters there are. A first pass only tests the text. If it is ill-formed, the function writes nothing and fails
+/// with the offset of the first fault.
 pub fn decode_utf8(
     bytes: &[u8],
     tables: &Tables,
