@@ -14,7 +14,7 @@ one_more_position s zero = ap (λ k. k ∷ []) (omega arith)
 one_more_position s (suc n) =
     ap (λ ps. s ∷ ps) (one_more_position (s + 1) n ∙ ap (λ k. positions_from (s + 1) n ++ (k ∷ [])) (omega arith))
 
--- the positions below n that pass
+-- the positions below n that pass the test
 abbrev pub passing : (ℕ → Bool) → ℕ → List ℕ
 passing test n = filter test (positions_from 0 n)
 
@@ -31,7 +31,7 @@ passing-kept test n xs no_break e = e ∙ sym (passing-more test n ∙ rw no_bre
 pub passing-added : (test : ℕ → Bool) (n : ℕ) (xs : List ℕ) → test n ≡ true → xs ≡ passing test n → xs ++ (n ∷ []) ≡ passing test (n + 1)
 passing-added test n xs a_break e = rw e (sym (passing-more test n ∙ rw a_break refl))
 
--- each element lies from s on and below e, and above the one before
+-- each element is at least s, below e, and above the one before
 record RisesIn (xs : List ℕ) (s e : ℕ) : Type 0 where
   pub from : (i : ℕ) → i < length xs → s ≤ slice_index xs i
   pub below : (i : ℕ) → i < length xs → slice_index xs i < e
@@ -64,7 +64,7 @@ filter-rises : (test : ℕ → Bool) (s n e : ℕ) → s + n ≤ e → RisesIn (
 filter-rises test s zero e h = rises-none s e
 filter-rises test s (suc n) e h = grind (arith, rises-more, rises-later, filter-rises test (s + 1) n e)
 
--- where the first position does not pass, those that do lie from 1 on
+-- if the first position does not pass, those that do are from 1 on
 passing-rises : (test : ℕ → Bool) (n : ℕ) → test 0 ≡ false → RisesIn (passing test n) 1 n
 passing-rises test zero h = rises-none 1 0
 passing-rises test (suc n) h = rw h (filter-rises test 1 n (suc n) (omega arith))
@@ -79,7 +79,7 @@ are-breaks xs n r = grind (arith, above-before)
 pub no_break_at_first : (text : List BidiUnit) (columns : ℕ) → is_column_break text columns 0 ≡ false
 no_break_at_first text columns = search rules
 
--- the positions that pass are breaks of a text of that length
+-- the positions that pass are breaks of a text of length n
 pub breaks-of-columns : (text : List BidiUnit) (columns n : ℕ) → AreBreaks (passing (is_column_break text columns) n) n
 breaks-of-columns text columns n = are-breaks _ n (passing-rises (is_column_break text columns) n (no_break_at_first text columns))
 
@@ -87,13 +87,13 @@ no_fault : (at : List ℕ) (len : ℕ) (fault : BreakFault) → AreBreaks at len
 no_fault at len (OutOfRange i) breaks h = grind (arith, slice_index)
 no_fault at len (NotRising i) breaks h = let above : slice_index at (i - 1) < slice_index at i = breaks.rising i h.0 h.3 in let below = h.4 in omega arith
 
--- breaks are never refused
+-- breaks that meet `AreBreaks` are never rejected
 pub breaks_are_taken : {X : Type 0} (P : X → Type 0) (at : List ℕ) (len : ℕ) (answer : Result X BreakFault) → AreBreaks at len
     → MatchResult answer P (IsFirstBreakFault at len) → IsOk answer
 breaks_are_taken P at len (Ok taken) breaks h = refl
 breaks_are_taken P at len (Err fault) breaks h = absurd (no_fault at len fault breaks h)
 
--- the paragraph's start, past one more position
+-- the paragraph's start, after one more position
 pub start_after_separator : (text : List BidiUnit) (p : ℕ) → separates_at text p ≡ true → p + 1 ≡ paragraph_start text (p + 1)
 start_after_separator text p h = let next : suc p ≡ p + 1 = omega arith in subst (λ k. p + 1 ≡ paragraph_start text k) next (rw h refl)
 

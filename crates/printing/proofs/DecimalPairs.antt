@@ -17,7 +17,7 @@ below (suc n) p t h =
       | inr g ↦ below n p (and_r _ (are_pairs n) t) (omega arith)
     ]
 
--- the table holds the two digits of each number below 100
+-- the table contains the two digits of each number below 100
 pub digits_in_table : (p : ℕ) → p < 100 → (get_or PAIRS (p * 2) 0 ≡ 48 + p / 10) × (get_or PAIRS (p * 2 + 1) 0 ≡ 48 + p % 10)
 digits_in_table p h = below 100 p tt h
 

@@ -1,4 +1,4 @@
--- Where lines begin in a text whose first paragraph is a part of its own.
+-- Where lines begin in a text, from its first paragraph and the rest.
 use Rattle.std.proofs.Common.{◌≡◌, ℕ, zero, suc, ◌+◌, ◌-◌, ◌<◌, Bool, true, false, List, [], ◌∷◌, ◌++◌, length, map, refl, sym, ap, ◌∙◌, inl, inr, arith, ne_eqb}
 use Rattle.std.specs.Prelude.{◌||◌, ◌==◌}
 use Rattle.std.proofs.lemmas.Bool.{cases_eq}
@@ -20,7 +20,7 @@ abbrev pub AreBelow : ℕ → List ℕ → Type 0
 AreBelow n [] = Unit {0}
 AreBelow n (p ∷ ps) = (p < n) × AreBelow n ps
 
--- positions behind so many others
+-- positions after n others
 abbrev pub behind : ℕ → List ℕ → List ℕ
 behind n ps = map (λ p. n + p) ps
 

@@ -1,4 +1,4 @@
--- Breaks at columns of a text whose first paragraph is a part of its own.
+-- Breaks at columns of a text, from its first paragraph and the rest.
 use Rattle.std.proofs.Common.{◌≡◌, ℕ, zero, suc, ◌+◌, ◌-◌, ◌%◌, ◌<◌, ◌≤◌, Bool, true, cond, Some, List, [], ◌∷◌, ◌++◌, length, refl, sym, ap, ◌∙◌, inl, inr, arith}
 use Rattle.std.specs.Prelude.{filter, nat_lt, not, ◌&&◌, ◌==◌}
 use Rattle.std.proofs.lemmas.Bool.{cases_Bool, cases_lt, lt-ltb}
@@ -84,7 +84,7 @@ module _ (us vs : List BidiUnit) where
         ∙ ap (λ t. not (separates_at vs p) && (t && ((length us + p - (length us + s)) % columns == 0))) (lt_moved (length us) s p)
         ∙ ap (λ q. not (separates_at vs p) && (nat_lt s p && (q % columns == 0))) e
 
-    -- the breaks of the paragraph, and those of the rest behind it
+    -- the breaks of the paragraph, and after them those of the rest
     pub columns_joined : EndsWithSeparator us → column_breaks_of (us ++ vs) columns ≡ column_breaks_of us columns ++ behind (length us) (column_breaks_of vs columns)
     columns_joined h =
         let test : ℕ → Bool = is_column_break (us ++ vs) columns in

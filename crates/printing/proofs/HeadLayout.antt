@@ -1,4 +1,4 @@
--- The layout of a text whose first paragraph is a part of its own.
+-- The layout of a text, from its first paragraph and the rest.
 use Rattle.std.proofs.Common.{◌≡◌, ℕ, zero, suc, ◌+◌, ◌-◌, ◌<◌, true, false, Option, List, [], ◌∷◌, ◌++◌, length, map, refl, sym, ap, ◌∙◌, arith, append-nil}
 use Rattle.std.specs.Prelude.{Bool, filter}
 use Rattle.std.specs.List.{flat_map}
@@ -20,7 +20,7 @@ use Rattle.printing.proofs.HeadBreaks.{AreBelow, EndsAsParagraph, behind, begins
 use Rattle.printing.proofs.HeadLines.{lines_joined, moved_line}
 use Rattle.printing.proofs.HeadResets.{resets_joined}
 
--- one layout, and another behind so many positions
+-- one layout of n positions, and another after it
 abbrev pub joined_layouts : ℕ → TextLayout → TextLayout → TextLayout
 joined_layouts n a b =
     record { paras = a.paras ++ b.paras; levels = a.levels ++ b.levels; lines = a.lines ++ map (moved_line n) b.lines }
@@ -49,7 +49,7 @@ as_paragraph us only ends = record {
   ends = ends_at us ends;
 }
 
--- P1: such units are the first paragraph of what they stand before
+-- P1: such units are the first paragraph of a text that begins with them
 pub paragraphs_joined : (us vs : List BidiUnit) → 0 < length us → SeparatorOnlyLast us → (0 < length vs → EndsWithSeparator us) → paragraphs_of (us ++ vs) ≡ us ∷ paragraphs_of vs
 paragraphs_joined us vs some only ends =
     sym (one_cutting (us ++ vs) (us ∷ paragraphs_of vs) (some, only, (λ more. ends (follows vs more)), IsCut-paragraphs_of vs)
@@ -66,7 +66,7 @@ paragraph_alone us some only =
 abbrev filter_by : (ℕ → Bool) → ℕ → List ℕ
 filter_by test count = filter test (positions_from 1 count)
 
--- the layout of a text is that of its first paragraph, and behind it that of the rest
+-- the layout of a text is that of its first paragraph, and after it that of the rest
 pub layout_joined : (limits : LimitsOf) (direction : Direction) (us vs : List BidiUnit) (bs cs : List ℕ) → SeparatorOnlyLast us → EndsWithSeparator us → AreBelow (length us) bs → 0 < length vs →
     layout_of limits (us ++ vs) direction (bs ++ behind (length us) cs) ≡ joined_layouts (length us) (layout_of limits us direction bs) (layout_of limits vs direction cs)
 unfolding layout_of

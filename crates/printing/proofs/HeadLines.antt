@@ -1,4 +1,4 @@
--- L2 of a text whose first paragraph is a part of its own: its lines, and behind them those of the rest, moved.
+-- L2 of a text: the lines of its first paragraph, and after them the lines of the rest, moved.
 use Rattle.std.proofs.Common.{◌≡◌, ℕ, zero, suc, ◌+◌, ◌-◌, ◌<◌, ◌≤◌, Bool, true, cond, Option, List, [], ◌∷◌, ◌++◌, length, map, drop, take, refl, sym, ap, ◌∙◌, inl, inr, arith}
 use Rattle.std.specs.Prelude.{filter, slice_range}
 use Rattle.std.proofs.lemmas.Bool.{cases_Bool}
@@ -12,7 +12,7 @@ use Rattle.units.specs.Reordering.{line_order}
 use Rattle.lines.proofs.OrderAlone.{order_alone}
 use Rattle.printing.proofs.HeadBreaks.{behind}
 
--- a line, behind so many positions
+-- a line, after n positions
 abbrev pub moved_line : ℕ → LineLayout → LineLayout
 moved_line n line = record { start = n + line.start; end = n + line.end; order = behind n line.order }
 
@@ -99,7 +99,7 @@ module _ (xs ys : List (Option ℕ)) where
           | inr within ↦ rw (t, within, f) (lines_right count s (p + 1) same (omega arith) (omega arith))
         ]
 
-    -- the lines of the whole, where one begins with the second part
+    -- the lines of the whole text if one begins with the second part
     pub lines_joined : 0 < length xs → 0 < length ys → test (length xs) ≡ true
         → ((q : ℕ) → q < length xs → test q ≡ left q) → ((q : ℕ) → q < length ys → test (length xs + q) ≡ right q) →
         lines_cut_at (xs ++ ys) (filter test (positions_from 1 (length xs + length ys - 1)))

@@ -1,4 +1,4 @@
--- What is printed of a text is what is printed of its first paragraph, and behind it what is printed of the rest.
+-- What is printed of a text is what is printed of its first paragraph, and after it what is printed of the rest.
 use Rattle.std.proofs.Common.{◌≡◌, ℕ, zero, suc, ◌+◌, ◌-◌, ◌<◌, ◌≤◌, Bool, true, false, Option, Some, None, List, [], ◌∷◌, ◌++◌, length, map, get_or, refl, sym, ap, ◌∙◌, inl, inr, arith, append-nil, ne_eqb}
 use Rattle.std.specs.Prelude.{filter, ◌||◌}
 use Rattle.std.specs.declared.num.NonZeroU16.{NonZeroU16}
@@ -71,7 +71,7 @@ one_layout limits direction us some only =
     ap (λ (ps : List ℕ). let l : TextLayout = record { paras = ps; levels = levels; lines = lines_cut_at levels (cuts_of (classes_of us) []) } in l) paras
     ∙ ap (λ (ls : List LineLayout). let l : TextLayout = record { paras = para_level_of (classes_of us) direction ∷ []; levels = levels; lines = ls } in l) lines
 
--- the paragraph's line and those of its positions
+-- the line of the paragraph and the lines of its positions
 pub one_printed : (passed : Passed) (chars : List ℕ) (us : List BidiUnit) (level n : ℕ) (levels : List (Option ℕ)) → n ≡ length chars →
     levels_behind passed chars us (let one : TextLayout = record { paras = level ∷ []; levels = levels; lines = line_of levels 0 n ∷ [] } in one)
     ≡ one_paragraph_behind passed level chars us levels
@@ -118,14 +118,14 @@ reorder_follow images chars others us vs direction columns e only ends more =
     ∙ ap (λ k. reorder_text images (chars ++ others) (us ++ vs) (joined_layouts k x y)) e
     ∙ reorder_joined images chars others us vs x y e (length-levels standard us direction bs ∙ e) (rw (← e) (layout_below standard us direction bs))
 
--- of nothing nothing is printed
+-- nothing is printed of an empty text
 pub nothing_behind : (form : Form) (passed : Passed) (tables : TablesOf) (direction : Direction) → printed_behind form passed tables [] direction ≡ []
 unfolding printed_behind layout_of after_resets
 nothing_behind Levels passed tables direction = refl
 nothing_behind (Reorder None) passed tables direction = refl
 nothing_behind (Reorder (Some columns)) passed tables direction = refl
 
--- where the rest is not empty
+-- if the rest is not empty
 rest_follows : (form : Form) (passed next : Passed) (tables : TablesOf) (chars others : List ℕ) (direction : Direction) → SeparatorOnlyLast (units_by tables chars) → EndsWithSeparator (units_by tables chars) → 0 < length chars → 0 < length others → Follows passed (length chars) next →
     printed_behind form passed tables (chars ++ others) direction ≡ printed_behind form passed tables chars direction ++ printed_behind form next tables others direction
 unfolding printed_behind
@@ -152,7 +152,7 @@ paragraph_follows form passed next tables chars [] direction only ends some f =
 paragraph_follows form passed next tables chars (c ∷ cs) direction only ends some f =
     rest_follows form passed next tables chars (c ∷ cs) direction only ends some (omega arith) f
 
--- the whole text is behind nothing
+-- the whole text comes after nothing
 pub printed_whole : (form : Form) (passed : Passed) (tables : TablesOf) (chars : List ℕ) (direction : Direction) → passed.paragraphs ≡ 0 → passed.characters ≡ 0 →
     printed_behind form passed tables chars direction ≡ printed_as form tables chars direction
 unfolding printed_behind
@@ -170,7 +170,7 @@ printed_whole Levels passed tables chars direction p c =
     printed_same (paragraph_behind passed chars us layout) (text_of_paragraph chars us layout) 0 (length layout.lines - 0) (0 + (length layout.lines - 0)) refl (λ k _. of k)
 printed_whole (Reorder columns) passed tables chars direction p c = refl
 
--- a paragraph, by its layout
+-- a paragraph, from its layout
 pub paragraph_printed : (passed : Passed) (chars : List ℕ) (us : List BidiUnit) (direction : Direction) → 0 < length us → SeparatorOnlyLast us → length us ≡ length chars →
     one_paragraph_behind passed (get_or (layout_of standard us direction []).paras 0 0) chars us (layout_of standard us direction []).levels
     ≡ levels_behind passed chars us (layout_of standard us direction [])

@@ -1,4 +1,4 @@
--- L1 of a text whose first paragraph is a part of its own.
+-- L1 of a text, from its first paragraph and the rest.
 use Rattle.std.proofs.Common.{◌≡◌, ℕ, zero, suc, ◌+◌, ◌-◌, ◌<◌, true, Option, None, List, [], ◌∷◌, ◌++◌, length, get_or, take, refl, sym, ap, ◌∙◌, inl, inr, arith, take_all}
 use Rattle.std.specs.Prelude.{◌||◌, ◌&&◌, count_by}
 use Rattle.std.proofs.lemmas.Bool.{cases_lt}
@@ -76,7 +76,7 @@ module _ (own rest : List Class) (bs cs : List ℕ) (h : EndsAsParagraph own) (a
       ∙ ap (λ t. resets_before (class_at rest j) t && may_reset (class_at rest j)) (resets_right (length rest - (j + 1)) (j + 1) (omega arith))
       ∙ sym (is_reset-is rest cs j)
 
-  -- no separator stands before a position of the paragraph
+  -- no separator is before a position of the paragraph
   count_left : (p : ℕ) → p < n → count_by is_separator (take p own) ≡ 0
   count_left zero low = refl
   count_left (suc p) low =
@@ -107,7 +107,7 @@ module _ (own rest : List Class) (bs cs : List ℕ) (h : EndsAsParagraph own) (a
       ∙ ap (λ k. k + count_by is_separator (take j rest)) count_whole ∙ omega arith in
       ap (λ k. get_or (level ∷ levels) k 0) counted
 
-  -- L1: each part as by itself
+  -- L1: the levels of each part are those that it has as a text of its own
   pub resets_joined : (level : ℕ) (levels : List ℕ) (xs ys : List (Option ℕ)) → length xs ≡ length own → length ys ≡ length rest →
       after_resets (own ++ rest) (bs ++ behind (length own) cs) (level ∷ levels) (xs ++ ys)
       ≡ after_resets own bs (level ∷ []) xs ++ after_resets rest cs levels ys

@@ -1,4 +1,4 @@
--- What is printed of a text whose first paragraph is a part of its own.
+-- What is printed of a text, from its first paragraph and the rest.
 use Rattle.std.proofs.Common.{◌≡◌, ℕ, zero, suc, ◌+◌, ◌-◌, ◌<◌, Option, None, List, [], ◌∷◌, ◌++◌, length, map, get_or, refl, sym, ap, ◌∙◌, arith, append-nil}
 use Rattle.std.specs.List.{flat_map}
 use Rattle.std.proofs.lemmas.Grind.{flat_map-append}
@@ -76,7 +76,7 @@ module _ (chars others : List ℕ) (us vs : List BidiUnit) (xs ys : List (Option
         let here : passed.characters + (length chars + p) ≡ next.characters + p = omega arith in
         rw (here, get_or-append-add chars others p 0, unit, level) refl
 
-    -- the lines of one paragraph, and those of the rest behind it
+    -- the lines of one paragraph, and after them those of the rest
     pub levels_joined : (next : Passed) (level : ℕ) (levels : List ℕ) (line : LineLayout) (lines : List LineLayout) → next.characters ≡ passed.characters + length chars → next.paragraphs ≡ passed.paragraphs + 1
         → line.start ≡ 0 → line.end ≡ length chars →
         levels_behind passed (chars ++ others) (us ++ vs) (let whole : TextLayout = record { paras = level ∷ levels; levels = xs ++ ys; lines = line ∷ map (moved_line (length chars)) lines } in whole)
@@ -113,7 +113,7 @@ module _ (chars others : List ℕ) (us vs : List BidiUnit) (xs ys : List (Option
         ∙ ap (λ v. (paragraph_behind passed chars us one 0 ++ []) ++ v) (printed_moved text (paragraph_behind next others vs rest) 1 0 (length lines) (length lines) (omega arith) later)
         ∙ sym (ap (λ k. (paragraph_behind passed chars us one 0 ++ []) ++ flat_map (paragraph_behind next others vs rest) (positions_from 0 k)) z)
 
--- the lines of one part as they are shown, and those of the rest behind them
+-- the lines of one part as they are shown, and after them those of the rest
 pub reorder_joined : (images : ℕ → Option ℕ) (chars others : List ℕ) (us vs : List BidiUnit) (x y : TextLayout) → length us ≡ length chars → length x.levels ≡ length chars → LinesAreBelow (length chars) x.lines →
     reorder_text images (chars ++ others) (us ++ vs) (joined_layouts (length chars) x y) ≡ reorder_text images chars us x ++ reorder_text images others vs y
 reorder_joined images chars others us vs x y a b below =

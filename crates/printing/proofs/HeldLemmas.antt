@@ -1,4 +1,4 @@
--- Where bytes are cut behind their characters.
+-- How bytes are cut after their last complete character.
 use Rattle.std.proofs.Common.{◌≡◌, ℕ, zero, suc, ◌+◌, ◌-◌, min, ◌<◌, ◌≤◌, Bool, true, false, if◌then◌else◌, List, [], ◌∷◌, ◌++◌, length, take, drop, refl, ⊎_elim, sym, ap, subst, ◌∙◌, arith, append_assoc, append-nil, length-append, length-drop, take_all}
 use Rattle.std.specs.Char.{IsScalar, encode_utf8}
 use Rattle.std.specs.Str.{IsUtf8, StartsWithNoChar, is_utf8, encode_utf8_all, all_scalars}
@@ -37,7 +37,7 @@ found_longest bs zero m h is = h
 found_longest bs (suc n) m h is =
     longest_by bs n m (is_utf8 (take (suc n) bs)) refl h is (λ below. found_longest bs n m below is)
 
--- the longest front that is UTF-8 is, and there is no longer one
+-- the longest front that is UTF-8 is UTF-8, and no longer one is
 pub front_is : (bs : List ℕ) → IsUtf8 (utf8_front bs)
 unfolding utf8_valid_len
 front_is bs = found_is bs (length bs)
@@ -54,7 +54,7 @@ longest_than bs xs ys e is =
     let within : length xs ≤ length bs = omega (arith, ap length e, length-append xs ys) in
     front_longest bs (length xs) within (subst IsUtf8 (sym (take-append_seam xs ys) ∙ ap (take (length xs)) e) is)
 
--- no character begins what is left behind it
+-- the rest after it begins with no character
 pub none_left : (bs : List ℕ) → StartsWithNoChar (drop (utf8_valid_len bs) bs)
 none_left bs c rest scalar begins =
     let all : (utf8_front bs ++ encode_utf8 c) ++ rest ≡ bs =
@@ -71,7 +71,7 @@ begins_by bs (c ∷ cs) some s e = (c, encode_utf8_all cs, (and_parts _ _ s).0, 
 begins_with_char : (bs : List ℕ) → IsUtf8 bs → 0 < length bs → (c : ℕ) × (rest : List ℕ) × IsScalar c × (bs ≡ encode_utf8 c ++ rest)
 begins_with_char bs is some = begins_by bs is.0 some is.1.0 is.1.1
 
--- no character begins the first bytes either, nor four or more with others behind them
+-- the first bytes of the rest begin with no character either, and neither do four or more with others after them
 none_first : (xs : List ℕ) (n : ℕ) → StartsWithNoChar xs → StartsWithNoChar (take n xs)
 none_first xs n none c rest scalar begins =
     none c (rest ++ drop n xs) scalar (sym (take-append-drop n xs) ∙ ap (λ ys. ys ++ drop n xs) begins ∙ append_assoc (encode_utf8 c) rest (drop n xs))
@@ -83,7 +83,7 @@ none_more xs ys four none c rest scalar begins =
     let front : take n xs ≡ encode_utf8 c = sym (take-append-le n xs ys short) ∙ ap (take n) begins ∙ take-append_seam (encode_utf8 c) rest in
     none c (drop n xs) scalar (sym (take-append-drop n xs) ∙ ap (λ zs. zs ++ drop n xs) front)
 
--- behind a text
+-- the bytes after a text, if the whole is UTF-8
 utf8_behind : (xs ys : List ℕ) → IsUtf8 xs → IsUtf8 (xs ++ ys) → IsUtf8 ys
 utf8_behind xs ys is both =
     let within : length xs ≤ length (xs ++ ys) = omega (arith, length-append xs ys) in
@@ -95,7 +95,7 @@ no_text : (xs : List ℕ) → StartsWithNoChar xs → IsUtf8 xs → length xs �
 no_text [] none is = refl
 no_text (x ∷ xs) none is = let begins = begins_with_char (x ∷ xs) is (omega arith) in absurd (none begins.0 begins.1 begins.2 begins.3)
 
--- where a text stands before what no character begins, it is the longest front
+-- a text before a rest that begins with no character is the longest front
 pub front_of : (xs ys : List ℕ) → IsUtf8 xs → StartsWithNoChar ys → utf8_valid_len (xs ++ ys) ≡ length xs
 front_of xs ys is none =
     let n = utf8_valid_len (xs ++ ys) in
@@ -114,11 +114,11 @@ none_of_none : StartsWithNoChar []
 none_of_none c rest scalar begins =
     absurd (omega (arith, ap length begins, length-append (encode_utf8 c) rest, length-encode c, len_utf8_bounds c))
 
--- bytes before any came
+-- no bytes were read yet
 pub nothing_cut : IsReadTo [] [] []
 nothing_cut = record { left = []; joined = refl; utf8 = IsUtf8-nil; none = none_of_none; first = refl }
 
--- more bytes came, where those that are held are all that is left, or begin no character whatever comes
+-- more bytes were read: the stored bytes are all of the rest, or begin no character whatever follows
 few_more : (bytes front held more : List ℕ) (cut : IsReadTo bytes front held) → length cut.left ≤ 4 → (let bs = held ++ more in
     IsReadTo (bytes ++ more) (front ++ utf8_front bs) (take 4 (drop (utf8_valid_len bs) bs)))
 few_more bytes front held more cut few =
@@ -155,7 +155,7 @@ pub more_cut : (bytes front held more : List ℕ) → IsReadTo bytes front held 
 more_cut bytes front held more cut =
     ⊎_elim (λ few. few_more bytes front held more cut (omega arith)) (four_more bytes front held more cut) (cases_lt (length cut.left) 4)
 
--- the first bytes of those in front of `filled` that were not taken, moved to the front
+-- the first bytes before `filled` that were not taken, moved to the front
 least_first : (xs : List ℕ) (n m : ℕ) → m ≡ min 4 n → take m xs ≡ take 4 (take n xs)
 least_first xs n m e = ⊎_elim
     (λ few.
@@ -177,8 +177,8 @@ moved_first old new taken filled held below within least moved =
     ap (take held) moved ∙ of_rest ∙ least_first rest left held least
     ∙ sym (ap (λ n. take 4 (drop taken (take n old))) split ∙ ap (take 4) (drop-take taken left old))
 
--- what is known of the bytes once all came: where none is held they are UTF-8, else they are not, and their longest front
--- that is UTF-8 stands before what is left
+-- what is known once all bytes are read: if no byte is stored, they are UTF-8; otherwise they are not, and the rest
+-- comes after their longest front that is UTF-8
 pub front_cut : (bytes front held : List ℕ) → IsReadTo bytes front held → utf8_front bytes ≡ front
 front_cut bytes front held cut = ap utf8_front (sym cut.joined) ∙ utf8_front_of front cut.left cut.utf8 cut.none
 
@@ -195,7 +195,7 @@ broken_cut bytes front held cut some is =
     sym (utf8_valid_len-IsUtf8 bytes is) ∙ ap utf8_valid_len (sym cut.joined) ∙ front_of front cut.left cut.utf8 cut.none in
     absurd (omega (arith, whole, ap length cut.joined, length-append front cut.left, some, ap length cut.first, length-take 4 cut.left))
 
--- bytes that were read behind those that are held
+-- bytes that were read after the stored ones
 pub filled_is : (xs ys : List ℕ) (a n k : ℕ) → a ≤ length xs → n ≤ length ys → take (a + n) (put_mid a k xs ys) ≡ take a xs ++ take n ys
 filled_is xs ys a n k within few =
     let held : length (take a xs) ≡ a = omega (arith, length-take a xs, within) in

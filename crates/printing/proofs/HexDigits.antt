@@ -28,7 +28,7 @@ three n large small =
     let a : n / 16 / 16 ≡ n / 256 = omega arith in
     more 63 n [] (omega arith) ∙ more 62 (n / 16) _ (omega arith) ∙ rw a (last 61 (n / 256) _ (omega arith))
 
--- the last four digits, of a number behind one with 4, 8 and 12 bits more
+-- the last four digits of n, before the rest: a is n without its last 8 bits, b is n without its last 12 bits
 abbrev digits_of_four : ℕ → ℕ → ℕ → List ℕ → List ℕ
 digits_of_four a b n rest = last_glyph b ∷ last_glyph a ∷ last_glyph (n / 16) ∷ last_glyph n ∷ rest
 
@@ -101,7 +101,7 @@ large_code n large within =
       | inr g ↦ rw (six n g within, front_of_two (n / 65536) (omega arith) (omega arith)) refl
     ]
 
--- what is printed of a code point is the one part before the other
+-- what is printed of a code point is the front digits and then the last four
 pub code_in_parts : (n : ℕ) → n < 16777216 → code_text n ≡ front_digits (n / 65536) ++ last_digits n
 code_in_parts n within =
     elim (cases_lt n 65536) [

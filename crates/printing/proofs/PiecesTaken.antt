@@ -3,7 +3,7 @@ use Rattle.std.proofs.Common.{◌≡◌, ℕ, ◌+◌, ◌-◌, ◌≤◌, List,
 use Rattle.std.proofs.Math.Seq.{take-add}
 use Rattle.std.proofs.lemmas.List.{drop-drop}
 
--- the part from a to b, and behind it the one from b to c
+-- the part from a to b, and after it the part from b to c
 pub parts_joined : (a b c : ℕ) (xs : List ℕ) → a ≤ b → b ≤ c → take (b - a) (drop a xs) ++ take (c - b) (drop b xs) ≡ take (c - a) (drop a xs)
 parts_joined a b c xs f g =
     let to : b - a + (c - b) ≡ c - a = omega arith in

@@ -29,7 +29,7 @@ use Rattle.printing.proofs.TextPlaces.{IsAfter, after_more}
 use Rattle.printing.proofs.UnderWay.{all_came, chars_le, ended_came, more_came, nothing_came}
 
 module _ (Failed Ended : Type 0) (form : Form) (tables : TablesOf) (direction : Direction) (a b : Option (List ℕ)) where
-  -- what ends the reading on ends the text
+  -- a fault that ends the reading without printing ends the printing
   unwritten_ends : (bytes : List ℕ) (fault : TextFault) → EndsUnwritten Failed Ended bytes fault → BreaksOff Failed Ended form tables direction bytes a b fault
   unwritten_ends bytes (Read Whole) h = absurd h
   unwritten_ends bytes (Read CutOff) h = (h, tt)
@@ -39,7 +39,7 @@ module _ (Failed Ended : Type 0) (form : Form) (tables : TablesOf) (direction : 
   unwritten_ends bytes NobodyReads h = absurd h
   unwritten_ends bytes Memory h = absurd h
 
-  -- where printing stopped after these bytes
+  -- printing stopped after these bytes
   pub stop_ends : {S : Type 0} (gives : S → List ℕ → S → Type 0) (start now next : S) (bytes : List ℕ) → gives start bytes now
       → (why : PrintStop) (fault : TextFault)
       → (why ≡ stop.NobodyReads → (fault ≡ NobodyReads) × (next ≡ now)) → (why ≡ stop.Memory → (fault ≡ Memory) × (next ≡ now))
@@ -60,7 +60,7 @@ module _ (Failed Ended : Type 0) (form : Form) (tables : TablesOf) (direction : 
   stopped_ends bytes ended utf8 stop.Write = (ended, utf8)
   stopped_ends bytes ended utf8 stop.Memory = tt
 
-  -- where it stopped after all bytes
+  -- printing stopped after all bytes
   pub last_ends : {A : Type 0} (Gave : List ℕ → Type 0) (bytes : List ℕ) → Gave bytes → Ended → IsUtf8 bytes
       → (result : Result A TextFault) (why : PrintStop) → IsErrAnd result (λ fault. fault ≡ stopped_by why)
       → IfErr result (λ fault. (given : List ℕ) × Gave given × BreaksOff Failed Ended form tables direction given a b fault)
@@ -68,7 +68,7 @@ module _ (Failed Ended : Type 0) (form : Form) (tables : TablesOf) (direction : 
   last_ends Gave bytes gave ended utf8 (Err fault) why e =
       (bytes, gave, subst (BreaksOff Failed Ended form tables direction bytes a b) (sym e) (stopped_ends bytes ended utf8 why))
 
--- what a source handed out, of which these bytes are held, and what was printed of it
+-- what a source returned, the bytes of it that are stored, and what was printed of it
 pub record HasRead {S : Type 0} (gives : S → List ℕ → S → Type 0) (room : S → ℕ) (form : Form) (tables : TablesOf) (direction : Direction)
     (start now : S) (before after : Option (List ℕ)) (first begun : Begun) (held : List ℕ) (place : TextPlace) : Type 0 where
   pub bytes : List ℕ
@@ -100,7 +100,7 @@ module _ {S : Type 0} (gives : S → List ℕ → S → Type 0) (room : S → �
 
   module _ (now next : S) (after later : Option (List ℕ)) (begun then : Begun) (held more : List ℕ) (place : TextPlace)
       (read : HasRead gives room form tables direction start now before after first begun held place) (falls : room next + length more ≤ room now) where
-    -- what has come fits
+    -- the characters so far and the bytes in the buffer are within the longest text
     pub more_fits : handed_in begun + length (held ++ more) ≤ longest_text
     more_fits =
         let cut = read.cut in
@@ -137,7 +137,7 @@ module _ {S : Type 0} (gives : S → List ℕ → S → Type 0) (room : S → �
           place_is = after_more place at read.front (utf8_front (held ++ more)) read.place_is passed;
         }
 
-    -- the same of a buffer that holds both, of which so many bytes were taken
+    -- the same for a buffer with the stored and the new bytes, of which `taken` bytes were taken
     pub read_more : (bs kept : List ℕ) (taken : ℕ) → bs ≡ held ++ more → taken ≡ length (utf8_front bs) → kept ≡ take 4 (drop taken bs)
         → gives start (read.bytes ++ more) next → IsBegun tables then → handed_in then ≡ handed_in begun + length (chars (utf8_front bs))
         → PrintsOn form tables direction (chars (utf8_front bs)) after later begun then → (at : TextPlace) → IsAfter place at (utf8_front bs)
@@ -152,7 +152,7 @@ module _ {S : Type 0} (gives : S → List ℕ → S → Type 0) (room : S → �
   module _ (now : S) (after : Option (List ℕ)) (begun : Begun) (held : List ℕ) (place : TextPlace)
       (read : HasRead gives room form tables direction start now before after first begun held place)
       (empty : first.chars.items ≡ []) (none : let nothing : Passed = record { paragraphs = 0; characters = 0 } in first.passed ≡ nothing) where
-    -- what was read without what was printed of it
+    -- what was read, without what was printed
     pub cut_of : HasCut gives start now place held
     cut_of = record { bytes = read.bytes; front = read.front; given = read.given; cut = read.cut; place_is = read.place_is }
 
@@ -161,7 +161,7 @@ module _ {S : Type 0} (gives : S → List ℕ → S → Type 0) (room : S → �
     ended_read = subst (λ xs. Appends before after (printed_as form tables (ended_paragraphs tables (chars xs)) direction))
         (sym (front_cut read.bytes read.front held read.cut)) (ended_came form tables direction (chars read.front) before after first begun empty none read.is read.printed)
 
-    -- and where none is held all are, once the last one is
+    -- if no byte is stored, all paragraphs are printed once the last one is
     pub whole_read : length held ≡ 0 → (last : Option (List ℕ)) → Appends after last (printed_behind form begun.passed tables begun.chars.items direction)
         → IsPrinted form tables direction read.bytes before last
     whole_read all last said =

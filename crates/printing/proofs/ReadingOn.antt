@@ -1,4 +1,4 @@
--- A source that is read on without printing.
+-- A source that is read to its end without printing.
 use Rattle.std.proofs.Common.{◌≡◌, ℕ, ◌+◌, ◌<◌, ◌≤◌, List, [], ◌++◌, length, take, drop, sym, ap, subst, ◌∙◌, append-nil}
 use Rattle.std.specs.List.{count_by}
 use Rattle.std.specs.Str.{IsUtf8}
@@ -10,7 +10,7 @@ use Rattle.printing.specs.declared.place.TextPlace.{TextPlace}
 use Rattle.printing.proofs.HeldLemmas.{broken_cut, front_cut, length_front, more_cut, whole_cut}
 use Rattle.printing.proofs.TextPlaces.{IsAfter, after_more, passed_is}
 
--- a source gave bytes, of which these are held, and this is the place after the text before them
+-- a source gave bytes, these are the stored ones, and this is the place after the text before them
 pub record HasCut {S : Type 0} (gives : S → List ℕ → S → Type 0) (start now : S) (place : TextPlace) (held : List ℕ) : Type 0 where
   pub bytes : List ℕ
   pub front : List ℕ
@@ -18,12 +18,12 @@ pub record HasCut {S : Type 0} (gives : S → List ℕ → S → Type 0) (start 
   pub cut : IsReadTo bytes front held
   pub place_is : place ≡ place_after front
 
--- a source was read on from one state to another, and its buffer and the place before it with it
+-- a source was read from one state to another, with its buffer and the place before the buffer
 pub record ReadsOn {S : Type 0} (gives : S → List ℕ → S → Type 0) (old now : S) (before after : TextPlace) (first buffer : List ℕ) : Type 0 where
   pub reads : (start : S) → IsReadUpTo gives start old before first → IsReadUpTo gives start now after buffer
 
 module _ {S : Type 0} (gives : S → List ℕ → S → Type 0) (joined : (s t u : S) (xs ys : List ℕ) → gives s xs t → gives t ys u → gives s (xs ++ ys) u) (start : S) where
-  -- more bytes come after those that are held
+  -- more bytes come after the stored ones
   pub up_to : (now next : S) (place : TextPlace) (held more buffer : List ℕ) → HasCut gives start now place held → gives now more next → buffer ≡ held ++ more
       → IsReadUpTo gives start next place buffer
   up_to now next place held more buffer cut given same = record {
@@ -37,7 +37,7 @@ module _ {S : Type 0} (gives : S → List ℕ → S → Type 0) (joined : (s t u
     place_is = cut.place_is;
   }
 
-  -- and the longest front of them that is text is taken
+  -- the longest front of the buffer that is UTF-8 is taken
   pub taken_from : (now : S) (place at : TextPlace) (buffer kept : List ℕ) (taken : ℕ) → IsReadUpTo gives start now place buffer
       → taken ≡ length (utf8_front buffer) → IsAfter place at (utf8_front buffer) → kept ≡ take 4 (drop taken buffer) → HasCut gives start now at kept
   taken_from now place at buffer kept taken read front passed left =
@@ -52,7 +52,7 @@ module _ {S : Type 0} (gives : S → List ℕ → S → Type 0) (joined : (s t u
         place_is = after_more place at read.front (utf8_front both) read.place_is (subst (λ xs. IsAfter place at (utf8_front xs)) read.buffer_is passed);
       }
 
-  -- the same where the source was read on
+  -- the same for a source that was read further
   pub taken_on : (old now : S) (before place at : TextPlace) (first buffer kept : List ℕ) (filled taken : ℕ)
       → ReadsOn gives old now before place first (take filled buffer) → filled ≤ length buffer → taken ≡ length (utf8_front (take filled buffer))
       → at.line ≡ place.line + count_by ends_line (take taken buffer) → at.offset ≡ place.offset + length (take taken buffer)
@@ -60,7 +60,7 @@ module _ {S : Type 0} (gives : S → List ℕ → S → Type 0) (joined : (s t u
   taken_on old now before place at first buffer kept filled taken on within front line offset left begun =
       taken_from now place at (take filled buffer) kept taken (on.reads start begun) front (passed_is place at buffer filled taken within front line offset) left
 
-  -- nothing more came
+  -- the source gave nothing more
   pub nothing_more : (now next : S) (place : TextPlace) (held : List ℕ) → HasCut gives start now place held → gives now [] next → HasCut gives start next place held
   nothing_more now next place held cut given = record {
     bytes = cut.bytes;
@@ -70,7 +70,7 @@ module _ {S : Type 0} (gives : S → List ℕ → S → Type 0) (joined : (s t u
     place_is = cut.place_is;
   }
 
--- if some are held after all bytes, these are not UTF-8, and else they are
+-- if bytes are stored after all were read, the bytes are not UTF-8; otherwise they are
 pub cut_broken : (bytes front held : List ℕ) (place : TextPlace) → IsReadTo bytes front held → place ≡ place_after front → 0 < length held → IsNotUtf8 bytes place
 cut_broken bytes front held place cut at some = record {
   broken = broken_cut bytes front held cut some;

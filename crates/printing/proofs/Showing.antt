@@ -1,4 +1,4 @@
--- A loop over the positions of a line and the characters that they are shown by, side by side.
+-- A loop over the positions of a line and the characters that are shown for them, side by side.
 use Rattle.std.proofs.Common.{arith, ◌≡◌, ◌<◌, ℕ, List, [], ◌∷◌, Option, length, map, refl, sym, ap, ◌∙◌, ◌⊎◌, inl, inr}
 use Rattle.std.specs.Prelude.{slice_index_or}
 use Rattle.std.specs.List.{All, flat_map}
@@ -11,8 +11,8 @@ use Rattle.units.specs.declared.bracket.Unit.{Unit as BidiUnit}
 use Rattle.printing.specs.ReorderText.{shown_text, text_unless}
 use Rattle.printing.proofs.Passing.{HasPrintedUpTo, nothing_passed, one_more_passed, all_passed}
 
--- the text of the positions before the rest was written; the rest are positions of the text, and shown is what they are
--- shown by
+-- the text of the positions before the rest was written; the rest are positions of the text, and `shown` are the
+-- characters that are shown for them
 pub record HasShown (images : ℕ → Option ℕ) (levels : List (Option ℕ)) (chars : List ℕ) (text : List BidiUnit) (old new : Option (List ℕ)) (order rest shown : List ℕ) : Type 0 where
   pub written : HasPrintedUpTo old new (shown_text images chars text levels) order rest
   pub beside : shown ≡ shown_of images levels chars rest

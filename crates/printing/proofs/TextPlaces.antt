@@ -10,12 +10,12 @@ use Rattle.printing.specs.TextPlaces.{ends_line, place_after}
 use Rattle.printing.specs.declared.place.TextPlace.{TextPlace}
 use Rattle.printing.proofs.HeldLemmas.{length_front}
 
--- one place is after another, with these bytes between them
+-- the next place comes after the place, with these bytes between them
 pub record IsAfter (place next : TextPlace) (bytes : List ℕ) : Type 0 where
   pub line : next.line ≡ place.line + count_by ends_line bytes
   pub offset : next.offset ≡ place.offset + length bytes
 
--- the lines that end in both
+-- the number of lines that end in both
 count_more : (front bytes : List ℕ) → count_by ends_line (front ++ bytes) ≡ count_by ends_line front + count_by ends_line bytes
 count_more front bytes = sum_by-append (λ b. cond (ends_line b) 1 0) front bytes
 
@@ -40,7 +40,7 @@ taken_is buffer filled taken within e =
     let short : n ≤ filled = omega (arith, utf8_valid_len_le (take filled buffer), length-take filled buffer) in
     ap (λ k. take k buffer) same ∙ sym (take-take n filled buffer short)
 
--- so the place after them is the place after that front
+-- so the place after the taken bytes is the place after that front
 pub passed_is : (place next : TextPlace) (buffer : List ℕ) (filled taken : ℕ) → filled ≤ length buffer → taken ≡ length (utf8_front (take filled buffer))
     → next.line ≡ place.line + count_by ends_line (take taken buffer) → next.offset ≡ place.offset + length (take taken buffer)
     → IsAfter place next (utf8_front (take filled buffer))

@@ -55,12 +55,12 @@ behind_is form passed passed2 tables chars chars2 units direction e f g =
     ∙ ap (λ cs. printed_units form passed tables cs units direction) f
     ∙ ap (λ us. printed_units form passed tables chars us direction) g
 
--- where no character came nothing is left to print
+-- without characters nothing remains to be printed
 pub nothing_left : (form : Form) (passed : Passed) (tables : TablesOf) (chars : List ℕ) (direction : Direction) (a : Option (List ℕ)) → chars ≡ [] → Appends a a (printed_behind form passed tables chars direction)
 nothing_left form passed tables chars direction a e =
     Appends-to a a [] _ (sym (ap (λ cs. printed_behind form passed tables cs direction) e ∙ nothing_behind form passed tables direction)) (Appends-nothing a)
 
--- a separator ends all that stands before it
+-- a separator ends all characters before it
 has_separator : (separates : ℕ → Bool) (cs rest : List ℕ) (c : ℕ) → separates c ≡ true → list_any separates ((cs ++ c ∷ []) ++ rest) ≡ true
 has_separator separates [] rest c e = or_left (separates c) (list_any separates rest) e
 has_separator separates (x ∷ cs) rest c e = or_right (separates x) _ (has_separator separates cs rest c e)
@@ -71,7 +71,7 @@ ended_then separates [] rest c e = rw (has_separator separates [] rest c e) refl
 ended_then separates (x ∷ cs) rest c e =
     rw (has_separator separates (x ∷ cs) rest c e) (ap (λ xs. x ∷ xs) (ended_then separates cs rest c e))
 
--- and without one none has ended
+-- without a separator no paragraph has ended
 no_separator : (tables : TablesOf) (cs : List ℕ) → ArePlain (units_by tables cs) → list_any (separates tables) cs ≡ false
 no_separator tables [] plain = refl
 no_separator tables (c ∷ cs) plain = or_from _ _ plain.0 (no_separator tables cs plain.1)
@@ -96,7 +96,7 @@ module _ (form : Form) (tables : TablesOf) (direction : Direction) where
   pub nothing_came : (a : Option (List ℕ)) (begun : Begun) → PrintsOn form tables direction [] a a begun begun
   nothing_came a begun = none_came a a [] begun begun refl (sym (append-nil begun.chars.items)) refl
 
-  -- a character that ends no paragraph
+  -- a character came that ends no paragraph
   pub one_came : (c : ℕ) (a b : Option (List ℕ)) (old new : Begun) → new.passed ≡ old.passed → new.chars.items ≡ old.chars.items ++ c ∷ [] → b ≡ a → PrintsOn form tables direction (c ∷ []) a b old new
   one_came c a b old new e f g = none_came a b (c ∷ []) old new e f g
 
@@ -117,7 +117,7 @@ module _ (form : Form) (tables : TablesOf) (direction : Direction) where
         ∙ ap (λ v. v ++ printed_behind form new.passed tables rest direction) (sym (f.behind g.ended));
   }
 
-  -- a character that ends one
+  -- a character came that ends a paragraph
   pub last_came : (c : ℕ) (a b : Option (List ℕ)) (old begun new : Begun) → begun.passed ≡ old.passed → begun.chars.items ≡ old.chars.items ++ c ∷ []
       → ArePlain (units_by tables old.chars.items) → separates tables c ≡ true → new.chars.items ≡ [] → Follows begun.passed (length begun.chars.items) new.passed
       → Appends a b (printed_behind form begun.passed tables begun.chars.items direction) → PrintsOn form tables direction (c ∷ []) a b old new
@@ -136,13 +136,13 @@ module _ (form : Form) (tables : TablesOf) (direction : Direction) where
             (omega (arith, length-append old.chars.items (c ∷ []))) follows_old;
       }
 
-  -- what is printed behind nothing
+  -- what is printed after nothing
   whole_behind : (first : Begun) (text : List ℕ) → (let start : Passed = record { paragraphs = 0; characters = 0 } in first.passed ≡ start)
       → printed_behind form first.passed tables text direction ≡ printed_as form tables text direction
   whole_behind first text start =
       printed_whole form first.passed tables text direction (ap (λ (p : Passed). p.paragraphs) start) (ap (λ (p : Passed). p.characters) start)
 
-  -- the paragraphs that have ended came
+  -- the paragraphs that have ended are printed
   pub ended_came : (text : List ℕ) (a b : Option (List ℕ)) (first begun : Begun) → first.chars.items ≡ [] → (let start : Passed = record { paragraphs = 0; characters = 0 } in first.passed ≡ start)
       → IsBegun tables begun → PrintsOn form tables direction text a b first begun → Appends a b (printed_as form tables (ended_paragraphs tables text) direction)
   ended_came text a b first begun empty start is f =
@@ -152,7 +152,7 @@ module _ (form : Form) (tables : TablesOf) (direction : Direction) where
       ap (ended_paragraphs tables) (sym joined) ∙ f.whole begun.chars.items ∙ ap (λ cs. f.ended ++ cs) (none_ended tables begun.chars.items plain) ∙ append-nil f.ended in
       Appends-to a b _ _ (whole_behind first f.ended start ∙ ap (λ cs. printed_as form tables cs direction) (sym ended)) f.said
 
-  -- all came
+  -- all paragraphs are printed
   pub all_came : (text : List ℕ) (a b c : Option (List ℕ)) (first begun : Begun) → first.chars.items ≡ [] → (let start : Passed = record { paragraphs = 0; characters = 0 } in first.passed ≡ start)
       → PrintsOn form tables direction text a b first begun → Appends b c (printed_behind form begun.passed tables begun.chars.items direction) → Appends a c (printed_as form tables text direction)
   all_came text a b c first begun empty start f said =

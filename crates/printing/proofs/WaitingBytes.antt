@@ -1,10 +1,10 @@
--- What known bytes grow by, where bytes wait to be written behind them.
+-- How known bytes grow if bytes wait to be written after them.
 use Rattle.std.proofs.Common.{ℕ, List, [], ◌++◌, Option, Some, None, Result, OnOk, ap, ◌∙◌, append-nil}
 use Rattle.std.proofs.lemmas.Result.{IfOk-weaker}
 use Rattle.std.specs.Io.KnownBytes.{Appends}
 use Rattle.printing.specs.WaitingBytes.{with_waiting}
 
--- nothing waited, and all that waits in the end is written
+-- no bytes waited, and all bytes that wait at the end are written
 joined : (a c d : Option (List ℕ)) (waiting text : List ℕ) → Appends (with_waiting a []) (with_waiting c waiting) text → Appends c d waiting → Appends a d text
 joined None c d waiting text h g = tt
 joined (Some a) None d waiting text h g = absurd h

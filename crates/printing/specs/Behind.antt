@@ -1,4 +1,4 @@
--- What is printed of a part of a text, behind the paragraphs that were passed.
+-- What is printed of a part of a text, after the paragraphs that were passed.
 use Rattle.std.specs.Prelude.{Option, ℕ, ◌+◌, List, [], ◌++◌, length, None, slice_index, slice_index_or}
 use Rattle.units.specs.Layout.{TextLayout, layout_of, no_unit}
 use Rattle.units.specs.Limits.{standard}
@@ -22,7 +22,7 @@ abbrev pub position_behind : Passed → List ℕ → List BidiUnit → List (Opt
 position_behind passed chars text levels p =
     position_text (passed.characters + p) (slice_index chars p) (slice_index_or text p no_unit).class (slice_index_or levels p None)
 
--- P1: the paragraph with the number k of a part: its line, and then those of its positions
+-- P1: the paragraph with the number k of a part: its line, and then the lines of its positions
 abbrev pub paragraph_behind : Passed → List ℕ → List BidiUnit → TextLayout → ℕ → List ℕ
 paragraph_behind passed chars text layout k =
     let line = slice_index_or layout.lines k no_line in
@@ -33,7 +33,7 @@ paragraph_behind passed chars text layout k =
 abbrev pub levels_behind : Passed → List ℕ → List BidiUnit → TextLayout → List ℕ
 levels_behind passed chars text layout = printed (paragraph_behind passed chars text layout) 0 (length layout.lines)
 
--- a paragraph, by its level and the levels of its positions
+-- a paragraph, from its level and the levels of its positions
 abbrev pub one_paragraph_behind : Passed → ℕ → List ℕ → List BidiUnit → List (Option ℕ) → List ℕ
 one_paragraph_behind passed level chars text levels =
     paragraph_text passed.paragraphs level ++ printed (position_behind passed chars text levels) 0 (length chars)

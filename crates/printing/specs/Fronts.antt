@@ -1,4 +1,4 @@
--- What a fault leaves of a text that was to be printed.
+-- How much of a text is printed if a fault occurs.
 use Rattle.std.specs.Prelude.{◌≡◌, ◌++◌, ℕ, List, Option}
 use Rattle.std.specs.Io.KnownBytes.{Appends}
 use Rattle.printing.specs.declared.fault.PrintFault.{PrintFault}
@@ -11,7 +11,7 @@ pub record AppendsFront (text : List ℕ) (before after : Option (List ℕ)) : T
   pub joined : front ++ rest ≡ text
   pub grown : Appends before after front
 
--- where memory is refused, known bytes grew by a front of this text; what a failed write leaves is not known
+-- if memory is refused, known bytes grew by a front of this text; after a failed write nothing is known
 abbrev pub FaultLeavesFront : List ℕ → Option (List ℕ) → Option (List ℕ) → PrintFault → Type 0
 FaultLeavesFront text before after Memory = AppendsFront text before after
 FaultLeavesFront text before after Write = Unit {0}

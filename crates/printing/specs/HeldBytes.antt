@@ -1,9 +1,9 @@
--- Bytes that are read piece by piece, and cut behind the characters that have come whole.
+-- Bytes that are read piece by piece, and cut after the last complete character.
 use Rattle.std.specs.Prelude.{◌≡◌, ℕ, List, ◌++◌, take}
 use Rattle.std.specs.Str.{IsUtf8, StartsWithNoChar}
 
--- the bytes so far are text and what is left behind it, where no character begins; of that the first four bytes are held,
--- or all: fewer than four may begin a character, and four that begin none never will
+-- the bytes so far are a text and the rest after it, where no character begins; the buffer has the first four bytes of
+-- the rest, or all of it: with further bytes, fewer than four can become a character, but four that begin none cannot
 pub record IsReadTo (bytes front held : List ℕ) : Type 0 where
   pub left : List ℕ
   pub joined : front ++ left ≡ bytes

@@ -2,7 +2,7 @@
 use Rattle.std.specs.Prelude.{ℕ, ◌==◌, ◌/◌, ◌%◌, if◌then◌else◌, true, List, [], ◌∷◌}
 use Rattle.std.specs.Fmt.{digit_glyph, digits}
 
--- the digits before the last four, of the number without these; none where there is none
+-- the digits before the last four, which are those of `front`; no digits if `front` is 0
 abbrev pub front_digits : ℕ → List ℕ
 front_digits front = if front == 0 then [] else digits 16 true front
 

@@ -1,4 +1,4 @@
--- The text that `levels` prints, of a text and its layout without further breaks, as bytes.
+-- The text that `levels` prints for a text and its layout without further breaks, as bytes.
 use Rattle.std.specs.Prelude.{Option, ℕ, ◌-◌, true, List, [], ◌∷◌, ◌++◌, codes, length, replicate, Some, None, slice_index, slice_index_or}
 use Rattle.std.specs.List.{concat, flat_map}
 use Rattle.std.specs.Fmt.{decimal, digits}
@@ -17,12 +17,12 @@ line_feed = 10 ∷ []
 unfoldable pub code_text : ℕ → List ℕ
 code_text c = replicate (4 - length (digits 16 true c)) 48 ++ digits 16 true c
 
--- a level after L1, or x where the position was removed
+-- a level after L1, or x if the position was removed
 abbrev pub level_text : Option ℕ → List ℕ
 level_text None = codes "x"
 level_text (Some level) = decimal level
 
--- the line of a position: where it stands in the text, its code point, original class and level
+-- the line of a position: the position in the text, its code point, original class and level
 abbrev pub position_text : ℕ → ℕ → Class → Option ℕ → List ℕ
 position_text p c class level =
     concat (decimal p ∷ codes " " ∷ code_text c ∷ codes " " ∷ short_name class ∷ codes " " ∷ level_text level ∷ line_feed ∷ [])
@@ -40,7 +40,7 @@ abbrev pub text_at_position : List ℕ → List BidiUnit → List (Option ℕ) �
 text_at_position chars text levels p =
     position_text p (slice_index chars p) (slice_index_or text p no_unit).class (slice_index_or levels p None)
 
--- P1: without breaks each line is a paragraph; its line of text, and then those of its positions
+-- P1: without breaks each line is a paragraph: the line of the paragraph, and then the lines of its positions
 abbrev pub text_of_paragraph : List ℕ → List BidiUnit → TextLayout → ℕ → List ℕ
 text_of_paragraph chars text layout k =
     let line = slice_index_or layout.lines k no_line in

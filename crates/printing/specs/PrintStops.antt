@@ -1,4 +1,4 @@
--- Why printing stops.
+-- The reasons why printing stops.
 use Rattle.std.specs.Prelude.{◌≡◌, ◌≢◌}
 use Rattle.std.specs.IoError.{error_kind}
 use Rattle.std.specs.declared.io.Error.{Error}
@@ -8,12 +8,13 @@ use Rattle.printing.specs.declared.fault.PrintFault.TheVariants as print_fault
 use Rattle.printing.specs.declared.fault.PrintStop.{PrintStop}
 use Rattle.printing.specs.declared.fault.PrintStop.TheVariants.{NobodyReads, Write, Memory}
 
--- a write that failed by this error stops printing so: nobody reads what is written exactly where its kind says so
+-- a write that failed with this error stops printing for this reason: nobody reads the output exactly if the error's
+-- kind is `BrokenPipe`
 pub record IsStopOf (error : Error) (stop : PrintStop) : Type 0 where
   pub broken : error_kind error ≡ BrokenPipe → stop ≡ NobodyReads
   pub other : error_kind error ≢ BrokenPipe → stop ≡ Write
 
--- the fault of what is printed at once
+-- the fault of a text that is printed at once
 abbrev pub fault_of : PrintStop → PrintFault
 fault_of NobodyReads = print_fault.Write
 fault_of Write = print_fault.Write

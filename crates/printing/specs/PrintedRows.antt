@@ -1,4 +1,4 @@
--- Worked texts, and what `reorder` prints of them.
+-- Examples of texts, and what `reorder` prints for them.
 use Rattle.std.specs.Prelude.{Option, ℕ, ◌≡◌, ◌==◌, if◌then◌else◌, List, [], ◌∷◌, Some, None, map, refl, codes}
 use Rattle.std.specs.Char.{encode_utf8}
 use Rattle.units.specs.RowWords.{layouts_compute}
@@ -15,7 +15,7 @@ use Rattle.printing.specs.PrintedTexts.{lines_text}
 abbrev pub plain_units : List Class → List BidiUnit
 plain_units classes = map (λ c. record { class = c; bracket = No }) classes
 
--- the images of < and >, and of ; the LF
+-- < and > are each other's mirrored characters, and LF is that of ;
 abbrev pub images_of_three : ℕ → Option ℕ
 images_of_three c = if c == 60 then Some 62 else if c == 62 then Some 60 else if c == 59 then Some 10 else None
 
@@ -31,12 +31,12 @@ printed_whole chars classes direction = printed_with chars classes direction []
 abbrev pub printed_in : ℕ → List ℕ → List Class → Direction → List ℕ
 printed_in columns chars classes direction = printed_with chars classes direction (column_breaks_of (plain_units classes) columns)
 
--- a line breaks behind two positions, so the white space takes the paragraph's level
+-- a line breaks after two positions, so the white space takes the paragraph's level
 pub two_columns : printed_in 2 (1488 ∷ 32 ∷ 1489 ∷ []) (R ∷ WS ∷ R ∷ []) Ltr ≡ 215 ∷ 144 ∷ 32 ∷ 10 ∷ 215 ∷ 145 ∷ 10 ∷ []
 unfolding layouts_compute encode_utf8
 two_columns = refl
 
--- from left to right, with the mirror image
+-- from left to right, with the mirrored character
 pub mirrored_in_a_line : printed_whole (1488 ∷ 60 ∷ 1489 ∷ []) (R ∷ ON ∷ R ∷ []) Auto ≡ 215 ∷ 145 ∷ 62 ∷ 215 ∷ 144 ∷ 10 ∷ []
 unfolding layouts_compute encode_utf8
 mirrored_in_a_line = refl
@@ -51,12 +51,12 @@ pub removed_count : printed_in 2 (8234 ∷ 97 ∷ 8236 ∷ 98 ∷ []) (LRE ∷ L
 unfolding layouts_compute encode_utf8
 removed_count = refl
 
--- a line of removed positions alone is empty
+-- a line with only removed positions is empty
 pub removed_alone : printed_whole (8234 ∷ 8236 ∷ []) (LRE ∷ PDF ∷ []) Rtl ≡ 10 ∷ []
 unfolding layouts_compute encode_utf8
 removed_alone = refl
 
--- no separator stands where one is shown
+-- a position whose mirrored character is a separator is not a separator
 pub shown_by_a_separator : printed_whole (1488 ∷ 59 ∷ []) (R ∷ ON ∷ []) Auto ≡ 10 ∷ 215 ∷ 144 ∷ 10 ∷ []
 unfolding layouts_compute encode_utf8
 shown_by_a_separator = refl

@@ -1,4 +1,4 @@
--- The texts that `levels` and `reorder` print, by tables, text, direction and columns, and by the standard limits.
+-- The texts that `levels` and `reorder` print, from tables, text, direction and columns, and with the standard limits.
 use Rattle.std.specs.Prelude.{Option, ℕ, List, [], Some, None}
 use Rattle.std.specs.declared.num.NonZeroU16.{NonZeroU16}
 use Rattle.units.specs.Layout.{layout_of}
@@ -15,12 +15,12 @@ abbrev pub printed_levels : TablesOf → List ℕ → Direction → List ℕ
 printed_levels tables chars direction =
     levels_text chars (units_by tables chars) (layout_of standard (units_by tables chars) direction [])
 
--- the lines of the layout of these units with these breaks, each as it is shown by the mirror images
+-- the lines of the layout of these units with these breaks, each as it is shown with mirrored characters
 abbrev pub lines_text : (ℕ → Option ℕ) → List ℕ → List BidiUnit → Direction → List ℕ → List ℕ
 lines_text images chars text direction breaks =
     reorder_text images chars text (layout_of standard text direction breaks)
 
--- the breaks at columns, where such are asked for
+-- the breaks at columns if the number of columns is given
 abbrev pub breaks_of : List BidiUnit → Option NonZeroU16 → List ℕ
 breaks_of text None = []
 breaks_of text (Some columns) = column_breaks_of text columns.value

@@ -1,4 +1,4 @@
--- The text that `reorder` prints, of a text and its layout, as bytes.
+-- The text that `reorder` prints for a text and its layout, as bytes.
 use Rattle.std.specs.Prelude.{Option, ℕ, Bool, if◌then◌else◌, List, [], ◌++◌}
 use Rattle.std.specs.Char.{encode_utf8}
 use Rattle.std.specs.List.{flat_map}
@@ -9,11 +9,11 @@ use Rattle.lines.specs.Layouts.{line_at}
 use Rattle.printing.specs.Columns.{separates_at}
 use Rattle.printing.specs.LevelsText.{line_feed}
 
--- a character in UTF-8, or nothing where a paragraph separator stands
+-- a character in UTF-8, or nothing if the position is a paragraph separator
 abbrev pub text_unless : Bool → ℕ → List ℕ
 text_unless separates character = if separates then [] else encode_utf8 character
 
--- L4: what is printed of the position p, by the mirror images: its character as it is shown, but no paragraph separator
+-- L4: what is printed for the position p: its character, mirrored if needed, or nothing if it is a paragraph separator
 abbrev pub shown_text : (ℕ → Option ℕ) → List ℕ → List BidiUnit → List (Option ℕ) → ℕ → List ℕ
 shown_text images chars text levels p = text_unless (separates_at text p) (shown_at images levels chars p)
 
@@ -21,7 +21,7 @@ shown_text images chars text levels p = text_unless (separates_at text p) (shown
 abbrev pub shown_line_text : (ℕ → Option ℕ) → List ℕ → List BidiUnit → List (Option ℕ) → LineLayout → List ℕ
 shown_line_text images chars text levels line = flat_map (shown_text images chars text levels) line.order ++ line_feed
 
--- the same of the layout's line with the number k
+-- the same for the layout's line with the number k
 abbrev pub text_of_line : (ℕ → Option ℕ) → List ℕ → List BidiUnit → TextLayout → ℕ → List ℕ
 text_of_line images chars text layout k = shown_line_text images chars text layout.levels (line_at layout k)
 

@@ -1,4 +1,4 @@
--- A text that is printed paragraph by paragraph, while its characters come.
+-- A text that is printed paragraph by paragraph, as its characters arrive.
 use Rattle.std.specs.Prelude.{◌≡◌, ◌≤◌, ℕ, ◌+◌, false, Option, List, [], ◌∷◌, ◌++◌, length}
 use Rattle.std.specs.Io.KnownBytes.{Appends}
 use Rattle.units.specs.Classes.{is_separator}
@@ -11,7 +11,7 @@ use Rattle.printing.specs.declared.form.Form.{Form}
 use Rattle.printing.specs.declared.begun.Begun.{Begun}
 use Rattle.printing.specs.declared.passed.Passed.{Passed}
 
--- no paragraph separator stands among them
+-- none of the units is a paragraph separator
 abbrev pub ArePlain : List BidiUnit → Type 0
 ArePlain [] = Unit {0}
 ArePlain (unit ∷ units) = (is_separator unit.class ≡ false) × ArePlain units
@@ -20,19 +20,19 @@ ArePlain (unit ∷ units) = (is_separator unit.class ≡ false) × ArePlain unit
 abbrev pub handed_in : Begun → ℕ
 handed_in begun = begun.passed.characters + length begun.chars.items
 
--- it has the units of its characters by the tables, it has not ended, and no passed paragraph was empty
+-- the paragraph has the units that the tables give its characters, it has not ended, and no passed paragraph was empty
 pub record IsBegun (tables : TablesOf) (begun : Begun) : Type 0 where
   pub units : begun.units.items ≡ units_by tables begun.chars.items
   pub plain : ArePlain begun.units.items
   pub few : begun.passed.paragraphs ≤ begun.passed.characters
 
--- one part is behind another, a paragraph of so many characters
+-- the next part comes after a paragraph of so many characters
 pub record Follows (passed : Passed) (characters : ℕ) (next : Passed) : Type 0 where
   pub paragraphs : next.paragraphs ≡ passed.paragraphs + 1
   pub characters_are : next.characters ≡ passed.characters + characters
 
--- further characters came, and known bytes grew by what is printed of the paragraphs that ended with them, the one that
--- had begun first; behind these stands the one that has begun now, and whatever comes is printed behind them
+-- after further characters, known bytes grew by what is printed of the paragraphs that ended, from the unfinished one
+-- on; the unfinished paragraph is now the one after them, and whatever follows is printed after them
 pub record PrintsOn (form : Form) (tables : TablesOf) (direction : Direction) (more : List ℕ) (before after : Option (List ℕ)) (old new : Begun) : Type 0 where
   pub ended : List ℕ
   pub joined : ended ++ new.chars.items ≡ old.chars.items ++ more

@@ -1,12 +1,12 @@
-// The paragraph of a text that has begun, while the text is printed paragraph by paragraph.
+// The unfinished paragraph of a text that is printed paragraph by paragraph.
 use crate::passed::Passed;
 use lines::scratch::Scratch;
 use std::alloc::Global;
 use units::bracket::Unit;
 use units::memory::Memory;
 
-/// The paragraph that has begun: what was passed before it, its characters so far with their units, and room for its
-/// layout. The lists and the room serve the paragraphs behind it too, and grow to the longest one.
+/// The unfinished paragraph: counts of what was passed before it, its characters so far with their units, and the
+/// `Scratch` of its layout. Later paragraphs use the same lists and `Scratch`, which grow to the longest paragraph.
 #[derive(Drop)]
 pub(crate) struct Begun {
     pub(crate) passed: Passed,
@@ -22,7 +22,7 @@ impl Begun {
     ghost use Rattle.lines.specs.Scratches.{room_of};
     ghost use Rattle.printing.specs.UnderWay.{Follows, IsBegun, handed_in};
 
-    /// The first paragraph, before any of its characters came.
+    /// Returns the first paragraph, still without characters.
     pub(crate) fn new(alloc: Global) -> Result<Begun, Memory>
         ensures begun { IfOk result (λ begun. (tables : TablesOf) → IsBegun tables begun) }
         ensures empty { IfOk result (λ begun. begun.chars.items ≡ []) }
@@ -52,7 +52,7 @@ impl Begun {
         Ok(())
     }
 
-    /// Makes room for the layout of the paragraph, where there is less.
+    /// Reserves capacity for the layout of the paragraph if `room` has less.
     pub(crate) fn reserve_one(&mut self, alloc: Global) -> Result<(), Memory>
         requires { length self.old.units.items ≤ longest_text }
         ensures room { OnOk result (length self.new.units.items ≤ room_of self.new.room) }
@@ -66,7 +66,7 @@ impl Begun {
         Ok(())
     }
 
-    /// Passes the paragraph: the one behind it begins.
+    /// Passes the paragraph and begins the next one.
     pub(crate) fn pass(&mut self)
         requires characters { handed_in self.old ≤ longest_text }
         requires paragraphs { self.old.passed.paragraphs ≤ self.old.passed.characters }

@@ -1,4 +1,4 @@
-// Where lines of a fixed number of positions break.
+// The breaks of lines with a fixed number of positions.
 ghost use Rattle.std.specs.Prelude.{◌≡◌, ◌<◌, ◌-◌, ◌%◌, ◌==◌, ◌&&◌, not, nat_lt, length, [], ◌∷◌, ◌++◌, IfOk, OnOk};
 ghost use Rattle.units.specs.Classes.{is_separator};
 ghost use Rattle.lines.specs.LineBreaks.{AreBreaks};
@@ -11,7 +11,7 @@ use units::bracket::Unit;
 use units::class::Class;
 use units::memory::Memory;
 
-/// Whether a line breaks at a position with this class, of the paragraph that begins at `start`.
+/// Returns whether a line breaks at the position `p`, with this class, of the paragraph that begins at `start`.
 fn breaks_at(class: Class, start: usize, p: usize, columns: usize) -> bool
     requires { 0 < columns }
     ensures { result ≡ (not (is_separator class) && (nat_lt start p && ((p - start) % columns == 0))) }
@@ -19,7 +19,7 @@ fn breaks_at(class: Class, start: usize, p: usize, columns: usize) -> bool
     !class.is_separator() && start < p && (p - start) % columns == 0
 }
 
-/// Adds a break behind the others.
+/// Adds a break after the others. Fails if memory runs out.
 fn add(breaks: &mut Vec<usize>, p: usize) -> Result<(), Memory>
     ensures { OnOk result (breaks.new.items ≡ breaks.old.items ++ p ∷ []) }
 {
@@ -29,8 +29,8 @@ fn add(breaks: &mut Vec<usize>, p: usize) -> Result<(), Memory>
     }
 }
 
-/// The breaks at every so many positions of each paragraph, counted from the paragraph's start, but before no paragraph
-/// separator: positions of the text, rising, such as `Breaks::new` takes. The error is refused memory.
+/// Returns the breaks at every `columns` positions of each paragraph, counted from its start, but none before a
+/// paragraph separator. They are rising positions of the text, as `Breaks::new` takes them. Fails if memory runs out.
 fn column_breaks(alloc: Global, text: &[Unit], columns: NonZeroU16) -> Result<Vec<usize>, Memory>
     ensures breaks { IfOk result (λ breaks. breaks.items ≡ column_breaks_of text.now columns.value) }
     ensures are { IfOk result (λ breaks. AreBreaks breaks.items (length text.now)) }
@@ -49,7 +49,7 @@ fn column_breaks(alloc: Global, text: &[Unit], columns: NonZeroU16) -> Result<Ve
     Ok(breaks)
 }
 
-/// The breaks at columns where such are asked for, and else none. The error is refused memory.
+/// Returns the breaks at columns if `columns` is some, or else no breaks. Fails if memory runs out.
 pub fn breaks_of(
     alloc: Global,
     text: &[Unit],

@@ -1,11 +1,11 @@
-// Bytes cut behind the characters that have come whole.
+// Bytes cut after the last complete character.
 ghost use Rattle.std.specs.Prelude.{◌≡◌, ◌≤◌, drop, length, take};
 ghost use Rattle.printing.specs.ReadTexts.{utf8_front};
 
 /// The most bytes that a character takes in UTF-8.
 const LONGEST_CHARACTER: usize = 4;
 
-/// The text in the longest front of these bytes that is UTF-8.
+/// Returns the longest front of these bytes that is UTF-8.
 pub(crate) fn utf8_front(bytes: &[u8]) -> &str
     ensures { result.now ≡ utf8_front bytes.now }
 {
@@ -15,8 +15,8 @@ pub(crate) fn utf8_front(bytes: &[u8]) -> &str
     }
 }
 
-/// Moves the first of the bytes behind those that were taken to the front of the buffer, as many as a character may
-/// have, and answers how many there are.
+/// Moves the first bytes that were not taken, at most as many as a character can have, to the front of the buffer.
+/// Returns how many bytes it moved.
 pub(crate) fn hold(buffer: &mut [u8], taken: usize, filled: usize) -> usize
     requires taken { taken ≤ filled }
     requires filled { filled ≤ length buffer.old }

@@ -23,7 +23,7 @@ fn put_pair(pair: u8, line: &mut [u8], end: usize)
     line[end - 2] = PAIRS[tens];
 }
 
-/// Puts a number of one or two digits so that they end at `end`, and returns where they begin.
+/// Puts a number of one or two digits so that it ends at `end`, and returns where it begins.
 #[inline(always)]
 fn put_one_or_two(number: u8, line: &mut [u8], end: usize) -> usize
     requires two { number < 100 }
@@ -40,7 +40,7 @@ fn put_one_or_two(number: u8, line: &mut [u8], end: usize) -> usize
     end - 1
 }
 
-/// Puts a number of at most four digits so that they end at `end`, and returns where they begin.
+/// Puts a number of at most four digits so that it ends at `end`, and returns where it begins.
 #[inline(always)]
 fn put_few(number: u16, line: &mut [u8], end: usize) -> usize
     requires four { number < 10000 }
@@ -56,7 +56,7 @@ fn put_few(number: u16, line: &mut [u8], end: usize) -> usize
     put_one_or_two((number / 100) as u8, line, end - 2)
 }
 
-/// Puts a number in decimal digits so that they end at `end`, and returns where they begin.
+/// Puts a number in decimal digits so that it ends at `end`, and returns where it begins.
 #[inline]
 pub fn put_decimal(number: u64, line: &mut [u8], end: usize) -> usize
     requires room { length (decimal number) ≤ end }

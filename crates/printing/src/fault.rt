@@ -1,12 +1,12 @@
-//! Why a text was not printed.
+//! The reasons why a text was not printed.
 use std::io;
 use std::io::ErrorKind;
 use units::memory::Memory;
 
-/// Why a text was not printed whole.
+/// The reason why a text was not printed completely.
 #[derive(Clone, Copy, Debug, PartialEq, Eq)]
 pub enum PrintFault {
-    /// A write failed. How much went out before is not known.
+    /// A write failed. It is not known how much was written before.
     Write,
     /// Memory was refused.
     Memory,
@@ -34,7 +34,7 @@ impl From<Memory> for PrintFault {
     }
 }
 
-/// Why printing stopped: as `PrintFault`, and also whether somebody may still read what is written.
+/// The reason why printing stopped: as `PrintFault`, but it also says whether somebody may still read the output.
 #[derive(Clone, Copy, Debug, PartialEq, Eq)]
 pub(crate) enum PrintStop {
     /// A write failed because nobody reads what is written any more (`ErrorKind::BrokenPipe`).

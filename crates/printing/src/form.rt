@@ -1,11 +1,11 @@
-//! What is printed of a text.
+//! The two forms in which a text is printed.
 use std::num::NonZeroU16;
 
-/// What is printed of a text.
+/// The form in which a text is printed.
 #[derive(Clone, Copy, Debug, PartialEq, Eq)]
 pub enum Form {
-    /// Its levels, position by position.
+    /// The levels, position by position.
     Levels,
-    /// Its lines as they are shown, with breaks at columns where such are asked for.
+    /// The lines as they are shown, with breaks at columns if `columns` is some.
     Reorder { columns: Option<NonZeroU16> },
 }

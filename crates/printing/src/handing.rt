@@ -18,7 +18,7 @@ pub enum Pieces {
     Items,
 }
 
-/// Returns how many bytes come before the first that isn't so.
+/// Returns how many bytes come before the first byte for which `is_so` is false.
 fn run_length<P: Fn(u8) -> bool>(bytes: &[u8], is_so: P) -> usize
     requires { (f : _) (x : _) → P.pre f x }
     ensures { result ≤ length bytes.now }
@@ -29,7 +29,7 @@ fn run_length<P: Fn(u8) -> bool>(bytes: &[u8], is_so: P) -> usize
     }
 }
 
-/// Whether a word ends before this byte.
+/// Returns whether a word ends before this byte.
 fn ends_word(byte: u8) -> bool {
     byte == b' ' || byte == b'\n'
 }
@@ -71,7 +71,7 @@ fn first_piece(bytes: &[u8], pieces: Pieces) -> usize
     }
 }
 
-/// Writes piece by piece the bytes of which the writer took the first `taken`.
+/// Writes the rest of the bytes piece by piece. The writer has taken the first `taken` bytes.
 #[cold]
 #[inline(never)]
 fn write_pieces<W: Write>(w: &mut W, bytes: &[u8], taken: usize, pieces: Pieces) -> io::Result<()>
@@ -90,7 +90,7 @@ fn write_pieces<W: Write>(w: &mut W, bytes: &[u8], taken: usize, pieces: Pieces)
     Ok(())
 }
 
-/// Offers bytes to the writer once, and again as often as it is interrupted. Returns how many it took.
+/// Offers bytes to the writer once, and again whenever it is interrupted. Returns how many bytes the writer took.
 #[inline(always)]
 fn offer<W: Write>(w: &mut W, bytes: &[u8]) -> usize
     ensures within { result ≤ length bytes.now }

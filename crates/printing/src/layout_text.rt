@@ -1,4 +1,4 @@
-// The text of `levels`, over the parts of a layout.
+// The text that `levels` prints, from a layout.
 ghost use Rattle.std.specs.Prelude.{◌≡◌, ◌≤◌, ◌+◌, length, map, slice_index_or, OnOk};
 ghost use Rattle.std.specs.Io.KnownBytes.{Appends};
 ghost use Rattle.units.specs.Isolates.{level_of_para};
@@ -15,8 +15,8 @@ use std::io::Write;
 use units::bracket::Unit;
 use units::level::{Level, ParaLevel};
 
-/// Writes the lines of the positions of a paragraph behind what was passed, by its characters, units and levels after
-/// L1.
+/// Writes the lines of the positions of a paragraph, from its characters, units and levels after L1. The paragraph
+/// comes after `passed`.
 fn print_positions<W: Write>(
     w: &mut W,
     passed: Passed,
@@ -36,7 +36,6 @@ fn print_positions<W: Write>(
     Ok(())
 }
 
-/// The level of the first paragraph.
 fn level_of_first(paras: &[ParaLevel]) -> ParaLevel
     ensures { level_of_para result ≡ slice_index_or (map level_of_para paras.now) 0 0 }
 {
@@ -46,7 +45,8 @@ fn level_of_first(paras: &[ParaLevel]) -> ParaLevel
     }
 }
 
-/// Writes a paragraph behind what was passed, by its layout: the paragraph's line, and then those of its positions.
+/// Writes the line of a paragraph and then the lines of its positions, from its layout. The paragraph comes after
+/// `passed`.
 pub(crate) fn print_one_paragraph<W: Write>(
     w: &mut W,
     passed: Passed,

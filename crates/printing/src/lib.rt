@@ -1,4 +1,4 @@
-//! What is printed of a text by tables: its levels, position by position, and its lines as they are shown.
+//! Prints a text, using the tables: its levels, position by position, or its lines as they are shown.
 #![tactic(auto)]
 
 mod begun;

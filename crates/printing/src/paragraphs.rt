@@ -1,4 +1,4 @@
-// A text printed paragraph by paragraph, while its characters come.
+// A text printed paragraph by paragraph, as its characters arrive.
 ghost use Rattle.std.specs.Prelude.{◌≡◌, ◌<◌, ◌≤◌, ◌+◌, [], ◌∷◌, length, OnOk};
 ghost use Rattle.std.specs.Io.KnownBytes.{Appends};
 ghost use Rattle.units.specs.Layout.{layout_of, longest_text};
@@ -28,7 +28,7 @@ use ucdfiles::tables::Tables;
 use units::bracket::Unit;
 use units::level::Direction;
 
-/// Lays out a paragraph behind what was passed, and writes its levels.
+/// Lays out a paragraph that comes after `passed`, and writes its levels.
 fn print_levels_of<W: Write>(
     w: &mut W,
     passed: Passed,
@@ -51,7 +51,7 @@ fn print_levels_of<W: Write>(
     Ok(())
 }
 
-/// Lays out a paragraph with breaks at columns where such are asked for, and writes its lines as they are shown.
+/// Lays out a paragraph, with breaks at columns if `columns` is some, and writes its lines as they are shown.
 fn print_lines_of<W: Write>(
     alloc: Global,
     w: &mut W,
@@ -74,7 +74,7 @@ fn print_lines_of<W: Write>(
     Ok(())
 }
 
-/// Writes the paragraph that has begun in this form.
+/// Writes the unfinished paragraph in this form.
 fn print_as<W: Write>(
     alloc: Global,
     w: &mut W,
@@ -109,7 +109,7 @@ fn print_as<W: Write>(
     }
 }
 
-/// Writes the paragraph that has begun, which has all of its characters now, and passes it.
+/// Writes the unfinished paragraph, which now has all of its characters, and passes it.
 #[inline(never)]
 fn print_begun<W: Write>(
     alloc: Global,
@@ -136,7 +136,7 @@ fn print_begun<W: Write>(
     Ok(())
 }
 
-/// Adds a character with its unit to the paragraph that has begun, and writes that where the character ends it (P1).
+/// Adds a character with its unit to the unfinished paragraph. If the character ends the paragraph (P1), writes it.
 #[inline(always)]
 pub(crate) fn take_character<W: Write>(
     alloc: Global,
@@ -163,7 +163,7 @@ pub(crate) fn take_character<W: Write>(
     Ok(())
 }
 
-/// Writes the paragraph that has begun, where any of its characters came: the text has ended.
+/// Writes the unfinished paragraph at the end of the text, if it has characters.
 pub(crate) fn print_last<W: Write>(
     alloc: Global,
     w: &mut W,

@@ -1,4 +1,4 @@
-//! Pieces of a printed line, each put before the others, from the end of a buffer.
+//! Pieces of a printed line. A line is written from the end of a buffer, each piece before the previous one.
 ghost use Rattle.std.specs.Prelude.{◌≡◌, ◌<◌, ◌≤◌, ◌+◌, ◌/◌, ◌%◌, true, ◌∷◌, ◌++◌, length, drop};
 ghost use Rattle.std.specs.Fmt.{digit_glyph};
 ghost use Rattle.units.specs.ClassNames.{short_name};
@@ -9,10 +9,10 @@ use crate::decimals::put_decimal;
 use units::class::Class;
 use units::level::Level;
 
-/// How many bytes the buffer of a line has.
+/// The number of bytes in the buffer of a line.
 pub(crate) const LONGEST_LINE: usize = 40;
 
-/// The last upper-case hex digit of a number.
+/// Returns the last upper-case hex digit of a number.
 pub fn last_digit(number: u32) -> u8
     ensures { result ≡ digit_glyph true (number % 16) }
 {
@@ -24,7 +24,7 @@ pub fn last_digit(number: u32) -> u8
     }
 }
 
-/// Puts a byte before what ends the line, and answers where it stands.
+/// Puts a byte before `end`, and returns where it begins.
 pub(crate) fn put_byte(byte: u8, line: &mut [u8; LONGEST_LINE], end: usize) -> usize
     requires some { 0 < end }
     requires within { end ≤ 40 }
@@ -35,7 +35,7 @@ pub(crate) fn put_byte(byte: u8, line: &mut [u8; LONGEST_LINE], end: usize) -> u
     end - 1
 }
 
-/// Puts the last hex digit of a number before what ends the line, and answers where it stands.
+/// Puts the last hex digit of a number before `end`, and returns where it begins.
 fn put_last_digit(number: u32, line: &mut [u8; LONGEST_LINE], end: usize) -> usize
     requires some { 0 < end }
     requires within { end ≤ 40 }
@@ -45,7 +45,7 @@ fn put_last_digit(number: u32, line: &mut [u8; LONGEST_LINE], end: usize) -> usi
     put_byte(last_digit(number), line, end)
 }
 
-/// Puts the hex digits that a code point has before its last four, and answers where they begin.
+/// Puts the hex digits that a code point has before its last four, and returns where they begin.
 fn put_front(front: u32, line: &mut [u8; LONGEST_LINE], end: usize) -> usize
     requires two { front < 256 }
     requires room { 2 ≤ end }
@@ -64,7 +64,7 @@ fn put_front(front: u32, line: &mut [u8; LONGEST_LINE], end: usize) -> usize
     put_last_digit(front / 16, line, start)
 }
 
-/// Puts a code point in upper-case hex digits, at least four, and answers where they begin.
+/// Puts a code point in upper-case hex digits, at least four, and returns where they begin.
 pub(crate) fn put_code(character: char, line: &mut [u8; LONGEST_LINE], end: usize) -> usize
     requires room { 6 ≤ end }
     requires within { end ≤ 40 }
@@ -80,7 +80,7 @@ pub(crate) fn put_code(character: char, line: &mut [u8; LONGEST_LINE], end: usiz
     put_front(code / 65536, line, start)
 }
 
-/// Puts these bytes before what ends the line, and answers where they begin.
+/// Puts these bytes before `end`, and returns where they begin.
 pub(crate) fn put_bytes(bytes: &[u8], line: &mut [u8; LONGEST_LINE], end: usize) -> usize
     requires room { length bytes.now ≤ end }
     requires within { end ≤ 40 }
@@ -92,7 +92,7 @@ pub(crate) fn put_bytes(bytes: &[u8], line: &mut [u8; LONGEST_LINE], end: usize)
     start
 }
 
-/// Puts the short name of a class, and answers where it begins.
+/// Puts the short name of a class, and returns where it begins.
 pub(crate) fn put_name(class: Class, line: &mut [u8; LONGEST_LINE], end: usize) -> usize
     requires room { 3 ≤ end }
     requires within { end ≤ 40 }
@@ -103,7 +103,7 @@ pub(crate) fn put_name(class: Class, line: &mut [u8; LONGEST_LINE], end: usize) 
     put_bytes(class.short().as_bytes(), line, end)
 }
 
-/// Puts a level after L1, or x where the position was removed (X9), and answers where it begins.
+/// Puts a level after L1, or x if the position was removed (X9), and returns where it begins.
 pub(crate) fn put_level(level: Option<Level>, line: &mut [u8; LONGEST_LINE], end: usize) -> usize
     requires room { 3 ≤ end }
     requires within { end ≤ 40 }

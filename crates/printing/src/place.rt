@@ -5,10 +5,10 @@ ghost use Rattle.printing.specs.TextPlaces.{ends_line, place_after};
 
 use crate::cutting::utf8_front;
 
-/// The most bytes whose lines are counted in one byte.
+/// The greatest number of bytes whose lines a counter of one byte can count.
 const MOST_IN_A_BYTE: usize = 255;
 
-/// Returns how many lines end in these bytes. One byte counts them, so that many bytes are compared at once.
+/// Returns how many lines end in these bytes. The counter is one byte, so that many bytes are compared at once.
 fn count_few(bytes: &[u8]) -> u8
     requires { length bytes.now ≤ 255 }
     ensures { result ≡ count_by ends_line bytes.now }
@@ -37,7 +37,7 @@ fn count_ended(bytes: &[u8]) -> usize
 /// A place in a text of bytes.
 #[derive(Clone, Copy, Debug, PartialEq, Eq)]
 pub struct TextPlace {
-    /// The number of its line, counted from 1. LF alone ends a line.
+    /// The number of its line, counted from 1. Only LF ends a line.
     pub line: usize,
     /// How many bytes of the text come before it.
     pub offset: usize,

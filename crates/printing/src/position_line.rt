@@ -1,4 +1,4 @@
-// The lines that say what the levels of a text are.
+// The lines with the levels of a text.
 ghost use Rattle.std.specs.Prelude.{◌≡◌, ◌≤◌, drop, OnOk};
 ghost use Rattle.std.specs.Io.KnownBytes.{Appends};
 ghost use Rattle.units.specs.Isolates.{level_of_para};
@@ -12,7 +12,7 @@ use std::io::Write;
 use units::class::Class;
 use units::level::{Level, ParaLevel};
 
-/// Puts the line of a position at the end of a buffer, and answers where it begins.
+/// Puts the line of a position at the end of a buffer, and returns where it begins.
 fn put_position(
     position: usize,
     character: char,
@@ -33,7 +33,7 @@ fn put_position(
     put_decimal(position as u64, line, start)
 }
 
-/// Writes the line of a position of the text: where it stands, its code point, original class and level after L1.
+/// Writes the line of a position of the text: the position, its code point, original class and level after L1.
 pub fn print_position<W: Write>(
     w: &mut W,
     position: usize,
@@ -49,7 +49,7 @@ pub fn print_position<W: Write>(
     hand_over(w, &line[start..], Pieces::Words)
 }
 
-/// Puts the line of a paragraph at the end of a buffer, and answers where it begins.
+/// Puts the line of a paragraph at the end of a buffer, and returns where it begins.
 fn put_paragraph(number: usize, level: ParaLevel, line: &mut [u8; LONGEST_LINE]) -> usize
     ensures start { result ≤ 40 }
     ensures written { drop result line.new ≡ paragraph_text number (level_of_para level) }

@@ -1,4 +1,4 @@
-//! What `levels` and `reorder` print of a text.
+//! The texts that `levels` and `reorder` print.
 ghost use Rattle.std.specs.Prelude.{◌≡◌, ◌≤◌, [], length, OnOk};
 ghost use Rattle.std.specs.Io.KnownBytes.{Appends};
 ghost use Rattle.units.specs.Layout.{longest_text};
@@ -16,7 +16,7 @@ use std::num::NonZeroU16;
 use ucdfiles::tables::Tables;
 use units::level::Direction;
 
-/// Writes a text in this form, of which nothing has come before: what `print_chars` does.
+/// Writes a text in this form, as `print_chars` does, with a new `Begun`.
 fn print_each<W: Write>(
     alloc: Global,
     w: &mut W,
@@ -42,8 +42,8 @@ fn print_each<W: Write>(
     print_last(alloc, w, tables, direction, form, begun)
 }
 
-/// Writes a text in this form, as `print_levels` and `print_reorder` say, paragraph by paragraph: each is laid out where
-/// it ends, and written before the next one is looked at.
+/// Writes a text in this form, paragraph by paragraph, as `print_levels` and `print_reorder` describe. Each paragraph
+/// is laid out when it ends, and written before the next one is read.
 fn print_chars<W: Write>(
     alloc: Global,
     w: &mut W,
@@ -61,10 +61,11 @@ fn print_chars<W: Write>(
     Ok(())
 }
 
-/// Writes the levels of a text: for each paragraph a line with its number, counted from 0, and its level (P2, P3);
-/// then for each of its positions a line with the position in the whole text, the code point, the original class and
-/// the level after L1, or `x` where the position was removed (X9). The text may have 16,777,216 characters. The fault
-/// is `Write` where the writer fails, when it is not known how much it took, and `Memory` where memory is refused.
+/// Writes the levels of a text. For each paragraph it writes a line with the paragraph's number, counted from 0, and
+/// its level (P2, P3). Then it writes for each position of the paragraph a line with the position in the whole text,
+/// the code point, the original class and the level after L1, or `x` if the position was removed (X9). The text may
+/// have up to 16,777,216 characters. Fails with `Write` if the writer fails; it is then not known how much the writer
+/// took. Fails with `Memory` if memory runs out.
 pub fn print_levels<W: Write>(
     alloc: Global,
     w: &mut W,
@@ -79,11 +80,12 @@ pub fn print_levels<W: Write>(
     print_chars(alloc, w, tables, text, direction, Form::Levels)
 }
 
-/// Writes a text as it is shown: each line from left to right (L2), in UTF-8, with mirror images at odd levels (L4),
-/// without paragraph separators and without what was removed (X9), and LF behind it. With `columns` a line breaks at
-/// every so many positions, counted from the paragraph's start, unless a paragraph separator stands there; removed
-/// positions count too. Without, each paragraph is a line. The text may have 16,777,216 characters. The fault is
-/// `Write` where the writer fails, when it is not known how much it took, and `Memory` where memory is refused.
+/// Writes a text as it is shown: each line from left to right (L2), in UTF-8, with mirrored characters at odd levels
+/// (L4), without paragraph separators and removed positions (X9), and with LF after it. If `columns` is some, a line
+/// breaks at every `columns` positions, counted from the paragraph's start, unless a paragraph separator is there;
+/// removed positions count too. Otherwise each paragraph is one line. The text may have up to 16,777,216 characters.
+/// Fails with `Write` if the writer fails; it is then not known how much the writer took. Fails with `Memory` if memory
+/// runs out.
 pub fn print_reorder<W: Write>(
     alloc: Global,
     w: &mut W,

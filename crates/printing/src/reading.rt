@@ -1,4 +1,4 @@
-//! A text printed as it is read.
+//! A text printed while it is read.
 ghost use Rattle.std.specs.Prelude.{◌≡◌, ◌<◌, ◌≤◌, ◌+◌, ℕ, [], List, length, take, IfErr, IfOk, OnOk};
 ghost use Rattle.std.specs.Str.{chars};
 ghost use Rattle.units.specs.Layout.{longest_text};
@@ -19,12 +19,12 @@ use units::level::Direction;
 use units::memory::Memory;
 use units::source::ByteSource;
 
-/// Why a text that is read was not printed whole.
+/// The reason why a text that is read was not printed completely.
 #[derive(Clone, Copy, Debug, PartialEq, Eq)]
 pub enum TextFault {
     /// The source failed.
     Read { written: Written },
-    /// The bytes are not UTF-8, and this is the place after the longest front of them that is.
+    /// The bytes are not UTF-8. `place` is the place after their longest front that is.
     NotUtf8 { place: TextPlace, written: Written },
     /// A write failed. The source has ended, and its bytes are UTF-8.
     Write,
@@ -60,7 +60,7 @@ impl From<Memory> for TextFault {
     }
 }
 
-/// Adds these characters to the paragraph that has begun, and writes each paragraph that one of them ends.
+/// Adds these characters to the unfinished paragraph, and writes each paragraph that one of them ends.
 fn take_text<W: Write>(
     alloc: Global,
     w: &mut W,
@@ -85,8 +85,8 @@ fn take_text<W: Write>(
     Ok(())
 }
 
-/// Takes the longest front of these bytes that is UTF-8 and writes each paragraph that ends in it; where one does, what
-/// was written is handed on. Answers how many bytes it has.
+/// Takes the longest front of these bytes that is UTF-8, and writes each paragraph that ends in it. Flushes the writer
+/// if a paragraph has ended. Returns how many bytes the front has.
 fn take_front<W: Write>(
     alloc: Global,
     w: &mut W,
@@ -114,8 +114,8 @@ fn take_front<W: Write>(
     Ok(front.len())
 }
 
-/// Reads the source to its end without printing, and returns the fault that comes first. No character was taken of the
-/// first `filled` bytes of the buffer, and the text before them ends at `place`.
+/// Reads the source to its end without printing, and returns the first fault. The buffer begins with `filled` bytes
+/// whose characters were not taken yet, and `place` is the place before these bytes.
 fn read_on<S: ByteSource>(
     source: &mut S,
     mut place: TextPlace,
@@ -145,7 +145,7 @@ fn read_on<S: ByteSource>(
 }
 
 /// Returns the fault of a text whose printing stopped. Reads the source to its end, as `read_on` does, only if a write
-/// failed and somebody may still read what is written.
+/// failed and somebody may still read the output.
 fn end_unwritten<S: ByteSource>(
     stop: PrintStop,
     source: &mut S,
@@ -171,8 +171,7 @@ fn end_unwritten<S: ByteSource>(
     }
 }
 
-/// Reads the source to its end and writes the text that it hands out, of which nothing has come before: what
-/// `print_source` does, with its faults.
+/// Reads the source to its end and writes its text, as `print_source` does, with a new `Begun`.
 fn read_text<S: ByteSource, W: Write>(
     alloc: Global,
     w: &mut W,
@@ -222,10 +221,10 @@ fn read_text<S: ByteSource, W: Write>(
     Ok(())
 }
 
-/// Reads the source to its end and writes the text that it hands out, in UTF-8, in this form (`printed_as`): each
-/// paragraph is written and handed on as soon as the character that ends it is read, and the last one at the end. The
-/// source may hand out 16,777,216 bytes. Read are 4,096 bytes at a time; the memory that is taken, some 90 bytes a
-/// character, is that of the longest paragraph.
+/// Reads the source to its end and writes its text, which is in UTF-8, in this form (`printed_as`). Each paragraph is
+/// written and flushed as soon as the character that ends it is read, and the last one at the end. The source may give
+/// up to 16,777,216 bytes. The function reads at most 4,096 bytes at a time, and allocates about 90 bytes for each
+/// character of the longest paragraph.
 ///
 /// Returns the first of these faults, also if a write failed before it:
 ///
@@ -233,13 +232,13 @@ fn read_text<S: ByteSource, W: Write>(
 /// - `NotUtf8` if the source has ended and its bytes are not UTF-8, with the place after the longest front that is;
 /// - `Write` if a write or a flush failed.
 ///
-/// So the source is read to its end after a failed write, and nothing more is written or kept. Nothing more is written
-/// after bytes that are not UTF-8 either. `Read` and `NotUtf8` say whether a write failed before. If none did, the
-/// paragraphs that have ended are written, as far as the bytes are UTF-8 (`printed_ended`). If one did, it is not known
-/// how much the writer took.
+/// So the source is read to its end after a failed write, and nothing more is written or stored. Nothing more is
+/// written after bytes that are not UTF-8 either. `Read` and `NotUtf8` report whether a write failed before. If none
+/// did, the paragraphs that have ended are written, as far as the bytes are UTF-8 (`printed_ended`). If one did, it is
+/// not known how much the writer took.
 ///
 /// Two faults end the call at once, and the source is not read further: `NobodyReads` if a write or a flush fails with
-/// `ErrorKind::BrokenPipe`, and `Memory` if memory is refused.
+/// `ErrorKind::BrokenPipe`, and `Memory` if memory runs out.
 pub fn print_source<S: ByteSource, W: Write>(
     alloc: Global,
     w: &mut W,

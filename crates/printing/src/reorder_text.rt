@@ -1,4 +1,4 @@
-// The text of `reorder`, over the parts of a layout.
+// The text that `reorder` prints, from a layout.
 ghost use Rattle.std.specs.Prelude.{◌≡◌, ◌<◌, length, OnOk};
 ghost use Rattle.std.specs.Io.KnownBytes.{Appends};
 ghost use Rattle.units.specs.Classes.{is_separator};
@@ -15,7 +15,7 @@ use ucdfiles::mirror_table::MirrorTable;
 use units::bracket::Unit;
 use units::class::Class;
 
-/// Writes a character in UTF-8 as it is shown behind what waits, unless a paragraph separator stands there.
+/// Writes a character in UTF-8, as it is shown, after the waiting bytes, unless the position is a paragraph separator.
 fn print_shown<W: Write>(
     w: &mut W,
     waiting: &mut Waiting,
@@ -31,8 +31,8 @@ fn print_shown<W: Write>(
     waiting.print(w, character)
 }
 
-/// Writes the line with the number `k` from left to right, and LF, behind what waits. Whether a position holds a
-/// paragraph separator is asked of its own unit, not of the character that it is shown by.
+/// Writes the line with the number `k` from left to right, and LF, after the waiting bytes. Whether a position is a
+/// paragraph separator depends on its own unit, not on the character that is shown for it.
 fn print_line<W: Write>(
     w: &mut W,
     waiting: &mut Waiting,
@@ -56,7 +56,7 @@ fn print_line<W: Write>(
     waiting.print(w, '\n')
 }
 
-/// Writes the lines of a text, each from left to right as it is shown (L2, L4), and LF behind each.
+/// Writes the lines of a text, each from left to right as it is shown (L2, L4), with LF after each.
 pub fn print_lines<W: Write>(
     w: &mut W,
     mirrors: &MirrorTable,

@@ -1,4 +1,4 @@
-// Bytes of printed lines that wait until they are written together.
+// Bytes of printed lines, buffered until they are written together.
 ghost use Rattle.std.specs.Prelude.{◌≡◌, ℕ, ◌≤◌, ◌+◌, [], ◌++◌, List, length, IsOk, OnOk};
 ghost use Rattle.std.specs.Char.{encode_utf8};
 ghost use Rattle.std.specs.Io.KnownBytes.{Appends};
@@ -10,13 +10,13 @@ use std::io;
 use std::io::Write;
 use std::marker::Model;
 
-/// How many bytes wait at most.
+/// The greatest number of waiting bytes.
 const MOST_WAITING: usize = 256;
 
 /// The most bytes that a character takes in UTF-8.
 const LONGEST_CHARACTER: usize = 4;
 
-/// Bytes that wait until they are written together. Contracts see them as a list.
+/// Bytes that wait to be written together. Contracts see them as a list.
 #[derive(Drop)]
 pub(crate) struct Waiting {
     bytes: ArrayVec<u8, MOST_WAITING>,
@@ -29,7 +29,7 @@ impl Model for Waiting {
 }
 
 impl Waiting {
-    /// None.
+    /// Returns a buffer without waiting bytes.
     pub(crate) fn new() -> Waiting
         ensures { result ≡ [] }
     {
@@ -38,7 +38,7 @@ impl Waiting {
         }
     }
 
-    /// Adds a character in UTF-8, byte by byte: a copy of so few takes longer.
+    /// Adds a character in UTF-8, byte by byte: copying so few bytes as a slice takes longer.
     fn push_character(&mut self, character: char)
         requires { length self.old + 4 ≤ 256 }
         ensures { self.new ≡ self.old ++ encode_utf8 character }
@@ -65,7 +65,7 @@ impl Waiting {
         }
     }
 
-    /// Writes those that wait.
+    /// Writes the waiting bytes.
     pub(crate) fn write<W: Write>(&mut self, w: &mut W) -> io::Result<()>
         ensures none { OnOk result (self.new ≡ []) }
         ensures written { OnOk result (Appends (W.contents w.old) (W.contents w.new) self.old) }
@@ -75,7 +75,7 @@ impl Waiting {
         Ok(())
     }
 
-    /// Makes room for a character: where there is none, what waits is written.
+    /// Makes space for a character: writes the waiting bytes if there is no space.
     fn write_out<W: Write>(&mut self, w: &mut W) -> io::Result<()>
         ensures room { OnOk result (length self.new + 4 ≤ 256) }
         ensures same { OnOk result (Appends (with_waiting (W.contents w.old) self.old)
@@ -88,7 +88,7 @@ impl Waiting {
         Ok(())
     }
 
-    /// Adds a character in UTF-8; where there is no room for it, what waits is written first.
+    /// Adds a character in UTF-8. If there is no space for it, writes the waiting bytes first.
     pub(crate) fn print<W: Write>(&mut self, w: &mut W, character: char) -> io::Result<()>
         ensures { OnOk result (Appends (with_waiting (W.contents w.old) self.old)
             (with_waiting (W.contents w.new) self.new) (encode_utf8 character)) }

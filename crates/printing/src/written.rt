@@ -1,6 +1,6 @@
-//! Whether what was to be written was.
+//! Whether the output was written completely.
 
-/// How much was written of what was to be written when reading ended.
+/// How much of the output was written when reading ended.
 #[derive(Clone, Copy, Debug, PartialEq, Eq)]
 pub enum Written {
     /// All of it.
