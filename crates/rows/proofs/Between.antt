@@ -9,12 +9,12 @@ use Rattle.rows.proofs.Contents.{trimmed-whole}
 use Rattle.rows.proofs.Items.{IsItem, IsItemByte, items-first, no-blank}
 use Rattle.rows.proofs.LineTexts.{EndsPlain, IsFieldByte, behind-fields, ends-behind, ends-item, field-item, length-behind}
 
--- the first byte of what begins with an item
+-- the first byte of bytes that begin with an item
 pub first-byte : (w rest : List ℕ) → IsItem w → IsItemByte (get_or (w ++ rest) 0 0)
 first-byte [] rest item = absurd (omega (arith, item.some))
 first-byte (b ∷ w) rest item = item.bytes 0 0 (omega arith)
 
--- a field that is read whole
+-- a field that is read completely
 pub record IsField (bs : List ℕ) : Type 0 where
   pub bytes : All IsFieldByte bs
   pub trim : trimmed bs ≡ bs

@@ -100,7 +100,7 @@ paras-first limits [] direction some = absurd (omega arith)
 paras-first limits (unit ∷ units) direction some =
     some-paragraph (λ us. para_level_of (classes_of us) direction) (λ us. para_level-low (classes_of us) direction) unit (paragraphs_of units)
 
--- a line that says no more than this row
+-- a line that is read as exactly this row
 pub record SaysRow (tables : Bor TablesOf) (line : List ℕ) (claim : Claim) : Type 0 where
   pub by : IsSaidBy line
   pub read : characters_line (unit_by tables.now) line ≡ Row claim
@@ -115,7 +115,7 @@ no-silence : (unit_by : ℕ → BidiUnit) (bs : List ℕ) → 0 < length bs → 
 no-silence unit_by [] some = absurd (omega arith)
 no-silence unit_by (b ∷ bs) some = refl
 
--- what a case claims in a file of characters
+-- the expected levels and order of a case in a file of characters
 abbrev pub claim_of_row : LimitsOf → Case → ℕ → Claim
 claim_of_row limits c para = record {
   text = units_of c.text;
@@ -125,7 +125,7 @@ claim_of_row limits c para = record {
   order = all_orders (layout_of_case limits c);
 }
 
--- what is known of the fields of a row
+-- the properties of the fields of a row
 record AreFields (n l o : List ℕ) (count : ℕ) : Type 0 where
   pub names : IsField n
   pub levels : IsField l
@@ -156,7 +156,7 @@ module _ (tables : Bor TablesOf) (limits : LimitsOf) (l : Letter) (ls : List Let
   abbrev order_texts : List ℕ
   order_texts = between_blanks decimal order
 
-  -- the fields by the text of the first paragraph's level
+  -- the fields, from the text of the first paragraph's level
   abbrev fields_by : List ℕ → List (List ℕ)
   fields_by para = names ∷ direction_text direction ∷ para ∷ level_texts ∷ order_texts ∷ []
 
@@ -269,7 +269,7 @@ module _ (tables : Bor TablesOf) (limits : LimitsOf) (l : Letter) (ls : List Let
           ∙ row-of-fields;
     }
 
--- the row of a case, and what it claims
+-- the row of a case, and its expected levels and order
 pub record SaysCase (tables : Bor TablesOf) (limits : LimitsOf) (c : Case) : Type 0 where
   pub para : ℕ
   pub first : (others : List ℕ) × ((layout_of_case limits c).paras ≡ para ∷ others)

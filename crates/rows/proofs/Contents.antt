@@ -1,4 +1,4 @@
--- Lines and fields that are read whole.
+-- Lines and fields that are read completely.
 use Rattle.std.proofs.Common.{◌≡◌, ◌≢◌, ℕ, ◌-◌, ◌<◌, ◌==◌, false, List, [], ◌∷◌, ◌++◌, length, get_or, refl, ap, ◌∙◌, arith, eq-eqb, ne_eqb}
 use Rattle.std.specs.List.{All, position_or_len, suffix_len}
 use Rattle.std.proofs.lemmas.List.{take_all}
@@ -7,7 +7,7 @@ use Rattle.std.proofs.lemmas.List.Sums.{position_or_len_is, suffix_len_is}
 use Rattle.std.proofs.lemmas.List.Splits.{slice_split_at, slice_split_none}
 use Rattle.units.specs.Text.{is_blank, trimmed, without_blanks_before, without_blanks_behind, content_of, cut_at}
 
--- no blank stands at its ends
+-- neither end is a blank
 pub record HasNoBlankEnds (bs : List ℕ) : Type 0 where
   pub some : 0 < length bs
   pub first : is_blank (get_or bs 0 0) ≡ false
@@ -26,7 +26,7 @@ behind-whole bs ends =
 pub trimmed-whole : (bs : List ℕ) → HasNoBlankEnds bs → trimmed bs ≡ bs
 trimmed-whole bs ends = ap without_blanks_behind (before-whole bs ends.first) ∙ behind-whole bs ends
 
--- without a comment
+-- the content of a line without a comment is the line
 pub content-whole : (line : List ℕ) → All (λ b. b ≢ 35) line → HasNoBlankEnds line → content_of line ≡ line
 content-whole line free ends =
     let none : position_or_len (λ b. b == 35) line ≡ length line =

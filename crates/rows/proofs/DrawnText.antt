@@ -1,4 +1,4 @@
--- A text that is filled from its first place on with letters that are drawn.
+-- A text that is filled with drawn letters from its first place on.
 use Rattle.std.proofs.Common.{◌≡◌, ℕ, zero, suc, ◌+◌, ◌<◌, ◌≤◌, List, length, get_or, set, refl, sym, ap, ◌∙◌, inl, inr, arith, add-one, length-set}
 use Rattle.std.proofs.lemmas.Bool.{cases_lt}
 use Rattle.std.proofs.lemmas.Grind.{get_or-set_at}
@@ -11,7 +11,7 @@ use Rattle.rows.specs.Letters.{no_letter}
 use Rattle.rows.specs.Random.{letter_drawn, text_drawn, word_behind}
 use Rattle.rows.specs.declared.letter.Letter.{Letter}
 
--- the first places, so many of them, have letters that were drawn, and the generator stands behind their words
+-- the first `done` places have drawn letters, and the generator is after their words
 pub record IsDrawnBy (alphabet : List Letter) (from now : Lcg) (text : List Letter) (len done : ℕ) : Type 0 where
   pub size : length text ≡ len
   pub behind : now ≡ advance 64 multiplier_64 done from

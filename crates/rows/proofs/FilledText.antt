@@ -1,4 +1,4 @@
--- A text that is filled from its last place on with the letters of a number.
+-- A text that is filled with the letters of a number from its last place on.
 use Rattle.std.proofs.Common.{◌≡◌, ℕ, ◌+◌, ◌-◌, ◌/◌, ◌%◌, ◌^◌, ◌<◌, ◌≤◌, List, length, get_or, set, slice_index_or, sym, ap, ◌∙◌, inl, inr, arith, add-one, length-set}
 use Rattle.std.proofs.Math.Nat.{div-div-eq-div-mul, pow-suc, pow-zero}
 use Rattle.std.proofs.lemmas.Bool.{cases_lt}
@@ -11,7 +11,7 @@ use Rattle.rows.specs.Exhaustive.{block, letter_in_text, text_of_number}
 use Rattle.rows.specs.declared.letter.Letter.{Letter}
 use Rattle.rows.proofs.RowTextsOf.{length-text_of_number}
 
--- the last places, so many of them, have the letters of the number, and this is left of it
+-- the last `done` places have the letters of the number, and `rest` remains of the number
 pub record IsFilledBy (alphabet : List Letter) (text : List Letter) (len number done rest : ℕ) : Type 0 where
   pub size : length text ≡ len
   pub left : rest ≡ number / block alphabet done

@@ -9,12 +9,12 @@ use Rattle.printing.proofs.Appending.{Appends-joined, Appends-to}
 use Rattle.printing.proofs.Passing.{HasPrintedUpTo}
 use Rattle.rows.specs.RowTexts.{behind_blanks, between_blanks}
 
--- bytes added to what was added before
+-- bytes were added after the ones that were added before
 pub then-added : (old mid new xs ys : List ℕ) → mid ≡ old ++ xs → new ≡ mid ++ ys → new ≡ old ++ (xs ++ ys)
 then-added old mid new xs ys first next = next ∙ ap (λ bs. bs ++ ys) first ∙ append_assoc old xs ys
 
 module _ {A : Type 0} (text : A → List ℕ) where
-  -- several items more were printed
+  -- several further items were printed
   pub more_passed : (a b c : Option (List ℕ)) (whole rest xs others : List A) → rest ≡ xs ++ others
       → HasPrintedUpTo a b text whole rest → Appends b c (flat_map text xs) → HasPrintedUpTo a c text whole others
   more_passed a b c whole rest xs others is h grown = record {
@@ -23,13 +23,13 @@ module _ {A : Type 0} (text : A → List ℕ) where
     grown = Appends-to a c _ _ (sym (flat_map-append text h.passed xs)) (Appends-joined a b c _ _ h.grown grown);
   }
 
-  -- without the first blank
+  -- the first items after blanks are a blank and then the items with blanks between them
   pub behind-first : (items : List A) (n : ℕ) → 0 < n → 0 < length items → behind_blanks text (take n items) ≡ 32 ∷ between_blanks text (take n items)
   behind-first items zero some there = absurd (omega arith)
   behind-first [] (suc n) some there = absurd (omega arith)
   behind-first (x ∷ items) (suc n) some there = refl
 
-  -- the items up to one, and those behind it
+  -- the first n items, and those after them
   pub between-parts : (items : List A) (n : ℕ) → 0 < n → 0 < length items
       → between_blanks text (take n items) ++ behind_blanks text (drop n items) ≡ between_blanks text items
   between-parts items zero some there = absurd (omega arith)
@@ -39,6 +39,6 @@ module _ {A : Type 0} (text : A → List ℕ) where
       ∙ ap (λ bs. text x ++ bs) (sym (flat_map-append (λ y. codes " " ++ text y) (take n items) (drop n items))
       ∙ ap (λ xs. behind_blanks text xs) (take-append-drop n items))
 
--- what is sliced behind a first byte
+-- the slice after the first byte
 pub sliced-behind : (b : ℕ) (xs ys : List ℕ) → xs ≡ b ∷ ys → take (length xs - 1) (drop 1 xs) ≡ ys
 sliced-behind b xs ys is = rw is (take_all (length (b ∷ ys) - 1) ys (omega arith))

@@ -55,12 +55,12 @@ glyph d within =
           subst (IsGlyph d) is (high-glyph d high within))
     ]
 
--- the numbers of one digit more than so many are below this
+-- numbers with one digit more than the argument are below this
 abbrev bound : ℕ → ℕ
 bound zero = 16
 bound (suc k) = 16 * bound k
 
--- a text begins with hex digits of a number, at most so many, and goes on with another text
+-- a text begins with hex digits of a number, at most `most`, and continues with another text
 record BeginsWith (most n : ℕ) (rest whole : List ℕ) : Type 0 where
   pub front : List ℕ
   pub joined : whole ≡ front ++ rest
@@ -83,7 +83,7 @@ one-digit most i n rest some within =
       };
     }
 
--- one digit more than the number without its last one has
+-- the last hex digit of a number
 abbrev last_glyph : ℕ → ℕ
 last_glyph n = digit_glyph true (n % 16)
 
@@ -126,7 +126,7 @@ length-padded : (k : ℕ) (ds : List ℕ) → length (replicate k 48 ++ ds) ≡ 
 length-padded zero ds = omega arith
 length-padded (suc k) ds = omega (arith, length-padded k ds)
 
--- what is printed of a code point
+-- the properties of the text of a code point
 record IsCode (c : ℕ) : Type 0 where
   pub least : 4 ≤ length (code_text c)
   pub few : length (code_text c) ≤ 6

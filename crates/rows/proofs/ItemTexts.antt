@@ -45,7 +45,7 @@ tested-item bs test =
     let some : 0 < length bs = grind (arith, nat_tests) in
     record { some = some; bytes = all-tested IsItemByte is_item_byte tested-byte bs both.1 }
 
--- what a name is
+-- the properties of a name
 record IsName (class : Class) : Type 0 where
   pub test : is_item (short_name class) ≡ true
   pub few : nat_le (length (short_name class)) 3 ≡ true

@@ -1,4 +1,4 @@
--- Items that stand behind blanks, read back.
+-- Items after blanks, read back.
 use Rattle.std.proofs.Common.{◌≡◌, ◌≢◌, ℕ, ◌<◌, ◌≤◌, Bool, true, false, List, [], ◌∷◌, ◌++◌, length, map, filter, Option, Some, refl, ap, ◌∙◌, arith, ne_eqb, append-nil, get_or}
 use Rattle.std.specs.List.{All, list_all}
 use Rattle.std.proofs.lemmas.Bool.{and_parts}
@@ -8,24 +8,24 @@ use Rattle.units.specs.Text.{is_blank, has_bytes, items_of, each_read}
 use Rattle.units.proofs.FirstItem.{some_bytes}
 use Rattle.rows.specs.RowTexts.{behind_blanks}
 
--- what holds of every value holds of all of a list
+-- what is true of every value is true of all elements of a list
 pub all-of-every : {A : Type 0} (P : A → Type 0) → ((x : A) → P x) → (xs : List A) → All P xs
 all-of-every P each xs = λ k d lt. each (get_or xs k d)
 
--- what a test of each says of all
+-- what a test proves of each value is true of all elements that pass it
 pub all-tested : {A : Type 0} (P : A → Type 0) (test : A → Bool) → ((x : A) → test x ≡ true → P x) → (xs : List A) → list_all test xs ≡ true → All P xs
 all-tested P test says [] tests = All-nil P
 all-tested P test says (x ∷ xs) tests =
     let both = and_parts (test x) (list_all test xs) tests in
     All-cons P x xs (says x both.0) (all-tested P test says xs both.1)
 
--- a byte of an item: above all blanks and `#`, and neither `;` nor `@`
+-- a byte of an item: it is above all blanks and `#`, and neither `;` nor `@`
 pub record IsItemByte (b : ℕ) : Type 0 where
   pub above : 48 ≤ b
   pub within : b ≢ 59
   pub plain : b ≢ 64
 
--- an item: it has bytes, and only such
+-- an item: it has bytes, and only bytes of items
 pub record IsItem (bs : List ℕ) : Type 0 where
   pub some : 0 < length bs
   pub bytes : All IsItemByte bs
@@ -52,7 +52,7 @@ module _ {A : Type 0} (text : A → List ℕ) where
   items-behind (x ∷ xs) items =
       items-first (text x) xs (All-head (λ y. IsItem (text y)) x xs items) (All-tail (λ y. IsItem (text y)) x xs items)
 
-  -- items that are read as what they are the texts of
+  -- the texts of values are read as these values
   pub each-read : (read : List ℕ → Option A) (xs : List A) → All (λ x. read (text x) ≡ Some x) xs → each_read read (map text xs) ≡ Some xs
   each-read read [] reads = refl
   each-read read (x ∷ xs) reads =
@@ -60,7 +60,7 @@ module _ {A : Type 0} (text : A → List ℕ) where
       let rest : each_read read (map text xs) ≡ Some xs = each-read read xs (All-tail (λ y. read (text y) ≡ Some y) x xs reads) in
       rw (first, rest) refl
 
-  -- items that are read as something of what they are the texts of
+  -- the texts of values are read as a function of these values
   pub each-read-as : {B : Type 0} (read : List ℕ → Option B) (value : A → B) (xs : List A) → All (λ x. read (text x) ≡ Some (value x)) xs
       → each_read read (map text xs) ≡ Some (map value xs)
   each-read-as read value [] reads = refl

@@ -31,7 +31,7 @@ use Rattle.rows.proofs.LineTexts.{Says, levels-read, order-read, no_feed-said}
 use Rattle.rows.proofs.OrderBounds.{order-few}
 use Rattle.rows.proofs.RowLines.{row-read}
 
--- the three lines of a case say its levels, its order and its row
+-- the three lines of a case are read as its levels, its order and its row
 record CaseSays (limits : LimitsOf) (c : Case) : Type 0 where
   pub levels : Says (levels_line (layout_of_case limits c).levels) (LevelsAre (layout_of_case limits c).levels)
   pub order : Says (order_line (all_orders (layout_of_case limits c))) (OrderIs (all_orders (layout_of_case limits c)))
@@ -50,12 +50,12 @@ case-says limits c deep is =
       row = row-read c.text c.direction is;
     }
 
--- what a case claims
+-- the expected levels and order of a case
 abbrev claim_of_case : LimitsOf → Case → Claim
 claim_of_case limits c =
     claim_under (units_of c.text) (c.direction ∷ []) (layout_of_case limits c).levels (all_orders (layout_of_case limits c))
 
--- what the lines of a case come to
+-- the findings of the lines of a case
 abbrev findings_of : LimitsOf → Case → List Finding
 findings_of limits c = Silent ∷ Silent ∷ Row (claim_of_case limits c) ∷ []
 
@@ -115,7 +115,7 @@ classes-yes limits cases deep rows =
     rw (lines, no-no limits cases 0, count-rows limits cases, count-cases limits cases) refl
 
 module _ (tables : Bor TablesOf) (limits : LimitsOf) where
-  -- the claims of cases whose rows say them
+  -- the expected levels and orders of cases, as their rows have them
   abbrev row-findings : (cases : List Case) → All (SaysCase tables limits) cases → List Finding
   row-findings [] says = []
   row-findings (c ∷ cases) says =

@@ -30,7 +30,7 @@ use Rattle.rows.proofs.Items.{all-of-every}
 abbrev pub IsLevel : Option ℕ → Type 0
 IsLevel level = IfSome level (λ n. n ≤ 126)
 
--- what stands beside a position is at most 126
+-- the level of a position is at most 126
 abbrev IsLow : ℕ × ℕ → Type 0
 IsLow found = found.1 ≤ 126
 
@@ -55,7 +55,7 @@ low-zip (p ∷ ps) level [] within = All-nil IsLow
 low-zip (p ∷ ps) level (c ∷ cs) within =
     All-cons IsLow (p, implicit_level level c) (zip ps (map (implicit_level level) cs)) (raised level c within) (low-zip ps level cs within)
 
--- what all pieces hold, the joined list holds
+-- what is true of all elements of each piece is true of all elements of the joined list
 module _ {A B : Type 0} (P : B → Type 0) (f : A → List B) where
   pub All-flat_map : (xs : List A) → All (λ x. All P (f x)) xs → All P (flat_map f xs)
   All-flat_map [] each = All-nil P
@@ -74,7 +74,7 @@ level-or : (o : Option ℕ) (base : ℕ) → IfSome o (λ l. l ≤ 125) → base
 level-or None base h low = omega arith
 level-or (Some l) base h low = h
 
--- X10: the level of a sequence
+-- X10: the level of a sequence is at most 125
 abbrev IsShallow : SequenceView → Type 0
 IsShallow s = s.level ≤ 125
 

@@ -1,4 +1,4 @@
--- Lines of a text: those that have a character, and that none is too long for a row.
+-- Lines of a text: which have a character, and that none is too long for a row.
 use Rattle.std.proofs.Common.{◌≡◌, ℕ, ◌+◌, ◌<◌, ◌≤◌, Bool, true, false, Option, Some, None, cond, List, [], ◌∷◌, length, map, refl, ap, subst, arith}
 use Rattle.std.specs.Prelude.{filter}
 use Rattle.std.specs.Borrow.{Bor}
@@ -12,11 +12,11 @@ use Rattle.rows.specs.RowTexts.{IsRowText, longest_row}
 use Rattle.rows.specs.TextLines.{is_long, kind_of, letter_named}
 use Rattle.rows.specs.declared.naming.Naming.{Naming}
 
--- the lines that are to come, where this is left of a text
+-- the lines of the rest of a text
 abbrev pub lines_left : Option (Bor (List ℕ)) → List (List ℕ)
 lines_left left = pieces_behind 10 left
 
--- how much that is: its characters and one more, while a line is to come
+-- the size of the rest: its number of characters plus one, or 0 if no line remains
 abbrev pub size_left : Option (Bor (List ℕ)) → ℕ
 size_left None = 0
 size_left (Some rest) = length rest.now + 1
@@ -47,13 +47,13 @@ pub empty-line : (line : List ℕ) (lines more : List (List ℕ)) → lines ≡ 
 empty-line [] lines more e none = ap (filter has_some) e
 empty-line (code ∷ line) lines more e none = absurd (omega (arith, none))
 
--- the first of the lines that are to come is short, and so are the others
+-- the first of the remaining lines is short, and so are the others
 pub short-first : (line : List ℕ) (lines more : List (List ℕ)) → lines ≡ line ∷ more → All IsShort lines → IsShort line × All IsShort more
 short-first line lines more e short =
     let both : All IsShort (line ∷ more) = subst (All IsShort) e short in
     (All-head IsShort line more both, All-tail IsShort line more both)
 
--- what was printed by then is that of the lines before the same ones
+-- what was printed is what comes before an equal rest
 pub same-passed : (text : List ℕ → List ℕ) (old new : Option (List ℕ)) (whole rest others : List (List ℕ)) → rest ≡ others
     → HasPrintedUpTo old new text whole rest → HasPrintedUpTo old new text whole others
 same-passed text old new whole rest others e passed = subst (HasPrintedUpTo old new text whole) e passed

@@ -17,7 +17,7 @@ use Rattle.rows.proofs.Items.{IsItem, IsItemByte, no-blank, all-tested, items-be
 use Rattle.rows.proofs.ItemTexts.{level-item, level-few, level-read, position-item, position-few, position-read}
 use Rattle.rows.proofs.LevelBounds.{IsLevel}
 
--- a byte of a field: neither `#` nor `;`, nor one below all that are printed
+-- a byte of a field: it is printable, and neither `#` nor `;`
 pub record IsFieldByte (b : ℕ) : Type 0 where
   pub printed : 32 ≤ b
   pub comment : b ≢ 35
@@ -34,7 +34,7 @@ field-item b item = record { printed = omega (arith, item.above); comment = λ e
 pub line-field : (b : ℕ) → IsFieldByte b → IsLineByte b
 line-field b field = record { printed = field.printed; comment = field.comment }
 
--- what ends with no blank
+-- bytes that do not end with a blank
 pub record EndsPlain (bs : List ℕ) : Type 0 where
   pub some : 0 < length bs
   pub last : is_blank (get_or bs (length bs - 1) 0) ≡ false
@@ -76,7 +76,7 @@ module _ {A : Type 0} (text : A → List ℕ) where
       let rest = length-behind most xs (All-tail (λ y. length (text y) ≤ most) x xs few) in
       omega (arith, length-append (32 ∷ text x) (behind_blanks text xs))
 
--- a line that says what it holds
+-- a line that is read without a change: it has only bytes of lines, no blank at its ends, and is not too long
 pub record IsSaidBy (line : List ℕ) : Type 0 where
   pub bytes : All IsLineByte line
   pub ends : HasNoBlankEnds line
@@ -91,7 +91,7 @@ whole-line line said =
     let short : nat_lt longest_line (length line) ≡ false = let s = said.short in grind (arith, nat_tests) in
     rw short (ap (classes_content bit_set) (content-whole line (All-weaker IsLineByte (λ b. b ≢ 35) (λ b h. h.comment) line said.bytes) said.ends))
 
--- behind the name of a directive
+-- after the name of a directive
 module _ {A : Type 0} (text : A → List ℕ) where
   said-behind : (w : List ℕ) (xs : List A) (most : ℕ) → 0 < length w → is_blank (get_or w 0 0) ≡ false → EndsPlain w → All IsFieldByte w → length w ≤ 10 → most ≤ 4
       → length xs ≤ 4096 → All (λ x. IsItem (text x)) xs → All (λ x. length (text x) ≤ most) xs → IsSaidBy (w ++ behind_blanks text xs)
@@ -129,7 +129,7 @@ order-said order within fits =
     (All-weaker (λ p. p < 4096) (λ p. IsItem (decimal p)) position-item order within)
     (All-weaker (λ p. p < 4096) (λ p. length (decimal p) ≤ 4) position-few order within)
 
--- a line that says no more than it is read as
+-- a line that is read as exactly this
 pub record Says (line : List ℕ) (said : ClassesLine) : Type 0 where
   pub by : IsSaidBy line
   pub read : classes_line line ≡ said

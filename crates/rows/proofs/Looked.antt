@@ -5,7 +5,7 @@ use Rattle.std.proofs.lemmas.List.{map_more}
 use Rattle.std.proofs.lemmas.List.Elements.{All-nil, All-cons, All-append}
 use Rattle.rows.specs.declared.letter.Letter.{Letter}
 
--- the letters of the first items, each of which is so
+-- the letters of the first `done` items, each of which meets `Is`
 pub record AreLettersSoFar {A : Type 0} (Is : Letter → Type 0) (letter : A → Letter) (items : List A) (done : ℕ) (letters : List Letter) : Type 0 where
   pub are : letters ≡ map letter (take done items)
   pub each : All Is letters

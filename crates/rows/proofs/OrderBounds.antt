@@ -36,7 +36,7 @@ length-line_order : (levels : List (Option ℕ)) (start end : ℕ) → length (l
 unfolding line_order
 length-line_order levels start end = length-order_from levels start (end - start)
 
--- positions of a text of this length, and at most so many
+-- positions of a text of this length, at most `most` of them
 pub record AreFewPlaces (len most : ℕ) (order : List ℕ) : Type 0 where
   pub few : length order ≤ most
   pub places : All (λ p. p < len) order

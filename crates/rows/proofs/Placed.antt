@@ -1,4 +1,4 @@
--- Positions that are written line by line, a blank between each two.
+-- Positions that are written line by line, with a blank between each two.
 use Rattle.std.proofs.Common.{◌≡◌, ℕ, Bool, true, false, Option, List, [], ◌∷◌, ◌++◌, refl, sym, ap, ◌∙◌, append-nil, append_assoc}
 use Rattle.std.specs.Prelude.{◌||◌, codes}
 use Rattle.std.specs.Io.KnownBytes.{Appends}
@@ -22,7 +22,7 @@ module _ {A : Type 0} (text : A → List ℕ) where
   none-left true = refl
   none-left false = refl
 
-  -- known bytes grew by some of the items, and these are left
+  -- known bytes grew by some of the items, and the others remain
   pub record HasBegun (old new : Option (List ℕ)) (begun : Bool) (whole rest : List A) : Type 0 where
     pub bytes : List ℕ
     pub grown : Appends old new bytes

@@ -39,7 +39,7 @@ no-word (d ∷ ds) b above digits =
     let high : d ≤ 57 = grind (arith, nat_tests) in
     rw (ne_eqb d b (λ e. omega arith)) refl
 
--- no number is such a letter
+-- no number is read as a letter
 pub decimal-no_word : (n b : ℕ) → 57 < b → n < 2 ^ 64 → bytes_eq (decimal n) (b ∷ []) ≡ false
 decimal-no_word n b above small = no-word (decimal n) b above (digits_decimal own n small)
 

@@ -1,4 +1,4 @@
--- Rooms that stay as large as they were.
+-- Capacity that is unchanged.
 use Rattle.std.proofs.Common.{refl, ◌∙◌}
 use Rattle.rows.specs.Rooms.{KeepsRowRoom}
 use Rattle.rows.specs.declared.room.RowRoom.{RowRoom}

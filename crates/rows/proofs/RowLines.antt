@@ -26,7 +26,7 @@ is-line-byte b test =
     let comment : b ≢ 35 = λ e. grind (arith, nat_tests) in
     record { printed = low; comment = comment }
 
--- what stands behind the names of a row, and how it is read
+-- the text after the names of a row, and how it is read
 record IsBits (direction : Direction) : Type 0 where
   pub read : bit_set (bit_text direction) ≡ Some (direction ∷ [])
   pub trim : trimmed (32 ∷ bit_text direction) ≡ bit_text direction

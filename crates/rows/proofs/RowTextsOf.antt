@@ -1,4 +1,4 @@
--- Each text over an alphabet, enumerated or drawn, is one that a row can have; and what the judge says of such texts.
+-- Each text over an alphabet, enumerated or drawn, is one that a row can have; and the judge's verdict on such texts.
 use Rattle.std.proofs.Common.{◌≡◌, ℕ, ◌+◌, ◌-◌, ◌/◌, ◌%◌, ◌^◌, ◌<◌, ◌≤◌, List, length, map, get_or, ◌∙◌, arith}
 use Rattle.std.specs.List.{All}
 use Rattle.std.proofs.Math.Nat.{mod-lt, pow-le-pow_right}
@@ -31,7 +31,7 @@ module _ (kind : Kind) where
   abbrev IsRow : Case → Type 0
   IsRow c = IsRowText kind c.text
 
-  -- whichever letter stands at each place
+  -- for arbitrary letters at the places
   is-row_text : (letter : ℕ → Letter) (len : ℕ) → ((place : ℕ) → IsLetterOf kind (letter place)) → 0 < len → len ≤ longest_row
       → IsRowText kind (map letter (positions_from 0 len))
   is-row_text letter len each some short =
@@ -65,7 +65,7 @@ module _ (kind : Kind) where
       (is-row_text (letter_in_text alphabet len number) len
       (λ place. are (number / block alphabet (len - 1 - place) % length alphabet) no_letter (mod-lt (number / block alphabet (len - 1 - place)) letters)) some short))
 
--- numbers of 64 bits count the texts of each length
+-- 64 bits are enough to count the texts of each length
 pub few-of-length : (e : ExhaustiveOf) (len : ℕ) → CanBeCounted e → len ≤ e.greatest → length e.alphabet ^ len < 2 ^ 64
 few-of-length e len counted le =
     let some : 1 ≤ length e.alphabet = omega (arith, counted.letters) in
@@ -78,7 +78,7 @@ rows-right kind e directions counted are =
     (rows-between kind (cases_of_length e.alphabet directions) e.least (e.greatest + 1)
     (λ len ge lt. rows-of-length kind e.alphabet directions len counted.letters are (omega (arith, counted.some)) (omega (arith, counted.short))))
 
--- a length that is drawn lies between the least and the greatest
+-- a drawn length is between the least and the greatest
 length_drawn-between : (r : RandomOf) (number : ℕ) → CanBeDrawn r → r.least ≤ length_drawn r number × length_drawn r number ≤ r.greatest
 length_drawn-between r number can =
     let word = (pcg32 (generator_of r.seed number)).0 in
@@ -97,7 +97,7 @@ drawn-right kind r directions can are =
     (λ place. are (word_behind g place % length r.alphabet) no_letter (mod-lt (word_behind g place) can.letters))
     (omega (arith, can.some, within.0)) (omega (arith, can.short, within.1)))))
 
--- the lines of a text, each of which as letters is a text of a row
+-- the lines of a text, if the letters of each are a text of a row
 pub lines-right : (naming : Naming) (directions : List Direction) (text : List ℕ) → All (IsRowLine naming) (row_lines text)
     → JudgeSaysYes standard (kind_of naming) (cases_of_text naming directions text)
 lines-right naming directions text are =

@@ -15,7 +15,7 @@ pub record ExhaustiveOf : Type 0 where
   pub least : ℕ
   pub greatest : ℕ
 
--- there is a letter, each text has one, none is too long, and numbers of 64 bits count those of each length
+-- there is a letter, no text is empty or too long, and 64 bits are enough to count the texts of each length
 pub record CanBeCounted (e : ExhaustiveOf) : Type 0 where
   pub letters : 0 < length e.alphabet
   pub some : 0 < e.least
@@ -31,12 +31,12 @@ refusal_of e =
     else if nat_lt (length e.alphabet ^ e.greatest) (2 ^ 64) then None
     else Some TooMany
 
--- how many texts stand side by side in the enumeration that differ only in the last places, so many of them
+-- the number of consecutive texts in the enumeration that differ only in this many last places
 abbrev pub block : List Letter → ℕ → ℕ
 block alphabet places = length alphabet ^ places
 
--- the letter at a place of the text of this length with this number: a block of the texts that have one letter there
--- is followed by the block of the next letter of the alphabet, and the last one by the first
+-- the letter at a place of the text of this length with this number: after the block of texts with one letter there
+-- comes the block of the next letter of the alphabet, and after that of the last letter comes that of the first
 abbrev pub letter_in_text : List Letter → ℕ → ℕ → ℕ → Letter
 letter_in_text alphabet len number place =
     slice_index_or alphabet (number / block alphabet (len - 1 - place) % length alphabet) no_letter

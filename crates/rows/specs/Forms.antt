@@ -1,12 +1,12 @@
--- The forms of hard texts, and the letters of which the texts of each form are drawn. A letter that stands twice is drawn
--- twice as often.
+-- The forms of hard texts, and the letters from which the texts of each form are drawn. A letter that is in a list
+-- twice is drawn twice as often.
 use Rattle.std.specs.Prelude.{ℕ, List, [], ◌∷◌}
 use Rattle.units.specs.declared.class.Class.{Class}
 use Rattle.units.specs.declared.class.Class.TheVariants.{L, R, AL, EN, ES, ET, AN, CS, NSM, BN, B, S, WS, ON, LRE, RLE, LRO, RLO, PDF, LRI, RLI, FSI, PDI}
 use Rattle.rows.specs.declared.form.Form.{Form}
 use Rattle.rows.specs.declared.form.Form.TheVariants.{Nest, Brackets, Marks, Numbers, Isolates, Separators}
 
--- the classes of a form; a class says no bracket
+-- the classes of a form; classes carry no brackets
 abbrev pub form_classes : Form → List Class
 form_classes Nest =
     LRE ∷ RLE ∷ LRO ∷ RLO ∷ LRE ∷ RLE ∷ LRI ∷ RLI ∷ FSI ∷ LRI ∷ RLI ∷ PDF ∷ PDF ∷ PDI ∷ PDI ∷ L ∷ R ∷ AL ∷ EN ∷ AN ∷

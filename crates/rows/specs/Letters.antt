@@ -1,4 +1,4 @@
--- The letters of which the texts of rows are made: classes by themselves, or characters with what tables know of them.
+-- The letters of the texts of rows: only classes, or characters with their units from tables.
 use Rattle.std.specs.Prelude.{◌≡◌, ℕ, List, map}
 use Rattle.std.specs.Char.{IsScalar}
 use Rattle.units.specs.ClassNames.{short_name}
@@ -12,20 +12,20 @@ use Rattle.bidtests.specs.declared.kind.Kind.TheVariants.{Classes, Characters}
 use Rattle.rows.specs.declared.letter.Letter.{Letter}
 use Rattle.rows.specs.declared.letter.Letter.TheVariants as letter
 
--- what stands where there is no letter
+-- the letter at an index that is out of range
 abbrev pub no_letter : Letter
 no_letter = letter.Class L
 
--- a character with what the tables know of it
+-- a character with its unit from the tables
 abbrev pub letter_by : TablesOf → ℕ → Letter
 letter_by tables code = letter.Character code (unit_by tables code)
 
--- what the algorithm knows of a letter
+-- the unit of a letter
 abbrev pub unit_of : Letter → BidiUnit
 unit_of (letter.Class class) = unit_of_class class
 unit_of (letter.Character code unit) = unit
 
--- what the algorithm knows of a text
+-- the units of a text
 abbrev pub units_of : List Letter → List BidiUnit
 units_of text = map unit_of text
 
@@ -34,18 +34,18 @@ abbrev pub letter_name : Letter → List ℕ
 letter_name (letter.Class class) = short_name class
 letter_name (letter.Character code unit) = code_text code
 
--- a class by itself
+-- the letter is only a class
 abbrev pub IsClass : Letter → Type 0
 IsClass (letter.Class class) = Unit {0}
 IsClass (letter.Character code unit) = ⊥
 
--- a character with what these tables know of it
+-- the letter is a character with its unit from these tables
 abbrev pub IsCharacterBy : TablesOf → Letter → Type 0
 IsCharacterBy tables (letter.Class class) = ⊥
 IsCharacterBy tables (letter.Character code unit) = IsScalar code × (unit ≡ unit_by tables code)
 
--- a letter that a row of this kind can have: in a file of classes a class, in one of characters a character with what
--- the file's tables know of it
+-- the letter can be in a row of this kind: a class in a file of classes, or a character with its unit from the file's
+-- tables in a file of characters
 abbrev pub IsLetterOf : Kind → Letter → Type 0
 IsLetterOf Classes l = IsClass l
 IsLetterOf (Characters tables) l = IsCharacterBy tables.now l

@@ -1,8 +1,8 @@
--- Items that are written part by part, a blank between each two.
+-- Items that are written part by part, with a blank between each two.
 use Rattle.std.specs.Prelude.{ℕ, Bool, true, false, List, [], ◌∷◌}
 use Rattle.rows.specs.RowTexts.{behind_blanks, between_blanks}
 
--- a part of the items: behind a blank where earlier ones have begun
+-- a part of the items: each after a blank if earlier items were written, or else with a blank between each two
 abbrev pub behind_or_between : {A : Type 0} → Bool → (A → List ℕ) → List A → List ℕ
 behind_or_between true text items = behind_blanks text items
 behind_or_between false text items = between_blanks text items

@@ -1,4 +1,4 @@
--- Texts drawn from an alphabet: the same for the same seed, whatever runs the program.
+-- Texts drawn from an alphabet: the same for the same seed, on each machine.
 use Rattle.std.specs.Prelude.{Option, Some, None, ℕ, ◌+◌, ◌-◌, ◌%◌, ◌<◌, ◌≤◌, ◌==◌, nat_lt, if◌then◌else◌, List, length, map, slice_index_or}
 use Rattle.rand_pcg.specs.Lcg.{Lcg, advance, increment_of, started}
 use Rattle.rand_pcg.specs.Pcg.{multiplier_64, pcg32}
@@ -11,7 +11,7 @@ use Rattle.rows.specs.Exhaustive.{cases_between, under_each}
 use Rattle.rows.specs.declared.fault.RowsFault.{RowsFault}
 use Rattle.rows.specs.declared.fault.RowsFault.TheVariants.{NoLetter, NoLength, TooLong, NoneBetween}
 
--- so many texts, drawn by this seed from an alphabet, none shorter than the least length or longer than the greatest
+-- `count` texts, drawn with this seed from an alphabet, none shorter than the least length or longer than the greatest
 pub record RandomOf : Type 0 where
   pub alphabet : List Letter
   pub least : ℕ
@@ -19,7 +19,7 @@ pub record RandomOf : Type 0 where
   pub seed : ℕ
   pub count : ℕ
 
--- there is a letter, each text has one, none is too long, and there is a length to draw
+-- there is a letter, no text is empty or too long, and there is a length to draw
 pub record CanBeDrawn (r : RandomOf) : Type 0 where
   pub letters : 0 < length r.alphabet
   pub some : 0 < r.least
@@ -35,11 +35,11 @@ no_drawing_of r =
     else if nat_lt r.greatest r.least then Some NoneBetween
     else None
 
--- each text has a generator of its own, PCG32: the seed is its state, and the text's number its stream
+-- each text has its own generator, PCG32: the seed is its state, and the text's number is its stream
 abbrev pub generator_of : ℕ → ℕ → Lcg
 generator_of seed number = started 64 multiplier_64 seed (increment_of 64 number)
 
--- the word of 32 bits that a generator gives behind so many others
+-- the word of 32 bits that a generator gives after this many others
 abbrev pub word_behind : Lcg → ℕ → ℕ
 word_behind g words = (pcg32 (advance 64 multiplier_64 words g)).0
 
@@ -55,11 +55,11 @@ text_drawn alphabet g len = map (λ place. letter_drawn alphabet (word_behind g 
 abbrev pub length_drawn : RandomOf → ℕ → ℕ
 length_drawn r number = r.least + (pcg32 (generator_of r.seed number)).0 % (r.greatest - r.least + 1)
 
--- the text of this number: its letters are drawn behind its length
+-- the text with this number: its letters are drawn after its length
 abbrev pub text_of_draw : RandomOf → ℕ → List Letter
 text_of_draw r number = text_drawn r.alphabet (pcg32 (generator_of r.seed number)).1 (length_drawn r number)
 
--- the cases of the text of this number
+-- the cases of the text with this number
 abbrev pub cases_of_draw : RandomOf → List Direction → ℕ → List Case
 cases_of_draw r directions number = under_each directions (text_of_draw r number)
 

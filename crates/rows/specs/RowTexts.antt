@@ -1,5 +1,5 @@
--- Rows in the forms of BidiTest.txt and BidiCharacterTest.txt, as bytes: a text of letters with the levels and the order
--- of its layout.
+-- Rows in the forms of BidiTest.txt and BidiCharacterTest.txt, as bytes: a text of letters with the levels and the
+-- order of its layout.
 use Rattle.std.specs.Prelude.{Option, ℕ, ◌<◌, ◌≤◌, List, [], ◌∷◌, ◌++◌, codes, length}
 use Rattle.std.specs.List.{All, flat_map}
 use Rattle.std.specs.Fmt.{decimal}
@@ -19,16 +19,16 @@ pub record Case : Type 0 where
   pub text : List Letter
   pub direction : Direction
 
--- each item behind a blank
+-- each item after a blank
 abbrev pub behind_blanks : {A : Type 0} → (A → List ℕ) → List A → List ℕ
 behind_blanks text items = flat_map (λ item. codes " " ++ text item) items
 
--- the items, a blank between each two
+-- the items, with a blank between each two
 abbrev pub between_blanks : {A : Type 0} → (A → List ℕ) → List A → List ℕ
 between_blanks text [] = []
 between_blanks text (item ∷ items) = text item ++ behind_blanks text items
 
--- the line of the levels, `x` where a position is removed
+-- the line of the levels, with `x` for each removed position
 abbrev pub levels_line : List (Option ℕ) → List ℕ
 levels_line levels = codes "@Levels:" ++ behind_blanks level_text levels
 
@@ -54,12 +54,12 @@ direction_text Rtl = codes "1"
 direction_text Auto = codes "2"
 direction_text AutoRtl = codes "3"
 
--- the level of the first paragraph, where there is one
+-- the level of the first paragraph if there is one
 abbrev pub para_text : List ℕ → List ℕ
 para_text [] = []
 para_text (para ∷ paras) = decimal para
 
--- the fields, a semicolon between each two
+-- the fields, with a semicolon between each two
 abbrev pub in_fields : List (List ℕ) → List ℕ
 in_fields [] = []
 in_fields (field ∷ []) = field
@@ -72,8 +72,8 @@ fields_with_layout layout c =
     between_blanks letter_name c.text ∷ direction_text c.direction ∷ para_text layout.paras ∷ between_blanks level_text layout.levels
     ∷ between_blanks decimal (all_orders layout) ∷ []
 
--- the lines of a case with this layout: in a file of classes its levels, its order, and its row; in one of characters
--- its row, which says all
+-- the lines of a case with this layout: in a file of classes its levels, its order and its row; in a file of characters
+-- its row, which contains all of them
 abbrev pub lines_with_layout : Kind → TextLayout → Case → List (List ℕ)
 lines_with_layout Classes layout c =
     levels_line layout.levels ∷ order_line (all_orders layout) ∷ row_line c.text c.direction ∷ []
@@ -95,11 +95,11 @@ lines_of_cases limits kind cases = flat_map (case_lines limits kind) cases
 abbrev pub cases_text : LimitsOf → Kind → List Case → List ℕ
 cases_text limits kind cases = flat_map ended (lines_of_cases limits kind cases)
 
--- the longest text of a row, with which no line is longer than a judge takes
+-- the longest text of a row; no line of such a text is longer than the judge reads
 abbrev pub longest_row : ℕ
 longest_row = 4095
 
--- a text that a row of this kind can have: one of its letters, neither empty nor too long
+-- a text that a row of this kind can have: it has letters of this kind, and is neither empty nor too long
 pub record IsRowText (kind : Kind) (text : List Letter) : Type 0 where
   pub some : 0 < length text
   pub fits : length text ≤ longest_row

@@ -1,4 +1,4 @@
--- Rows of a text: each of its lines is one, by the classes or the code points of its characters.
+-- Rows of a text: each line becomes a row, with the classes or the code points of its characters.
 use Rattle.std.specs.Prelude.{Bool, Option, ℕ, nat_lt, List, length, map, filter}
 use Rattle.std.specs.List.{flat_map, position_from}
 use Rattle.units.specs.Text.{cut_at}
@@ -15,7 +15,7 @@ use Rattle.rows.specs.declared.letter.Letter.TheVariants as letter
 use Rattle.rows.specs.declared.naming.Naming.{Naming}
 use Rattle.rows.specs.declared.naming.Naming.TheVariants.{Classes, Codes}
 
--- the kind of a file whose rows name characters so
+-- the kind of a file whose rows name characters in this way
 abbrev pub kind_of : Naming → Kind
 kind_of (Classes tables) = kind.Classes
 kind_of (Codes tables) = kind.Characters tables
@@ -29,7 +29,7 @@ letter_named (Codes tables) code = letter_by tables.now code
 abbrev pub text_lines : List ℕ → List (List ℕ)
 text_lines text = cut_at 10 text
 
--- those that have a character
+-- the lines that have a character
 abbrev pub row_lines : List ℕ → List (List ℕ)
 row_lines text = filter has_some (text_lines text)
 

@@ -1,4 +1,4 @@
-//! The lines of a case in a file of classes, by its layout.
+//! The lines of a case in a file of classes, from its layout.
 ghost use Rattle.std.specs.Prelude.{◌≡◌, OnOk};
 ghost use Rattle.std.specs.Fmt.{decimal};
 ghost use Rattle.std.specs.Io.KnownBytes.{Appends};
@@ -18,21 +18,21 @@ use std::io;
 use std::io::Write;
 use units::level::{Direction, Level};
 
-/// Writes each level behind a blank.
+/// Writes each level after a blank.
 pub fn print_levels<W: Write>(w: &mut W, levels: &[Option<Level>]) -> io::Result<()>
     ensures { OnOk result (Appends (W.contents w.old) (W.contents w.new) (behind_blanks level_text levels.now)) }
 {
     print_behind_blanks(w, levels)
 }
 
-/// Writes each position behind a blank.
+/// Writes each position after a blank.
 pub fn print_positions<W: Write>(w: &mut W, order: &[usize]) -> io::Result<()>
     ensures { OnOk result (Appends (W.contents w.old) (W.contents w.new) (behind_blanks decimal order.now)) }
 {
     print_behind_blanks(w, order)
 }
 
-/// Writes the orders of all lines, one behind another.
+/// Writes the orders of all lines, one after another.
 pub fn print_orders<W: Write>(w: &mut W, layout: &Layout<'_>) -> io::Result<()>
     ensures { OnOk result (Appends (W.contents w.old) (W.contents w.new)
         (behind_blanks decimal (all_orders (view_of layout.now)))) }
@@ -43,14 +43,14 @@ pub fn print_orders<W: Write>(w: &mut W, layout: &Layout<'_>) -> io::Result<()>
     Ok(())
 }
 
-/// Writes the names of a text's letters, a blank between each two.
+/// Writes the names of a text's letters, with a blank between each two.
 pub fn print_names<W: Write>(w: &mut W, text: &[Letter]) -> io::Result<()>
     ensures { OnOk result (Appends (W.contents w.old) (W.contents w.new) (between_blanks letter_name text.now)) }
 {
     print_between_blanks(w, text)
 }
 
-/// The bit that names a direction.
+/// Returns the bit that a row of classes has for a direction.
 fn bit_of(direction: Direction) -> &'static [u8]
     ensures { result.now ≡ bit_text direction }
 {
@@ -88,7 +88,7 @@ fn print_row_line<W: Write>(w: &mut W, text: &[Letter], direction: Direction) ->
     w.write_all(b"\n")
 }
 
-/// Writes the lines of a text under a direction, of which this is the layout: its levels, its order, and its row.
+/// Writes the lines of a text under a direction: its levels, its order, and its row. `layout` is its layout.
 pub fn print_class_case<W: Write>(
     w: &mut W,
     text: &[Letter],

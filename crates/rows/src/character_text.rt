@@ -1,4 +1,4 @@
-// The row of a case in a file of characters, by its layout.
+// The row of a case in a file of characters, from its layout.
 ghost use Rattle.std.specs.Prelude.{◌≡◌, ◌||◌, ◌∷◌, [], OnOk};
 ghost use Rattle.std.specs.Fmt.{decimal};
 ghost use Rattle.std.specs.Io.KnownBytes.{Appends};
@@ -18,7 +18,7 @@ use std::io;
 use std::io::Write;
 use units::level::{Direction, Level, ParaLevel};
 
-/// The number that names a direction.
+/// Returns the number that a row of characters has for a direction.
 fn number_of(direction: Direction) -> &'static [u8]
     ensures { result.now ≡ direction_text direction }
 {
@@ -30,7 +30,7 @@ fn number_of(direction: Direction) -> &'static [u8]
     }
 }
 
-/// The number of a paragraph's level.
+/// Returns a paragraph's level in digits.
 fn number_of_para(level: ParaLevel) -> &'static [u8]
     ensures { result.now ≡ decimal (level_of_para level) }
 {
@@ -40,7 +40,7 @@ fn number_of_para(level: ParaLevel) -> &'static [u8]
     }
 }
 
-/// Writes the level of the first paragraph, where there is one.
+/// Writes the level of the first paragraph if there is one.
 fn print_para<W: Write>(w: &mut W, layout: &Layout<'_>) -> io::Result<()>
     ensures { OnOk result (Appends (W.contents w.old) (W.contents w.new) (para_text (view_of layout.now).paras)) }
 {
@@ -50,14 +50,14 @@ fn print_para<W: Write>(w: &mut W, layout: &Layout<'_>) -> io::Result<()>
     }
 }
 
-/// Writes the levels, a blank between each two.
+/// Writes the levels, with a blank between each two.
 fn print_levels_between<W: Write>(w: &mut W, levels: &[Option<Level>]) -> io::Result<()>
     ensures { OnOk result (Appends (W.contents w.old) (W.contents w.new) (between_blanks level_text levels.now)) }
 {
     print_between_blanks(w, levels)
 }
 
-/// Writes the positions of a line, the first of them behind a blank where others have begun.
+/// Writes the positions of a line, with a blank between each two, and a blank before the first if `begun` is true.
 fn print_line_positions<W: Write>(w: &mut W, order: &[usize], begun: bool) -> io::Result<()>
     ensures { OnOk result (Appends (W.contents w.old) (W.contents w.new) (behind_or_between begun decimal order.now)) }
 {
@@ -68,14 +68,14 @@ fn print_line_positions<W: Write>(w: &mut W, order: &[usize], begun: bool) -> io
     }
 }
 
-/// Whether a position was written, behind those of a line.
+/// Returns whether a position is written after this line: `begun` says whether one was written before it.
 fn has_begun(begun: bool, order: &[usize]) -> bool
     ensures { result ≡ (begun || has_some order.now) }
 {
     begun || !order.is_empty()
 }
 
-/// Writes the orders of all lines, one behind another, a blank between each two positions.
+/// Writes the orders of all lines, one after another, with a blank between each two positions.
 fn print_orders_between<W: Write>(w: &mut W, layout: &Layout<'_>) -> io::Result<()>
     ensures { OnOk result (Appends (W.contents w.old) (W.contents w.new)
         (between_blanks decimal (all_orders (view_of layout.now)))) }
@@ -110,7 +110,7 @@ fn print_layout<W: Write>(w: &mut W, layout: &Layout<'_>) -> io::Result<()>
     print_levels_and_order(w, layout)
 }
 
-/// Writes the fields of the row of a text under a direction, of which this is the layout.
+/// Writes the fields of the row of a text under a direction. `layout` is its layout.
 fn print_fields<W: Write>(
     w: &mut W,
     text: &[Letter],
@@ -127,7 +127,7 @@ fn print_fields<W: Write>(
     print_layout(w, layout)
 }
 
-/// Writes the row of a text under a direction, of which this is the layout.
+/// Writes the row of a text under a direction. `layout` is its layout.
 pub fn print_character_case<W: Write>(
     w: &mut W,
     text: &[Letter],

@@ -1,4 +1,4 @@
-// The text with a number, among those that are drawn.
+// The text with a number among the drawn ones.
 ghost use Rattle.std.specs.Prelude.{◌≡◌, ◌≤◌, ◌<◌, length, take};
 ghost use Rattle.rand_pcg.specs.Pcg.{pcg32};
 ghost use Rattle.rows.specs.Random.{letter_drawn, text_drawn, text_of_draw};
@@ -8,7 +8,7 @@ use crate::random::Random;
 use rand_core::utils::NextWord;
 use rand_pcg::Pcg32;
 
-/// The letter that the next word draws.
+/// Draws a letter with the next word of the generator.
 fn draw_letter(alphabet: &[Letter], rng: &mut Pcg32) -> Letter
     requires { 0 < length alphabet.now }
     ensures letter { result ≡ letter_drawn alphabet.now (pcg32 rng.old).0 }
@@ -18,7 +18,7 @@ fn draw_letter(alphabet: &[Letter], rng: &mut Pcg32) -> Letter
     alphabet[word as usize % alphabet.len()]
 }
 
-/// Fills a text with letters that are drawn one after another.
+/// Fills a text with letters, drawn one after another.
 fn draw_letters(alphabet: &[Letter], rng: &mut Pcg32, text: &mut [Letter])
     requires { 0 < length alphabet.now }
     ensures { text.new ≡ text_drawn alphabet.now rng.old (length text.old) }
@@ -28,7 +28,7 @@ fn draw_letters(alphabet: &[Letter], rng: &mut Pcg32, text: &mut [Letter])
     }
 }
 
-/// Draws the text of this number into the front of `row`, and answers its length.
+/// Draws the text with this number into the front of `row`, and returns its length.
 pub fn draw_text(texts: &Random<'_>, number: usize, row: &mut [Letter]) -> usize
     requires { texts.now.greatest ≤ length row.old }
     ensures fits { result ≤ texts.now.greatest }

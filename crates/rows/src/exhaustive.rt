@@ -6,11 +6,12 @@ use crate::fault::RowsFault;
 use crate::letter::Letter;
 use std::marker::Model;
 
-/// The longest text of a row, in units: with it no line is longer than a judge takes.
+/// The longest text of a row, in units. No line of such a text is longer than the judge reads.
 pub const LONGEST_ROW: usize = 4095;
 
-/// All texts over an alphabet from a least length up to a greatest, in units, the shorter ones first; those of one
-/// length in the order of the alphabet, the last place fastest. There are none where the least is above the greatest.
+/// All texts over an alphabet from a least length up to a greatest, in units. Shorter texts come first. Texts of one
+/// length have the order of the alphabet, in which the last place changes fastest. There are no texts if the least
+/// length is above the greatest.
 #[derive(Drop)]
 pub struct Exhaustive<'a> {
     alphabet: &'a [Letter],
@@ -31,8 +32,8 @@ impl<'a> Model for Exhaustive<'a> {
 impl<'a> Exhaustive<'a> {
     ghost use Rattle.rows.specs.Exhaustive.{CanBeCounted, ExhaustiveOf, refusal_of};
 
-    /// The texts of these lengths over this alphabet; a letter that stands there twice is taken twice. Of the faults
-    /// that hold the first is named, in the order in which they are listed.
+    /// Returns the texts of these lengths over this alphabet. Duplicate letters count. Errors are checked in the order
+    /// in which `RowsFault` lists them.
     pub fn new(
         alphabet: &'a [Letter],
         least: usize,
@@ -60,21 +61,21 @@ impl<'a> Exhaustive<'a> {
         }
     }
 
-    /// The alphabet.
+    /// Returns the alphabet.
     pub fn alphabet(&self) -> &[Letter]
         ensures { result.now ≡ self.now.alphabet }
     {
         self.alphabet
     }
 
-    /// The least length, in units.
+    /// Returns the least length, in units.
     pub fn least(&self) -> usize
         ensures { result ≡ self.now.least }
     {
         self.least
     }
 
-    /// The greatest length, in units.
+    /// Returns the greatest length, in units.
     pub fn greatest(&self) -> usize
         ensures value { result ≡ self.now.greatest }
         ensures counted { CanBeCounted self.now }

@@ -7,18 +7,18 @@ use units::class::Class;
 /// A form of hard texts, each with letters of its own.
 #[derive(Clone, Copy, Debug, PartialEq, Eq)]
 pub enum Form {
-    /// Embeddings, overrides and isolates, more opened than closed: long texts pass the greatest depth.
+    /// Embeddings, overrides and isolates. More are opened than closed, so long texts exceed the greatest depth.
     Nest,
-    /// Brackets, those that are canonically equivalent among them, more opened than closed, so that long texts pass the
-    /// most that can be open. A class says no bracket, so these are characters alone.
+    /// Brackets, also canonically equivalent ones. More are opened than closed, so long texts exceed the number of
+    /// brackets that can be open. Classes carry no brackets, so this form has only characters.
     Brackets,
-    /// Marks behind brackets, isolates and overrides.
+    /// Marks after brackets, isolates and overrides.
     Marks,
-    /// Numbers, and what stands between and beside them.
+    /// Numbers, and the characters between and beside them.
     Numbers,
     /// Isolates, some of them closed.
     Isolates,
-    /// Separators of both kinds and white space, also inside of what is opened.
+    /// Separators of both kinds and white space, also inside embeddings and isolates.
     Separators,
 }
 
@@ -279,8 +279,8 @@ const SEPARATORS_CHARACTERS: [char; 20] = [
 ];
 
 impl Form {
-    /// The classes of which texts of this form are drawn; one that stands twice is drawn twice as often. There are none
-    /// for brackets.
+    /// Returns the classes from which texts of this form are drawn. A class that is in the list twice is drawn twice as
+    /// often. There are no classes for brackets.
     pub fn classes(self) -> &'static [Class]
         ensures { result.now ≡ form_classes self }
     {
@@ -294,7 +294,8 @@ impl Form {
         }
     }
 
-    /// The characters of which texts of this form are drawn; one that stands twice is drawn twice as often.
+    /// Returns the characters from which texts of this form are drawn. A character that is in the list twice is drawn
+    /// twice as often.
     pub fn characters(self) -> &'static [char]
         ensures { result.now ≡ form_characters self }
     {

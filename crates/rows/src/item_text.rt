@@ -1,4 +1,4 @@
-//! Items of rows, gathered as text before they are written.
+//! Items of rows, gathered in a buffer before they are written.
 ghost use Rattle.std.specs.Prelude.{◌≡◌, ◌+◌, ◌<◌, ◌≤◌, ◌++◌, ℕ, List, length, take, OnOk};
 ghost use Rattle.std.specs.Fmt.{decimal};
 ghost use Rattle.std.specs.Io.KnownBytes.{Appends};
@@ -19,23 +19,23 @@ use std::io::Write;
 use units::class::Class;
 use units::level::Level;
 
-/// The most digits of a position.
+/// The greatest number of digits of a position.
 const MOST_DIGITS: usize = 20;
 
-/// The most bytes that an item takes with the blank before it.
+/// The greatest number of bytes of an item and the blank before it.
 const MOST_BYTES: usize = MOST_DIGITS + 1;
 
-/// How many bytes are gathered before they are written.
+/// The greatest number of bytes that are gathered before they are written.
 const MOST_GATHERED: usize = 256;
 
-/// Text that is gathered.
+/// The buffer of gathered text.
 type Gathered = ArrayVec<u8, MOST_GATHERED>;
 
 /// An item of a list that is printed.
 pub trait RowItem: Copy {
     ghost text: { Self → List ℕ };
 
-    /// Adds it to text that has room for it.
+    /// Adds the item to a buffer that has space for it.
     fn add(self, to: &mut Gathered)
         requires room { array_vec_len to.old + 20 ≤ 256 }
         ensures text { to.new.items ≡ to.old.items ++ text self }
@@ -141,7 +141,7 @@ impl RowItem for Letter {
     }
 }
 
-/// Adds items, each behind a blank, as far as there is room, and answers how many these are.
+/// Adds items, each after a blank, while there is space. Returns how many items were added.
 fn add_items<T: RowItem>(to: &mut Gathered, items: &[T]) -> usize
     ensures text { to.new.items ≡ to.old.items ++ behind_blanks T.text (take result items.now) }
     ensures count { result ≤ length items.now }
@@ -156,7 +156,7 @@ fn add_items<T: RowItem>(to: &mut Gathered, items: &[T]) -> usize
     count
 }
 
-/// Writes each item behind a blank, many of them by one call of `write`.
+/// Writes each item after a blank. One call of `write` takes many items.
 pub fn print_behind_blanks<W: Write, T: RowItem>(w: &mut W, items: &[T]) -> io::Result<()>
     ensures { OnOk result (Appends (W.contents w.old) (W.contents w.new) (behind_blanks T.text items.now)) }
 {
@@ -171,7 +171,7 @@ pub fn print_behind_blanks<W: Write, T: RowItem>(w: &mut W, items: &[T]) -> io::
     Ok(())
 }
 
-/// Writes the items, a blank between each two.
+/// Writes the items, with a blank between each two.
 pub fn print_between_blanks<W: Write, T: RowItem>(w: &mut W, items: &[T]) -> io::Result<()>
     ensures { OnOk result (Appends (W.contents w.old) (W.contents w.new) (between_blanks T.text items.now)) }
 {

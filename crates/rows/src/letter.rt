@@ -1,4 +1,4 @@
-//! What the texts of rows are made of.
+//! The letters of the texts of rows.
 
 use std::fmt;
 use units::bracket::{Bracket, Unit};
@@ -7,9 +7,9 @@ use units::class::Class;
 /// A letter of a text. A row names it by its class, or by its code point in upper-case hex digits, at least four.
 #[derive(Clone, Copy)]
 pub enum Letter {
-    /// A class by itself, and no bracket: of a file in the form of BidiTest.txt.
+    /// Only a class, without a bracket, for a file in the form of BidiTest.txt.
     Class(Class),
-    /// A character with what tables know of it: of a file in the form of BidiCharacterTest.txt.
+    /// A character with its unit from the tables, for a file in the form of BidiCharacterTest.txt.
     Character { code: char, unit: Unit },
 }
 
@@ -17,7 +17,7 @@ impl Letter {
     ghost use Rattle.std.specs.Prelude.{◌≡◌};
     ghost use Rattle.rows.specs.Letters.{unit_of};
 
-    /// What the algorithm knows of it.
+    /// Returns the unit of the letter.
     pub fn unit(self) -> Unit
         ensures { result ≡ unit_of self }
     {

@@ -1,4 +1,4 @@
-//! The letters of which texts are made.
+//! Classes and characters converted to letters.
 ghost use Rattle.std.specs.Prelude.{◌≡◌, ◌≤◌, ◌++◌, ◌∷◌, [], length, map, take, IfOk, OnOk};
 ghost use Rattle.std.specs.List.{All};
 ghost use Rattle.bidtests.specs.declared.kind.Kind.TheVariants as kind;
@@ -12,7 +12,7 @@ use units::bracket::Unit;
 use units::class::Class;
 use units::memory::Memory;
 
-/// Adds a letter behind the others.
+/// Adds a letter after the others.
 fn add(letters: &mut Vec<Letter>, letter: Letter) -> Result<(), Memory>
     ensures { OnOk result (letters.new.items ≡ letters.old.items ++ letter ∷ []) }
 {
@@ -22,7 +22,7 @@ fn add(letters: &mut Vec<Letter>, letter: Letter) -> Result<(), Memory>
     }
 }
 
-/// These classes as letters, for rows in the form of BidiTest.txt. The error is refused memory.
+/// Returns these classes as letters, for rows in the form of BidiTest.txt. Fails if memory runs out.
 pub fn class_letters(alloc: Global, classes: &[Class]) -> Result<Vec<Letter>, Memory>
     ensures letters { IfOk result (λ letters. letters.items ≡ map letter.Class classes.now) }
     ensures kind { IfOk result (λ letters. All (IsLetterOf kind.Classes) letters.items) }
@@ -34,7 +34,7 @@ pub fn class_letters(alloc: Global, classes: &[Class]) -> Result<Vec<Letter>, Me
     Ok(letters)
 }
 
-/// A character as a letter, with what the tables know of it.
+/// Returns a character as a letter, with its unit from the tables.
 fn letter_of(tables: &Tables, code: char) -> Letter
     ensures letter { result ≡ letter_by tables.now code }
     ensures is { IsCharacterBy tables.now result }
@@ -45,8 +45,8 @@ fn letter_of(tables: &Tables, code: char) -> Letter
     }
 }
 
-/// These characters as letters, with what the tables know of them, for rows in the form of BidiCharacterTest.txt. The
-/// error is refused memory.
+/// Returns these characters as letters, with their units from the tables, for rows in the form of
+/// BidiCharacterTest.txt. Fails if memory runs out.
 pub fn character_letters(
     alloc: Global,
     tables: &Tables,
@@ -62,7 +62,7 @@ pub fn character_letters(
     Ok(letters)
 }
 
-/// Writes what the algorithm knows of each letter of a text.
+/// Writes the unit of each letter of a text.
 fn fill_units(text: &[Letter], units: &mut [Unit])
     requires { length units.old ≡ length text.now }
     ensures { units.new ≡ units_of text.now }
@@ -72,7 +72,7 @@ fn fill_units(text: &[Letter], units: &mut [Unit])
     }
 }
 
-/// Writes what the algorithm knows of each letter of a text to the front of `units`.
+/// Writes the unit of each letter of a text to the front of `units`.
 pub fn fill_front(text: &[Letter], units: &mut [Unit])
     requires { length text.now ≤ length units.old }
     ensures front { take (length text.now) units.new ≡ units_of text.now }

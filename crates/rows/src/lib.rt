@@ -1,5 +1,5 @@
-//! Test files with right answers: hard texts that are enumerated or drawn, or the lines of a text, with what the rules
-//! give of them.
+//! Test files with right answers: hard texts that are enumerated or drawn, or the lines of a text, with the levels and
+//! the order that the rules give.
 #![tactic(auto)]
 
 pub mod case_text;

@@ -7,17 +7,17 @@ use crate::letter::Letter;
 use bidtests::kind::Kind;
 use ucdfiles::tables::Tables;
 
-/// How the rows of a file name the characters of a text, with what these tables know of them.
+/// How the rows of a file name the characters of a text. The tables give the units.
 #[derive(Clone, Copy)]
 pub enum Naming<'t> {
-    /// By their classes, in the form of BidiTest.txt: what brackets they are is lost.
+    /// By their classes, in the form of BidiTest.txt. Brackets are lost.
     Classes(&'t Tables),
     /// By their code points, in the form of BidiCharacterTest.txt.
     Codes(&'t Tables),
 }
 
 impl<'t> Naming<'t> {
-    /// The kind of the file.
+    /// Returns the kind of the file.
     pub fn kind(self) -> Kind<'t>
         ensures { result ≡ kind_of self.entry }
     {
@@ -27,7 +27,7 @@ impl<'t> Naming<'t> {
         }
     }
 
-    /// A character as a letter of a row.
+    /// Returns a character as a letter of a row.
     pub fn letter(self, code: char) -> Letter
         ensures letter { result ≡ letter_named self.entry code }
         ensures kind { IsLetterOf (kind_of self.entry) result }

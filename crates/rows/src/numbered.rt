@@ -1,10 +1,10 @@
-// The text with a number, among all of its length.
+// The text with a number among all texts of its length.
 ghost use Rattle.std.specs.Prelude.{◌≡◌, ◌<◌, length};
 ghost use Rattle.rows.specs.Exhaustive.{text_of_number};
 
 use crate::letter::Letter;
 
-/// Fills a text with the one of its length that has this number, from its last place to its first.
+/// Fills `text` with the text of its length that has this number, from its last place to its first.
 pub fn fill_text(alphabet: &[Letter], number: usize, text: &mut [Letter])
     requires { 0 < length alphabet.now }
     ensures length { length text.new ≡ length text.old }

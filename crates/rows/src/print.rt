@@ -21,7 +21,7 @@ use std::io;
 use std::io::Write;
 use units::level::Direction;
 
-/// Writes the lines of the text that has this number among those as long as `text`, which is filled with it.
+/// Fills `text` with the text that has this number among those of its length, and writes its lines.
 fn print_numbered<W: Write>(
     w: &mut W,
     room: &mut RowRoom,
@@ -67,7 +67,7 @@ fn print_length<W: Write>(
     Ok(())
 }
 
-/// Writes the lines of all texts, by their lengths; `row` is room for the longest.
+/// Writes the lines of all texts, by their lengths. `row` has space for the longest text.
 fn print_lengths<W: Write>(
     w: &mut W,
     room: &mut RowRoom,
@@ -91,11 +91,14 @@ fn print_lengths<W: Write>(
 }
 
 /// Writes a test file of this kind: each of the texts, the shorter ones first, under each of these directions in their
-/// order, with the levels and the order that the rules give by the standard limits (P1 to L2). A text under a direction
-/// is in the form of BidiTest.txt three lines, `@Levels:`, `@Reorder:` and a row that names this direction alone, and
-/// in that of BidiCharacterTest.txt one row. The judge says yes of what is written, if the letters are of this kind.
-/// The memory is that of one text of the greatest length, and is taken before the first write. The fault is `Write`
-/// where the writer fails, when it is not known how much it took, and `Memory` where memory is refused.
+/// order, with the levels and the order that the rules give with the standard limits (P1 to L2).
+///
+/// In the form of BidiTest.txt a text under a direction has three lines: `@Levels:`, `@Reorder:` and a row with only
+/// this direction. In the form of BidiCharacterTest.txt it has one row. The judge says yes to the file if the letters
+/// are of this kind.
+///
+/// The function allocates memory for one text of the greatest length before the first write. Fails with `Write` if the
+/// writer fails; it is then not known how much the writer took. Fails with `Memory` if memory runs out.
 pub fn print_exhaustive<W: Write>(
     alloc: Global,
     w: &mut W,

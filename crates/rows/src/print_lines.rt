@@ -1,4 +1,4 @@
-//! The file of the lines of a text.
+//! The test file of the lines of a text.
 ghost use Rattle.std.specs.Prelude.{◌≡◌, ◌<◌, ◌≤◌, None, length, map, IfErr, OnOk};
 ghost use Rattle.std.specs.Io.KnownBytes.{Appends};
 ghost use Rattle.std.specs.List.{All};
@@ -21,7 +21,7 @@ use std::io;
 use std::io::Write;
 use units::level::Direction;
 
-/// Writes the letters of a line.
+/// Writes the letters of a line into `row`.
 fn fill_letters(naming: Naming<'_>, line: &[char], row: &mut [Letter])
     requires { length row.old ≡ length line.now }
     ensures letters { row.new ≡ map (letter_named naming.entry) line.now }
@@ -32,7 +32,7 @@ fn fill_letters(naming: Naming<'_>, line: &[char], row: &mut [Letter])
     }
 }
 
-/// Writes the lines of the file that a line of the text makes; `row` is room for its letters.
+/// Writes the lines of the file for one line of the text. `row` has space for its letters.
 fn print_line<W: Write>(
     w: &mut W,
     room: &mut RowRoom,
@@ -56,7 +56,7 @@ fn print_line<W: Write>(
     print_text(w, room, naming.kind(), text, directions)
 }
 
-/// Writes the lines of the file that the lines of the text make; `row` is room for the longest.
+/// Writes the lines of the file for all lines of the text. `row` has space for the longest line.
 fn print_each_line<W: Write>(
     w: &mut W,
     room: &mut RowRoom,
@@ -86,11 +86,12 @@ fn print_each_line<W: Write>(
 }
 
 /// Writes a test file of a text: each of its lines that has a character, under each of these directions in their order,
-/// with the levels and the order that the rules give by the standard limits (P1 to L2), in lines as `print_exhaustive`
-/// writes them. A line ends at LF, which is no part of it, and the last one where the text does. The judge says yes of
-/// what is written. The memory is that of a row of `LONGEST_ROW` letters, and is taken before the first write. The
-/// fault is `Write` where the writer fails, when it is not known how much it took, and `Memory` where memory is
-/// refused.
+/// with the levels and the order that the rules give with the standard limits (P1 to L2), in lines as
+/// `print_exhaustive` writes them. A line ends at LF, which is no part of the line. The last line ends with the text.
+/// The judge says yes to the file.
+///
+/// The function allocates memory for a row of `LONGEST_ROW` letters before the first write. Fails with `Write` if the
+/// writer fails; it is then not known how much the writer took. Fails with `Memory` if memory runs out.
 pub fn print_lines<W: Write>(
     alloc: Global,
     w: &mut W,

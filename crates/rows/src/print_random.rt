@@ -1,4 +1,4 @@
-//! The file of texts that are drawn.
+//! The test file of drawn texts.
 ghost use Rattle.std.specs.Prelude.{◌≡◌, ◌≤◌, length, IfErr, OnOk};
 ghost use Rattle.std.specs.Io.KnownBytes.{Appends};
 ghost use Rattle.std.specs.List.{All};
@@ -21,7 +21,7 @@ use std::io;
 use std::io::Write;
 use units::level::Direction;
 
-/// Draws the text of this number into `row` and writes its lines.
+/// Draws the text with this number into `row`, and writes its lines.
 fn print_draw<W: Write>(
     w: &mut W,
     room: &mut RowRoom,
@@ -42,7 +42,7 @@ fn print_draw<W: Write>(
     print_text(w, room, kind, &row[..len], directions)
 }
 
-/// Writes the lines of all texts, by their numbers; `row` is room for the longest.
+/// Writes the lines of all texts, by their numbers. `row` has space for the longest text.
 fn print_draws<W: Write>(
     w: &mut W,
     room: &mut RowRoom,
@@ -63,11 +63,12 @@ fn print_draws<W: Write>(
     Ok(())
 }
 
-/// Writes a test file of this kind: each of the texts that are drawn, by their numbers, under each of these directions
-/// in their order, with the levels and the order that the rules give by the standard limits (P1 to L2), in lines as
-/// `print_exhaustive` writes them. The judge says yes of what is written, if the letters are of this kind. The memory
-/// is that of one text of the greatest length, and is taken before the first write. The fault is `Write` where the
-/// writer fails, when it is not known how much it took, and `Memory` where memory is refused.
+/// Writes a test file of this kind: each of the drawn texts, by their numbers, under each of these directions in their
+/// order, with the levels and the order that the rules give with the standard limits (P1 to L2), in lines as
+/// `print_exhaustive` writes them. The judge says yes to the file if the letters are of this kind.
+///
+/// The function allocates memory for one text of the greatest length before the first write. Fails with `Write` if the
+/// writer fails; it is then not known how much the writer took. Fails with `Memory` if memory runs out.
 pub fn print_random<W: Write>(
     alloc: Global,
     w: &mut W,

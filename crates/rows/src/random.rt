@@ -7,10 +7,10 @@ use crate::fault::RowsFault;
 use crate::letter::Letter;
 use std::marker::Model;
 
-/// Texts drawn from an alphabet by a seed, each of a length from the least up to the greatest, in units. The text of a
-/// number is the same for the same seed, alphabet and lengths, on whatever machine and however many texts there are:
-/// its length and its letters are drawn, one word each, from the PCG32 whose state is the seed and whose stream is the
-/// text's number, counted from 0. A letter that stands twice in the alphabet is drawn twice as often.
+/// Texts drawn from an alphabet with a seed. Their lengths are from the least up to the greatest, in units. The text
+/// with a number is the same for the same seed, alphabet and lengths, on each machine and for each number of texts. Its
+/// length and its letters are drawn, one word each, from the PCG32 generator whose state is the seed and whose stream
+/// is the text's number, counted from 0. A letter that is in the alphabet twice is drawn twice as often.
 #[derive(Drop)]
 pub struct Random<'a> {
     alphabet: &'a [Letter],
@@ -33,8 +33,8 @@ impl<'a> Model for Random<'a> {
 impl<'a> Random<'a> {
     ghost use Rattle.rows.specs.Random.{CanBeDrawn, RandomOf, no_drawing_of};
 
-    /// So many texts of these lengths over this alphabet, by this seed. Of the faults that hold the first is named, in
-    /// the order `NoLetter`, `NoLength`, `TooLong`, `NoneBetween`.
+    /// Returns `count` texts of these lengths over this alphabet, drawn with this seed. Errors are checked in this
+    /// order: `NoLetter`, `NoLength`, `TooLong`, `NoneBetween`.
     pub fn new(
         alphabet: &'a [Letter],
         least: usize,
@@ -66,7 +66,7 @@ impl<'a> Random<'a> {
         })
     }
 
-    /// The alphabet.
+    /// Returns the alphabet.
     pub fn alphabet(&self) -> &[Letter]
         ensures value { result.now ≡ self.now.alphabet }
         ensures drawn { CanBeDrawn self.now }
@@ -74,14 +74,14 @@ impl<'a> Random<'a> {
         self.alphabet
     }
 
-    /// The least length, in units.
+    /// Returns the least length, in units.
     pub fn least(&self) -> usize
         ensures { result ≡ self.now.least }
     {
         self.least
     }
 
-    /// The greatest length, in units.
+    /// Returns the greatest length, in units.
     pub fn greatest(&self) -> usize
         ensures value { result ≡ self.now.greatest }
         ensures drawn { CanBeDrawn self.now }
@@ -89,14 +89,14 @@ impl<'a> Random<'a> {
         self.greatest
     }
 
-    /// The seed.
+    /// Returns the seed.
     pub fn seed(&self) -> u64
         ensures { result ≡ self.now.seed }
     {
         self.seed
     }
 
-    /// How many texts there are.
+    /// Returns how many texts there are.
     pub fn count(&self) -> usize
         ensures { result ≡ self.now.count }
     {

@@ -1,4 +1,4 @@
-//! The room in which the rows of texts are made.
+//! The memory with which the rows of texts are made.
 ghost use Rattle.std.specs.Prelude.{◌≡◌, ◌≤◌, length, IfOk};
 ghost use Rattle.rows.specs.RowTexts.{longest_row};
 ghost use Rattle.rows.specs.Rooms.{HasRowRoom};
@@ -10,14 +10,14 @@ use units::bracket::{Bracket, Unit};
 use units::class::Class;
 use units::memory::Memory;
 
-/// What a text is laid out in, and what the algorithm knows of its letters.
+/// The `Scratch` in which a text is laid out, and the units of its letters.
 #[derive(Drop)]
 pub struct RowRoom {
     pub scratch: Scratch,
     pub units: Vec<Unit>,
 }
 
-/// Units of no text.
+/// Returns `len` units, which are of no text.
 fn units_for(alloc: Global, len: usize) -> Result<Vec<Unit>, Memory>
     ensures { IfOk result (λ units. length units.items ≡ len) }
 {
@@ -28,7 +28,7 @@ fn units_for(alloc: Global, len: usize) -> Result<Vec<Unit>, Memory>
     Ok(vec![in alloc; unit; len]?)
 }
 
-/// Room for texts of up to this length. The error is refused memory.
+/// Returns capacity for texts of up to this length. Fails if memory runs out.
 pub fn room_for_rows(alloc: Global, len: usize) -> Result<RowRoom, Memory>
     requires { len ≤ longest_row }
     ensures { IfOk result (HasRowRoom len) }
@@ -39,7 +39,7 @@ pub fn room_for_rows(alloc: Global, len: usize) -> Result<RowRoom, Memory>
     })
 }
 
-/// Room for the longest text.
+/// Returns space for the letters of the longest text. Fails if memory runs out.
 pub fn letters_for(alloc: Global, len: usize) -> Result<Vec<Letter>, Memory>
     ensures { IfOk result (λ text. length text.items ≡ len) }
 {

@@ -6,14 +6,14 @@ ghost use Rattle.rows.specs.TextLines.{first_long_line, text_lines};
 
 use crate::exhaustive::LONGEST_ROW;
 
-/// Where the first LF stands.
+/// Returns the index of the first LF.
 fn first_feed(text: &[char]) -> Option<usize>
     ensures { result ≡ position (λ code. code == 10) text.now }
 {
     text.iter().position(|code| *code == '\n')
 }
 
-/// The first line, and what stands behind its LF, if it has one.
+/// Returns the first line, and the text after its LF if it has one.
 pub(crate) fn cut_line(text: &[char]) -> (&[char], Option<&[char]>)
     ensures lines { text_lines text.now ≡ result.0.now ∷ pieces_behind 10 result.1 }
     ensures falls { IfSome result.1 (λ rest. length rest.now < length text.now) }
@@ -24,8 +24,8 @@ pub(crate) fn cut_line(text: &[char]) -> (&[char], Option<&[char]>)
     }
 }
 
-/// The number, from 1, of the first line of a text that has more than `LONGEST_ROW` characters. A line ends at LF,
-/// which is no part of it, and the last one where the text does.
+/// Returns the number, counted from 1, of the first line of a text that has more than `LONGEST_ROW` characters. A line
+/// ends at LF, which is no part of the line. The last line ends with the text.
 pub fn first_long_line(text: &[char]) -> Option<usize>
     ensures { result ≡ first_long_line text.now }
 {

@@ -1,4 +1,4 @@
-// A text under each of some directions.
+// A text under each of several directions.
 ghost use Rattle.std.specs.Prelude.{◌≡◌, ◌≤◌, [], ◌∷◌, length, OnOk};
 ghost use Rattle.std.specs.Io.KnownBytes.{Appends};
 ghost use Rattle.std.specs.List.{flat_map};
@@ -27,7 +27,7 @@ use units::bracket::Unit;
 use units::level::Direction;
 use units::limits::Limits;
 
-/// Writes the lines of a text under a direction, of which this is the layout, for a file of this kind.
+/// Writes the lines of a text under a direction, for a file of this kind. `layout` is its layout.
 fn print_case<W: Write>(
     w: &mut W,
     kind: Kind<'_>,
@@ -59,8 +59,8 @@ fn print_laid_out<W: Write>(
     print_case(w, kind, text, direction, &scratch.layout())
 }
 
-/// Writes the lines of a text with these units under each of these directions. It is not laid out again where it was
-/// laid out just before and the layout is the same.
+/// Writes the lines of a text with these units under each of these directions. The text is not laid out again if the
+/// layout just made is the same.
 fn print_under_each<W: Write>(
     w: &mut W,
     scratch: &mut Scratch,
