@@ -1,4 +1,4 @@
--- What a loop over the paragraphs of a text has printed, and what is left.
+-- What a loop over the paragraphs of a text has printed, and the remaining paragraphs.
 use Rattle.std.proofs.Common.{◌≡◌, ◌<◌, ◌≤◌, ℕ, suc, ◌+◌, ◌-◌, List, [], ◌∷◌, Option, length, drop, refl, sym, ap, ◌∙◌, arith, length-append, length-drop}
 use Rattle.std.specs.Prelude.{slice_index_or, sum_by}
 use Rattle.std.specs.Io.KnownBytes.{Appends}
@@ -25,7 +25,7 @@ sum-lengths (piece ∷ pieces) =
 total-lengths : (text : List BidiUnit) → sum_by length (paragraphs_of text) ≡ length text
 total-lengths text = sum-lengths (paragraphs_of text) ∙ ap length (joined-paragraphs_of text)
 
--- known bytes grew by what is printed of the paragraphs before number k; the rest are left, and the next one begins at
+-- the known output grew by the text of the paragraphs before number k; the rest remain, and the next one begins at
 -- start
 pub record HasExplained (old new : Option (List ℕ)) (text : ℕ → List ℕ) (units : List BidiUnit) (rest : List (List BidiUnit)) (k start : ℕ) : Type 0 where
   pub grown : HasPrinted old new text 0 k
@@ -34,7 +34,7 @@ pub record HasExplained (old new : Option (List ℕ)) (text : ℕ → List ℕ) 
   pub cut : IsCut rest
   pub begins : start ≡ start_of (paragraphs_of units) k
 
--- what is known of the next paragraph
+-- facts about the next paragraph
 pub record IsNextParagraph (units : List BidiUnit) (rest others : List (List BidiUnit)) (para : List BidiUnit) (k start : ℕ) : Type 0 where
   pub here : slice_index_or (paragraphs_of units) k [] ≡ para
   pub inside : k < length (paragraphs_of units)

@@ -1,4 +1,4 @@
--- What has been printed when a loop over positions ends, and the same text in other words.
+-- What is printed when a loop over positions ends, and the same text in other terms.
 use Rattle.std.proofs.Common.{◌≡◌, ℕ, List, Ok, Err, IfErr, IsOk, OnErr, OnOk, Option, Result, ap, false, true}
 use Rattle.std.proofs.lemmas.Result.{IfOk-weaker}
 use Rattle.std.specs.Io.KnownBytes.{Appends}
@@ -15,7 +15,7 @@ all_printed a b text start p end e h = Appends-to a b _ _ (ap (printed text star
 pub OnOk-to : {T E : Type 0} (r : Result T E) (a b : Option (List ℕ)) (xs ys : List ℕ) → xs ≡ ys → OnOk r (Appends a b xs) → OnOk r (Appends a b ys)
 OnOk-to r a b xs ys e = IfOk-weaker r (λ _. Appends a b xs) (λ _. Appends a b ys) (λ _ h. Appends-to a b xs ys e h)
 
--- where no fault but that of a write comes, nothing is said of what it leaves
+-- if only a write can fail, the fault promises nothing about the output
 pub OnErr-leaves : {S T E : Type 0} (outcome : Result S E) (r : Result T PrintFault) (text : List ℕ)
     (a b : Option (List ℕ)) → OnOk outcome (IsOk r) → OnErr outcome (r ≡ Err Write) → IfErr r (FaultLeavesFront text a b)
 OnErr-leaves (Ok x) (Ok y) text a b done fault = tt

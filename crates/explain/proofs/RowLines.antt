@@ -21,12 +21,12 @@ use Rattle.report.proofs.LineSteps.{malformed-behind, one-sound}
 use Rattle.explain.specs.declared.row_fault.RowFault.TheVariants.{Malformed, NoRow}
 use Rattle.explain.specs.SoughtRows.{RowView, row_by, row_at, row_in_lines, unless_malformed}
 
--- what stands behind others
+-- the item after others
 behind-others : {A : Type 0} (xs : List A) (x : A) (ys : List A) → slice_get (xs ++ x ∷ ys) (length xs) ≡ Some x
 behind-others [] x ys = refl
 behind-others (y ∷ xs) x ys = behind-others xs x ys
 
--- the first of these, through the one behind others
+-- a prefix that ends after the item x
 through : {A : Type 0} (xs : List A) (x : A) (ys : List A) (n : ℕ) → length xs < n → take n (xs ++ x ∷ ys) ≡ xs ++ x ∷ take (n - length xs - 1) ys
 through [] x ys zero lt = absurd (omega arith)
 through [] x ys (suc n) lt = ap (λ k. x ∷ take k ys) (omega arith)
@@ -45,19 +45,19 @@ module _ (kind : Kind) (s : LineReading) (lines : List (List ℕ)) (lists : AreI
   abbrev said : List ℕ → Finding
   said line = finding_behind kind s line
 
-  -- behind one line more, which is not malformed
+  -- after one more line, which is not malformed
   pub sound-more : (line : List ℕ) → cause_of (finding_behind kind s line) ≡ None → first_malformed 0 (findings_by kind (lines ++ line ∷ [])) ≡ None
   sound-more line none =
       let all = findings-last kind (carried_by standard 0 0 s) lines line lists ∙ ap (λ f. findings_by kind lines ++ f ∷ []) (comes-alike kind standard 0 0 s line) in
       ap (first_malformed 0) all ∙ malformed-behind 0 (findings_by kind lines) (said line ∷ []) sound ∙ one-sound (0 + length (findings_by kind lines)) (said line) none
 
-  -- what lines come to where this one stands behind these, and others behind it
+  -- the findings of these lines, this line and others
   come : (line : List ℕ) (others : List (List ℕ)) → (rest : List Finding) × (findings_by kind (lines ++ line ∷ others) ≡ findings_by kind lines ++ said line ∷ rest)
   come line others =
       let f = findings-line kind (carried_by standard 0 0 s) lines line others lists in
       (f.0, f.1 ∙ ap (λ x. findings_by kind lines ++ x ∷ f.0) (comes-alike kind standard 0 0 s line))
 
-  -- the first malformed line up to the one that is sought, where these are sound
+  -- the first malformed line up to the wanted line, if the lines before this one are sound
   first-from : (line : List ℕ) (others : List (List ℕ)) → (rest : List Finding)
       × (first_malformed 0 (take sought (findings_by kind (lines ++ line ∷ others))) ≡ first_malformed (length lines) (said line ∷ take (sought - length lines - 1) rest))
   first-from line others =
@@ -72,7 +72,7 @@ module _ (kind : Kind) (s : LineReading) (lines : List (List ℕ)) (lists : AreI
             ∙ ap (λ n. first_malformed n (said line ∷ more)) from ∙ ap (λ (fs : List Finding). first_malformed (length lines) (said line ∷ fs)) same,
       )
 
-  -- a malformed line, whatever stands behind it
+  -- a malformed line, whatever comes after it
   pub malformed-there : (line : List ℕ) (others : List (List ℕ)) (cause : Cause) → finding_behind kind s line ≡ Faulty cause
       → row_in_lines kind sought (lines ++ line ∷ others) ≡ Err (Malformed (line_number (length lines)) cause)
   malformed-there line others cause e =
@@ -81,7 +81,7 @@ module _ (kind : Kind) (s : LineReading) (lines : List (List ℕ)) (lists : AreI
       ap (λ m. unless_malformed m (row_at kind sought (lines ++ line ∷ others))) first
 
   module _ (there : sought ≡ length lines + 1) where
-    -- what the line is that is sought
+    -- the result of the wanted line
     at-there : (line : List ℕ) (others : List (List ℕ)) → row_at kind sought (lines ++ line ∷ others) ≡ row_by kind line (Some (said line))
     at-there line others =
         let f = come line others in
@@ -102,7 +102,7 @@ module _ (kind : Kind) (s : LineReading) (lines : List (List ℕ)) (lists : AreI
         let last : sought - length lines - 1 ≡ 0 = omega (arith, there) in
         f.1 ∙ ap (λ n. first_malformed (length lines) (said line ∷ take n f.0)) last ∙ one-sound (length lines) (said line) none
 
-    -- no row, whatever stands behind it
+    -- not a row, whatever comes after it
     pub no-row-there : (line : List ℕ) (others : List (List ℕ)) → finding_behind kind s line ≡ Silent
         → row_in_lines kind sought (lines ++ line ∷ others) ≡ Err NoRow
     no-row-there line others e =
@@ -110,14 +110,14 @@ module _ (kind : Kind) (s : LineReading) (lines : List (List ℕ)) (lists : AreI
         let at = at-there line others ∙ ap (λ f. row_by kind line (Some f)) e in
         ap₂ unless_malformed (sound-there line others none) at
 
-    -- a row, whatever stands behind it
+    -- a row, whatever comes after it
     pub row-there : (line : List ℕ) (others : List (List ℕ)) (row : RowView) → row_by kind line (Some (finding_behind kind s line)) ≡ Some row
         → row_in_lines kind sought (lines ++ line ∷ others) ≡ Ok row
     row-there line others row e =
         let none : cause_of (said line) ≡ None = sound-row kind (said line) line row e in
         ap₂ unless_malformed (sound-there line others none) (at-there line others ∙ e)
 
--- fewer lines than it takes
+-- fewer lines than the number of the wanted line
 pub beyond : (kind : Kind) (lines : List (List ℕ)) (sought : ℕ) → first_malformed 0 (findings_by kind lines) ≡ None → length lines < sought
     → row_in_lines kind sought lines ≡ Err NoRow
 beyond kind lines sought sound lt =

@@ -1,4 +1,4 @@
--- A row by equal parts.
+-- The line of a position, from equal parts.
 use Rattle.std.proofs.Common.{◌≡◌, ◌∙◌, ℕ, List, Option, ap}
 use Rattle.units.specs.declared.class.Class.{Class}
 use Rattle.explain.specs.PositionText.{position_text}

@@ -29,20 +29,20 @@ use Rattle.explain.specs.SoughtRows.{RowView, Finds, IsSettled, IsSought, IsUnse
 use Rattle.explain.specs.Searching.{RowReading, SaysOfRow, SaysOfCut, Searching, SearchesOn, SearchComesTo, EndsLast, EndsWith, PieceSettles, row_in, row_or_fault}
 use Rattle.explain.proofs.RowLines.{sound-more, malformed-there, no-row-there, row-there, beyond}
 
--- the line of this number is not before the one that is sought, and no line before it was that
+-- this line number is at least the wanted one, and all earlier lines have smaller ones
 is-there : (k sought : ℕ) → k < sought → sought ≤ line_number k → sought ≡ k + 1
 is-there k sought before at = omega arith
 
--- it is before that
+-- the line is before the wanted one
 is-before : (k sought : ℕ) → sought ≤ most_counted → line_number k < sought → k + 1 < sought
 is-before k sought most lt = omega arith
 
 module _ (kind : Kind) (sought : ℕ) (most : sought ≤ most_counted) (old new : Searching) (b : List ℕ) (o : SearchesOn kind sought old b) where
-  -- the lines of a file, where these have ended
+  -- the lines of a file that begins with these lines
   lines-more : (c line : List ℕ) → CutsInto c (o.lines ++ line ∷ []) [] → (more : List ℕ) → lines_of (c ++ more) ≡ o.lines ++ line ∷ lines_of more
   lines-more c line cut more = lines_with-more has_bytes c (o.lines ++ line ∷ []) more cut ∙ append_assoc o.lines (line ∷ []) (lines_of more)
 
-  -- what a line said is so of each list of lines in which it stands there
+  -- the result of this line is the result in each list of lines that has the line at this index
   told : (line : List ℕ) (asked : Asked) → SaysOfRow kind sought (line_number (length o.lines)) line old.rows new.rows (Ok (Some asked))
       → (others : List (List ℕ)) → row_in_lines kind sought (o.lines ++ line ∷ others) ≡ Ok (row_in new.rows asked)
   told line asked says others =
@@ -56,7 +56,7 @@ module _ (kind : Kind) (sought : ℕ) (most : sought ≤ most_counted) (old new 
   refused line NoRow says others =
       no-row-there kind old.rows.reading o.lines o.lists o.sound sought o.before (is-there (length o.lines) sought o.before says.0) line others says.1
 
-  -- a line that is over-long, in whatever bytes follow
+  -- an over-long line, whatever bytes follow
   long-there : (c : List ℕ) → IsTooLongAfter c o.lines → (more : List ℕ) → sought_row kind sought (c ++ more) ≡ Err (Malformed (line_number (length o.lines)) LineTooLong)
   long-there c over more =
       let l = lines_with-long has_bytes (λ line above. some_bytes line (omega (arith, above))) c o.lines more over in
@@ -81,7 +81,7 @@ module _ (kind : Kind) (sought : ℕ) (most : sought ≤ most_counted) (old new 
   line-ended c line stands cut (Err fault) says = λ more.
       ap (row_in_lines kind sought) (lines-more c line cut more) ∙ refused line fault says (lines_of more)
 
--- whatever a front of bytes settles, all of them do
+-- what a prefix of the bytes decides, all bytes decide
 settled-more : (kind : Kind) (sought : ℕ) (b piece : List ℕ) (used : ℕ) (found : Result RowView RowFault) → IsSettled kind sought (b ++ take used piece) found
     → IsSettled kind sought (b ++ piece) found
 settled-more kind sought b piece used found h more =
@@ -95,7 +95,7 @@ module _ (kind : Kind) (sought : ℕ) (most : sought ≤ most_counted) (old new 
   abbrev Comes : Result (Option Asked) RowFault → Type 0
   Comes result = SearchComesTo kind sought new (b ++ take used piece) result
 
-  -- a step of the cutter
+  -- a step of the line splitter
   pub comes-by : (step : Cut) → AnswersPiece b piece used step → (result : Result (Option Asked) RowFault)
       → SaysOfCut kind sought step old.rows new.rows result → SearchComesTo kind sought new (b ++ take used piece) result
   comes-by More a result says =
@@ -119,7 +119,7 @@ module _ (kind : Kind) (sought : ℕ) (most : sought ≤ most_counted) (old new 
       subst Comes (sym says)
       (λ more. long-there kind sought most old new b o (b ++ take used piece) l.0 more ∙ ap (λ n. Err (Malformed n LineTooLong)) (sym l.1))
 
-  -- where it ends the search
+  -- a step that ends the search
   pub refused-by : (step : Cut) → AnswersPiece b piece used step → (fault : RowFault)
       → SaysOfCut kind sought step old.rows new.rows (Err fault) → IsSettled kind sought (b ++ piece) (Err fault)
   refused-by step a fault says = settled-more kind sought b piece used (Err fault) (comes-by step a (Err fault) says)
@@ -146,7 +146,7 @@ module _ (kind : Kind) (sought : ℕ) (before s after : Searching) (piece rest :
     on = λ b o. subst (λ (xs : List ℕ). SearchesOn kind sought after xs) (append_assoc b h.passed (take used rest)) (on (b ++ h.passed) (h.on b o));
   }
 
-  -- what the rest settles behind what was taken, the piece does
+  -- what the rest decides after the part that was taken, the whole piece decides
   pub settled-behind : (found : Result RowView RowFault) → ((b : List ℕ) → SearchesOn kind sought s b → IsSettled kind sought (b ++ rest) found)
       → (b : List ℕ) → SearchesOn kind sought before b → IsSettled kind sought (b ++ piece) found
   settled-behind found settles b o =
@@ -165,7 +165,7 @@ module _ (kind : Kind) (sought : ℕ) (most : sought ≤ most_counted) (old new 
   pub ends-none : Finishes b None → sought_row kind sought b ≡ Err NoRow
   ends-none f = ap (row_in_lines kind sought) (lines-ended b o.lines o.rest o.cut f) ∙ beyond kind o.lines sought o.sound o.before
 
-  -- the line that has begun is the last
+  -- the unfinished line is the last
   pub ends-last : (number : ℕ) (last : Bor (List ℕ)) → Finishes b (Some (number, last)) → (result : Result (Option Asked) RowFault)
       → SaysOfRow kind sought number last.now old.rows new.rows result → (ended : Result Asked RowFault) → EndsLast result ended → EndsWith kind sought new b ended
   ends-last number last f (Ok None) says ended e =
@@ -194,7 +194,7 @@ search-start Classes sought s stands none some =
 search-start (Characters tables) sought s stands none some =
     record { cutter = stands; lines = []; rest = []; cut = nothing; before = some; sound = refl; lists = tt }
 
--- while a search goes on, its bytes settle nothing of the line that is sought
+-- while a search continues, its bytes don't decide the result of the wanted line
 pub on-unsettled : (kind : Kind) (sought : ℕ) (s : Searching) (bytes : List ℕ) → SearchesOn kind sought s bytes → IsUnsettled kind sought bytes
 on-unsettled kind sought s bytes o =
     let lines : settled_lines bytes ≡ o.lines = settled-whole bytes o.lines o.rest o.cut in
@@ -205,36 +205,36 @@ on-unsettled kind sought s bytes o =
     }
 
 module _ (HasFailed HasEnded : Type 0) (kind : Kind) (sought : ℕ) (bytes : List ℕ) (s : RowReading) where
-  -- what a file comes to that has ended is so of no longer one
+  -- the result of a file that has ended is the result of each file that begins with these bytes and has no more
   pub finds-ended : HasEnded → (found : Result RowView RowFault) → sought_row kind sought bytes ≡ found → IsSought HasEnded kind sought bytes found
   finds-ended ended found e more none =
       ap (λ xs. sought_row kind sought (bytes ++ xs)) (none ended) ∙ ap (sought_row kind sought) (append-nil bytes) ∙ e
 
-  -- a fault of the row, handed on
+  -- a fault of the row, returned unchanged
   pub finds-fault : (result : Result Asked SearchFault) (fault : RowFault) → IsErrAnd result (λ given. given ≡ OfRow fault)
       → IsSought HasEnded kind sought bytes (Err fault) → Finds HasFailed HasEnded kind sought bytes (row_or_fault s result)
   finds-fault (Ok asked) fault e h = absurd e
   finds-fault (Err given) fault e h = subst (λ (f : SearchFault). Finds HasFailed HasEnded kind sought bytes (Err f)) (sym e) h
 
--- a fault of a step, handed on
+-- a fault of a step, returned unchanged
 pub steps-fault : (kind : Kind) (sought : ℕ) (s : Searching) (b piece : List ℕ) (result : Result (ℕ × Option Asked) RowFault) (fault : RowFault)
     → IsErrAnd result (λ given. given ≡ fault) → IsSettled kind sought (b ++ piece) (Err fault) → PieceSettles kind sought s b piece result
 steps-fault kind sought s b piece (Ok step) fault e h = absurd e
 steps-fault kind sought s b piece (Err given) fault e h = subst (λ (f : RowFault). IsSettled kind sought (b ++ piece) (Err f)) (sym e) h
 
--- a fault of a search, handed on
+-- a fault of a search, returned unchanged
 pub comes-fault : (kind : Kind) (sought : ℕ) (s : Searching) (bytes : List ℕ) (result : Result (Option Asked) RowFault) (fault : RowFault)
     → IsErrAnd result (λ given. given ≡ fault) → IsSettled kind sought bytes (Err fault) → SearchComesTo kind sought s bytes result
 comes-fault kind sought s bytes (Ok row) fault e h = absurd e
 comes-fault kind sought s bytes (Err given) fault e h = subst (λ (f : RowFault). IsSettled kind sought bytes (Err f)) (sym e) h
 
--- where a step found no row the search goes on
+-- the search continues if a step returns no row
 pub goes-on : (kind : Kind) (sought : ℕ) (s : Searching) (bytes : List ℕ) (row : Option Asked) → is_some row ≡ false → SearchComesTo kind sought s bytes (Ok row)
     → SearchesOn kind sought s bytes
 goes-on kind sought s bytes None e h = h
 goes-on kind sought s bytes (Some asked) e h = absurd cc
 
--- and where it found one the piece settles it
+-- the piece decides the result if a step returns a row
 pub row-behind : (kind : Kind) (sought : ℕ) (before s after : Searching) (piece rest : List ℕ) (used : ℕ) → HasTaken kind sought before s piece rest
     → (row : Option Asked) → is_some row ≡ true
     → ((b : List ℕ) → SearchesOn kind sought s b → SearchComesTo kind sought after (b ++ take used rest) (Ok row))

@@ -1,4 +1,4 @@
--- The cells of a line: what a rule made of a position, as bytes.
+-- The cells of a line, as bytes: what each rule changed at a position.
 use Rattle.std.specs.Prelude.{Option, ℕ, ◌==◌, Bool, true, false, if◌then◌else◌, List, codes, Some, None}
 use Rattle.std.specs.Fmt.{decimal}
 use Rattle.units.specs.ClassNames.{short_name}
@@ -8,12 +8,12 @@ use Rattle.printing.specs.LevelsText.{code_text}
 use Rattle.explain.specs.declared.cell.Cell.{Cell}
 use Rattle.explain.specs.declared.cell.Cell.TheVariants.{Same, Removed, Class, Level}
 
--- a code point, or - where no character is known
+-- a code point, or - if the character is not known
 abbrev pub code_cell : Option ℕ → List ℕ
 code_cell None = codes "-"
 code_cell (Some character) = code_text character
 
--- . where a rule changed nothing, x where a position was removed, and else the class or the level behind the rule
+-- . if a rule changes nothing, x if the position is removed, and otherwise the class or the level after the rule
 abbrev pub cell_text : Cell → List ℕ
 cell_text Same = codes "."
 cell_text Removed = codes "x"
@@ -25,12 +25,12 @@ abbrev pub explicit_cell : Option ℕ → Cell
 explicit_cell None = Removed
 explicit_cell (Some level) = Level level
 
--- a rule that turns classes, at a position that remains or doesn't; no rule turns what is removed (X9)
+-- a rule that changes classes, at a position that remains or not; no rule changes a removed position (X9)
 abbrev pub class_cell : Bool → BidiClass → BidiClass → Cell
 class_cell false before after = Same
 class_cell true before after = if is_class before after then Same else Class after
 
--- a rule that turns levels; it gives none to what is removed
+-- a rule that changes levels; a removed position has none
 abbrev pub level_cell : Option ℕ → Option ℕ → Cell
 level_cell None after = Same
 level_cell (Some before) None = Same

@@ -1,4 +1,4 @@
--- What `explain` prints of a text, as bytes: of each paragraph its heading, a line for each position, and its foot.
+-- What `explain` prints of a text, as bytes: for each paragraph its heading, a line for each position, and its foot.
 use Rattle.std.specs.Prelude.{Option, ℕ, ◌+◌, List, [], ◌∷◌, ◌++◌, length, map, take, sum_by, Some, None, slice_get, slice_index_or}
 use Rattle.std.specs.Option.{option_map}
 use Rattle.units.specs.Classes.{class_at}
@@ -21,12 +21,12 @@ use Rattle.explain.specs.declared.position.PositionLevels.{PositionLevels}
 use Rattle.rule_columns.specs.declared.rule.Rule.{Rule}
 use Rattle.rule_columns.specs.declared.rule.Rule.TheVariants as rule
 
--- the rules that turn classes, in the order in which they are applied
+-- the rules that change classes, in the order of their application
 abbrev pub rules_of_classes : List Rule
 rules_of_classes =
     rule.X ∷ rule.W1 ∷ rule.W2 ∷ rule.W3 ∷ rule.W4 ∷ rule.W5 ∷ rule.W6 ∷ rule.W7 ∷ rule.N0 ∷ rule.N1 ∷ rule.N2 ∷ []
 
--- a position's own class, and its class behind each rule
+-- a position's original class, and its class after each rule
 abbrev pub classes_through : ColumnsOf → List BidiUnit → ℕ → List Class
 classes_through columns para p =
     (slice_index_or para p no_unit).class ∷ map (λ r. class_at (column_after columns r) p) rules_of_classes
@@ -44,7 +44,7 @@ abbrev pub position_text_at : List ℕ → List BidiUnit → ColumnsOf → ℕ �
 position_text_at chars para columns start p =
     position_text (start + p) (slice_get chars (start + p)) (classes_through columns para p) (levels_through columns p)
 
--- what a read past the last sequence gives, and no caller asks
+-- what a read past the last sequence gives; no caller reads there
 abbrev pub no_sequence : SequenceView
 no_sequence = record { positions = []; level = 0; sos = L; eos = L; extent = 0 }
 
@@ -57,11 +57,11 @@ abbrev pub pair_if : ℕ → ℕ → Option ℕ → List ℕ
 pair_if start opener None = []
 pair_if start opener (Some closer) = pair_text (start + opener) (start + closer)
 
--- BD16: the line of the pair that opens at p, if one does
+-- BD16: the line of the pair that opens at p, if there is one
 abbrev pub pair_at : ColumnsOf → ℕ → ℕ → List ℕ
 pair_at columns start p = pair_if start p (closer_in columns.closers p)
 
--- the sequences, the bracket pairs by their openers, and the order
+-- the sequences, the bracket pairs in the order of their openers, and the line's order
 abbrev pub foot_text : ColumnsOf → ℕ → ℕ → List ℕ
 foot_text columns start size =
     printed (sequence_line columns start) 0 (length columns.explicit.sequences)
@@ -75,12 +75,12 @@ paragraph_explained chars para columns direction start k =
     ++ printed (position_text_at chars para columns start) 0 (length para)
     ++ foot_text columns start (length para)
 
--- the same, by what the rules leave of it
+-- the same, with the results of each rule for that paragraph
 abbrev pub explained_from : List ℕ → List BidiUnit → Direction → ℕ → ℕ → List ℕ
 explained_from chars para direction start k =
     paragraph_explained chars para (columns_of para direction) direction start k
 
--- P1: where the paragraph with the number k begins: behind all that stand before it
+-- P1: where the paragraph with the number k begins: after all earlier ones
 abbrev pub start_of : List (List BidiUnit) → ℕ → ℕ
 start_of paragraphs k = sum_by length (take k paragraphs)
 
@@ -90,20 +90,19 @@ explained_paragraph chars direction paragraphs k =
     let para = slice_index_or paragraphs k [] in
     explained_from chars para direction (start_of paragraphs k) k
 
--- a text of these units: its paragraphs (P1), one after another; it may have no characters, where the units are known
--- alone
+-- a text of these units: its paragraphs (P1), one after another; chars is empty if only the units are known
 abbrev pub explained_units : List ℕ → List BidiUnit → Direction → List ℕ
 explained_units chars text direction =
     printed (explained_paragraph chars direction (paragraphs_of text)) 0 (length (paragraphs_of text))
 
--- what is printed of a text, by tables
+-- what is printed of a text, with tables
 abbrev pub explained : TablesOf → List ℕ → Direction → List ℕ
 explained tables chars direction = explained_units chars (units_by tables chars) direction
 
--- the unit of a class, which is no bracket
+-- the unit of a class, which has no bracket
 abbrev pub plain_unit : Class → BidiUnit
 plain_unit class = record { class = class; bracket = No }
 
--- what is printed of a row of classes, none of which is a bracket
+-- what is printed of a row of classes, none of which has a bracket
 abbrev pub explained_classes : List Class → Direction → List ℕ
 explained_classes classes direction = explained_units [] (map plain_unit classes) direction

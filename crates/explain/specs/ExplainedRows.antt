@@ -10,7 +10,7 @@ use Rattle.explain.specs.Explained.{explained_classes, explained_units}
 use Rattle.explain.specs.Headings.{columns_text}
 use Rattle.rule_columns.specs.Passes.{rewritten, implicit_of, closers_of}
 
--- an embedding cuts the text into three sequences, of which the last one's number follows L (W7)
+-- an embedding splits the text into three sequences; the number in the last one follows L (W7)
 pub embedding_in_the_middle : explained_classes (R ∷ ON ∷ LRE ∷ L ∷ PDF ∷ EN ∷ []) Auto
     ≡ codes "paragraph 0 level 1: R at 0\n" ++ columns_text
     ++ codes "0 - R 1 . . . . . . . . . . . . .\n"
@@ -26,7 +26,7 @@ pub embedding_in_the_middle : explained_classes (R ∷ ON ∷ LRE ∷ L ∷ PDF 
 unfolding layouts_compute columns_of rewritten implicit_of closers_of digits
 embedding_in_the_middle = refl
 
--- a pair of brackets round a number
+-- a pair of brackets around a number
 pub brackets_round_a_number : explained_units (1488 ∷ 40 ∷ 49 ∷ 41 ∷ []) (plain R ∷ opens 41 ∷ plain EN ∷ shuts 41 ∷ []) Auto
     ≡ codes "paragraph 0 level 1: R at 0\n" ++ columns_text
     ++ codes "0 05D0 R 1 . . . . . . . . . . . . .\n"
@@ -39,7 +39,7 @@ pub brackets_round_a_number : explained_units (1488 ∷ 40 ∷ 49 ∷ 41 ∷ [])
 unfolding layouts_compute columns_of rewritten implicit_of closers_of digits code_text
 brackets_round_a_number = refl
 
--- the positions of the second paragraph go on, its number of sequences begins again
+-- positions continue in the second paragraph, and sequences are numbered from 0 again
 pub two_paragraphs_explained : explained_classes (WS ∷ B ∷ ON ∷ []) Rtl
     ≡ codes "paragraph 0 level 1: given\n" ++ columns_text
     ++ codes "0 - WS 1 . . . . . . . . . R . . .\n"

@@ -14,7 +14,7 @@ listed_text p = codes " " ++ decimal p
 abbrev pub positions_text : ℕ → List ℕ → List ℕ
 positions_text start ps = flat_map (λ p. listed_text (start + p)) ps
 
--- X10: a sequence's number, counted from 0, its level, its start and end
+-- X10: a sequence's number, counted from 0, its level, its sos and eos
 abbrev pub sequence_start_text : ℕ → SequenceView → List ℕ
 sequence_start_text number s =
     concat (codes "sequence " ∷ decimal number ∷ codes " level " ∷ decimal s.level ∷ codes " sos " ∷ short_name s.sos ∷ codes " eos " ∷ short_name s.eos ∷ codes ":" ∷ [])

@@ -1,4 +1,4 @@
--- What a search for a row holds, and the bytes that it stands for.
+-- The state of a search for a row, and the bytes that it represents.
 use Rattle.std.specs.Prelude.{◌≡◌, ◌<◌, ◌≤◌, Option, Result, Ok, Err, Some, None, ℕ, List, ◌++◌, length, take}
 use Rattle.units.specs.LineCutting.{Cutting, StandsFor}
 use Rattle.units.specs.Lines.{CutsInto}
@@ -18,16 +18,16 @@ use Rattle.explain.specs.declared.row_fault.RowFault.TheVariants.{Malformed, NoR
 use Rattle.explain.specs.declared.row_fault.SearchFault.{SearchFault}
 use Rattle.explain.specs.SoughtRows.{RowView, IsSettled, row_by, sought_row}
 
--- what is kept from line to line, and the characters of the row that was found
+-- what is stored from line to line, and the characters of the row
 pub record RowReading : Type 0 where
   pub reading : LineReading
   pub chars : List ℕ
 
--- the row that asked for this, with what is held of it
+-- the row that asks for this, from what is stored
 abbrev pub row_in : RowReading → Asked → RowView
 row_in s asked = record { claim = claim_in s.reading asked; chars = s.chars }
 
--- what the line of a number says where the row of another is sought: none before that, and there what it is
+-- what a line gives in a search for the wanted line: no row if it is earlier, and otherwise its row or why it is none
 abbrev pub SaysOfRow : Kind → ℕ → ℕ → List ℕ → RowReading → RowReading → Result (Option Asked) RowFault → Type 0
 SaysOfRow kind sought number line before after (Ok None) = (number < sought)
     × (cause_of (finding_behind kind before.reading line) ≡ None) × IsBehindLine kind line before.reading after.reading
@@ -38,19 +38,18 @@ SaysOfRow kind sought number line before after (Err (Malformed at cause)) =
 SaysOfRow kind sought number line before after (Err NoRow) =
     (sought ≤ number) × (finding_behind kind before.reading line ≡ Silent)
 
--- the same of the line that a step of the cutter ends, if it ends one
+-- the same for the line that a step of the line splitter ends, if it ends one
 abbrev pub SaysOfCut : Kind → ℕ → Cut → RowReading → RowReading → Result (Option Asked) RowFault → Type 0
 SaysOfCut kind sought More before after result = (result ≡ Ok None) × (after ≡ before)
 SaysOfCut kind sought (Line number text) before after result = SaysOfRow kind sought number text.now before after result
 SaysOfCut kind sought (TooLong number) before after result = result ≡ Err (Malformed number LineTooLong)
 
--- what a search holds: where its cutter stands in a line, and what is kept between lines
+-- the state of a search: the place of the line splitter in a line, and what is stored between lines
 pub record Searching : Type 0 where
   pub cutting : Cutting
   pub rows : RowReading
 
--- the search was handed these bytes, in any pieces, and has not come to the line that is sought: none before it is
--- malformed
+-- the search took these bytes, in any pieces, and has not reached the wanted line; no earlier line is malformed
 pub record SearchesOn (kind : Kind) (sought : ℕ) (s : Searching) (bytes : List ℕ) : Type 0 where
   pub cutter : StandsFor s.cutting bytes
   pub lines : List (List ℕ)
@@ -60,29 +59,29 @@ pub record SearchesOn (kind : Kind) (sought : ℕ) (s : Searching) (bytes : List
   pub sound : first_malformed 0 (findings_by kind lines) ≡ None
   pub lists : AreInForce kind (levels_in s.rows.reading) (order_in s.rows.reading) lines
 
--- where a search has come to that was handed these bytes: it goes on, or it found a row, or why there is none
+-- the result of a search that took these bytes: it continues, it has a row, or it has the reason why there is none
 abbrev pub SearchComesTo : Kind → ℕ → Searching → List ℕ → Result (Option Asked) RowFault → Type 0
 SearchComesTo kind sought s bytes (Ok None) = SearchesOn kind sought s bytes
 SearchComesTo kind sought s bytes (Ok (Some asked)) = IsSettled kind sought bytes (Ok (row_in s.rows asked))
 SearchComesTo kind sought s bytes (Err fault) = IsSettled kind sought bytes (Err fault)
 
--- the same behind bytes and as much of a piece as was used
+-- the same after bytes and the used bytes of a piece
 abbrev pub PieceSettles : Kind → ℕ → Searching → List ℕ → List ℕ → Result (ℕ × Option Asked) RowFault → Type 0
 PieceSettles kind sought s bytes piece (Ok taken) = SearchComesTo kind sought s (bytes ++ take taken.0 piece) (Ok taken.1)
 PieceSettles kind sought s bytes piece (Err fault) = SearchComesTo kind sought s (bytes ++ piece) (Err fault)
 
--- what a search found whose file has ended
+-- the result of a search at the end of the file
 abbrev pub EndsWith : Kind → ℕ → Searching → List ℕ → Result Asked RowFault → Type 0
 EndsWith kind sought s bytes (Ok asked) = sought_row kind sought bytes ≡ Ok (row_in s.rows asked)
 EndsWith kind sought s bytes (Err fault) = sought_row kind sought bytes ≡ Err fault
 
--- the same by what the last line says: without a row there none was found
+-- the same, from the result of the last line; if that is not a row, there is none
 abbrev pub EndsLast : Result (Option Asked) RowFault → Result Asked RowFault → Type 0
 EndsLast (Ok None) ended = ended ≡ Err NoRow
 EndsLast (Ok (Some asked)) ended = ended ≡ Ok asked
 EndsLast (Err fault) ended = ended ≡ Err fault
 
--- the row that was asked for, of what is held, or the fault
+-- the row that asks for this, from what is stored, or the fault
 abbrev pub row_or_fault : RowReading → Result Asked SearchFault → Result RowView SearchFault
 row_or_fault s (Ok asked) = Ok (row_in s asked)
 row_or_fault s (Err fault) = Err fault

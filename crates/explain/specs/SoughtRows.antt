@@ -1,4 +1,4 @@
--- The row of a test file that stands at a line's number.
+-- The row of a test file at a line number.
 use Rattle.std.specs.Prelude.{Option, Some, None, Result, Ok, Err, ◌≡◌, ◌<◌, ℕ, ◌+◌, ◌-◌, List, [], ◌++◌, length, take, slice_index_or}
 use Rattle.std.specs.List.{slice_get}
 use Rattle.units.specs.Text.{lines_of, settled_lines, content_of, fields_of, items_of, each_read}
@@ -14,12 +14,12 @@ use Rattle.explain.specs.declared.row_fault.RowFault.TheVariants.{Malformed, NoR
 use Rattle.explain.specs.declared.row_fault.SearchFault.{SearchFault}
 use Rattle.explain.specs.declared.row_fault.SearchFault.TheVariants.{OfRow, Read, Memory}
 
--- a row: what it claims, and the characters of its text, where its file says these
+-- a row: its expected results, and the characters of its text if its file gives these
 pub record RowView : Type 0 where
   pub claim : Claim
   pub chars : List ℕ
 
--- the characters that were read, if they were
+-- the characters that were read, if any were
 abbrev pub those_read : Option (List ℕ) → List ℕ
 those_read None = []
 those_read (Some chars) = chars
@@ -30,7 +30,7 @@ characters_of Classes line = []
 characters_of (Characters tables) line =
     those_read (each_read char_of (items_of (slice_index_or (fields_of (content_of line)) 0 [])))
 
--- the row that a line is, if there is one that comes to a row
+-- the row of a line, if the line is one
 abbrev pub row_by : Kind → List ℕ → Option Finding → Option RowView
 row_by kind line (Some (Row claim)) = Some (record { claim = claim; chars = characters_of kind line })
 row_by kind line _ = None
@@ -40,13 +40,13 @@ abbrev pub row_at : Kind → ℕ → List (List ℕ) → Option RowView
 row_at kind number lines =
     row_by kind (slice_index_or lines (number - 1) []) (slice_get (findings_by kind lines) (number - 1))
 
--- the row, unless a line up to it is malformed: the line may rest on what that was to say
+-- the row, unless a line up to it is malformed: the row may depend on the malformed line
 abbrev pub unless_malformed : Option (ℕ × Cause) → Option RowView → Result RowView RowFault
 unless_malformed (Some m) row = Err (Malformed m.0 m.1)
 unless_malformed None None = Err NoRow
 unless_malformed None (Some row) = Ok row
 
--- the same, or why there is none: a line up to it is malformed, or it is no row
+-- the same, or why there is no row: a line up to it is malformed, or it is not a row
 abbrev pub row_in_lines : Kind → ℕ → List (List ℕ) → Result RowView RowFault
 row_in_lines kind number lines =
     unless_malformed (first_malformed 0 (take number (findings_by kind lines))) (row_at kind number lines)
@@ -55,22 +55,24 @@ row_in_lines kind number lines =
 abbrev pub sought_row : Kind → ℕ → List ℕ → Result RowView RowFault
 sought_row kind number bytes = row_in_lines kind number (lines_of bytes)
 
--- each file that begins with these bytes has this at the line of this number
+-- each file that begins with these bytes has this result at the line of this number
 abbrev pub IsSettled : Kind → ℕ → List ℕ → Result RowView RowFault → Type 0
 IsSettled kind number bytes found = (more : List ℕ) → sought_row kind number (bytes ++ more) ≡ found
 
--- each file that begins with these bytes, and ends with them if its end was read, has this at the line of this number
+-- each file that begins with these bytes, and has no more if its end was read, has this result at the line of this
+-- number
 abbrev pub IsSought : Type 0 → Kind → ℕ → List ℕ → Result RowView RowFault → Type 0
 IsSought HasEnded kind number bytes found =
     (more : List ℕ) → (HasEnded → more ≡ []) → sought_row kind number (bytes ++ more) ≡ found
 
--- these bytes settle nothing of the line of this number: no line that they settle is malformed, and none has this number
+-- these bytes don't decide the result at the line of this number: none of the lines that they decide is malformed or has
+-- this number
 pub record IsUnsettled (kind : Kind) (number : ℕ) (bytes : List ℕ) : Type 0 where
   pub sound : first_malformed 0 (findings_by kind (settled_lines bytes)) ≡ None
   pub before : length (settled_lines bytes) < number
 
--- what a search found in a file of which these bytes were read: the row, or why there is none; or a read has failed
--- before that was settled, or memory was refused
+-- the result of a search in a file of which these bytes were read: the row, or why there is none; a read that failed
+-- before that was decided; or a failed allocation
 abbrev pub Finds : Type 0 → Type 0 → Kind → ℕ → List ℕ → Result RowView SearchFault → Type 0
 Finds HasFailed HasEnded kind number bytes (Ok row) = IsSought HasEnded kind number bytes (Ok row)
 Finds HasFailed HasEnded kind number bytes (Err (OfRow fault)) = IsSought HasEnded kind number bytes (Err fault)

@@ -1,4 +1,4 @@
--- Worked files, the rows that stand at their lines, and what is printed of a row.
+-- Worked files, the rows at their lines, and what is printed of a row.
 use Rattle.std.specs.Borrow.{Bor}
 use Rattle.std.specs.Prelude.{◌≡◌, ℕ, List, [], ◌∷◌, ◌++◌, Some, None, Ok, Err, codes, refl}
 use Rattle.std.specs.Fmt.{digits}
@@ -21,19 +21,19 @@ use Rattle.explain.specs.declared.row_fault.RowFault.TheVariants.{Malformed, NoR
 abbrev two_rows : List ℕ
 two_rows = written (codes "@Levels: x 1" ∷ codes "@Reorder: 1" ∷ codes "RLE ON; 10" ∷ codes "RLE R; 1" ∷ [])
 
--- what its third line claims
+-- the expected results of its third line
 abbrev neutral_row : RowView
 neutral_row = record {
   claim = record { text = plain RLE ∷ plain ON ∷ []; directions = Ltr ∷ AutoRtl ∷ []; para_level = None; levels = None ∷ Some 1 ∷ []; order = 1 ∷ [] };
   chars = [];
 }
 
--- the row of a line, by the lists in force there
+-- the row of a line, with the lists in force there
 pub third_line : sought_row Classes 3 two_rows ≡ Ok neutral_row
 unfolding classes_files_compute
 third_line = refl
 
--- a line that lists levels is no row, nor is one beyond the last
+-- a line that lists levels is not a row, and a line past the last is none
 pub first_line : sought_row Classes 1 two_rows ≡ Err NoRow
 unfolding classes_files_compute
 first_line = refl
@@ -47,7 +47,7 @@ pub malformed_before : sought_row Classes 4 (written (codes "@Levels: 1" ∷ cod
 unfolding classes_files_compute
 malformed_before = refl
 
--- and one behind it
+-- and one after it
 pub malformed_behind : sought_row Classes 3 (two_rows ++ codes "@Levels: 127") ≡ Ok neutral_row
 unfolding classes_files_compute
 malformed_behind = refl
@@ -56,7 +56,7 @@ malformed_behind = refl
 pub two_characters : (tables : Bor TablesOf) → characters_of (Characters tables) (codes "05D0 0031;0;0;1 2;1 0 # R EN") ≡ 1488 ∷ 49 ∷ []
 two_characters tables = refl
 
--- under each direction what each rule does, and then what is claimed beside what is defined
+-- under each direction what each rule does, and then the expected results beside the defined ones
 pub neutral_printed : row_text 3 neutral_row
     ≡ codes "line 3: ltr\n"
     ++ codes "paragraph 0 level 0: given\n" ++ columns_text
@@ -81,7 +81,7 @@ pub neutral_printed : row_text 3 neutral_row
 unfolding layouts_compute columns_of rewritten implicit_of closers_of digits
 neutral_printed = refl
 
--- of a row that claims a paragraph's level: the order is not the one that is defined
+-- a row that expects a paragraph level; the expected order is not the defined one
 pub paragraph_printed : row_text 7 (record { claim = record { text = plain R ∷ []; directions = Auto ∷ []; para_level = Some 0; levels = Some 1 ∷ []; order = [] }; chars = 1488 ∷ [] })
     ≡ codes "line 7: auto\n"
     ++ codes "paragraph 0 level 1: R at 0\n" ++ columns_text

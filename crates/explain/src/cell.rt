@@ -1,4 +1,4 @@
-// The cells of a line: what a rule made of a position.
+// The cells of a line: what each rule changed at a position.
 ghost use Rattle.std.specs.Prelude.{◌≡◌, Some};
 ghost use Rattle.explain.specs.Cells.{cell_text, class_cell, explicit_cell, level_cell};
 
@@ -6,16 +6,16 @@ use std::fmt;
 use units::class::Class;
 use units::level::Level;
 
-/// What a row says of a rule.
+/// The entry of a position for a rule.
 #[derive(Clone, Copy)]
 pub enum Cell {
     /// The rule changed nothing.
     Same,
     /// The position was removed (X9).
     Removed,
-    /// The class behind the rule.
+    /// The class after the rule.
     Class(Class),
-    /// The level behind the rule.
+    /// The level after the rule.
     Level(Level),
 }
 
@@ -32,7 +32,7 @@ impl fmt::Display for Cell {
     }
 }
 
-/// The cell of the level after X1 to X9.
+/// Returns the cell of the level after X1 to X9.
 pub fn explicit_cell(level: Option<Level>) -> Cell
     ensures { result ≡ explicit_cell level }
 {
@@ -42,7 +42,7 @@ pub fn explicit_cell(level: Option<Level>) -> Cell
     }
 }
 
-/// The cell of a rule that turns classes, at a position that remains or doesn't.
+/// Returns the cell of a rule that changes classes. `remains` says whether the position remains after X9.
 pub fn class_cell(remains: bool, before: Class, after: Class) -> Cell
     ensures { result ≡ class_cell remains before after }
 {
@@ -52,7 +52,7 @@ pub fn class_cell(remains: bool, before: Class, after: Class) -> Cell
     Cell::Same
 }
 
-/// The cell of a rule that turns levels.
+/// Returns the cell of a rule that changes levels.
 pub fn level_cell(before: Option<Level>, after: Option<Level>) -> Cell
     ensures { result ≡ level_cell before after }
 {

@@ -8,7 +8,7 @@ use bidtests::kind::Kind;
 use units::text::cut::cut_field;
 use units::text::trim::content;
 
-/// A code point that is no surrogate.
+/// Reads a code point that is not a surrogate.
 #[derive(Drop)]
 struct CodePoints;
 
@@ -22,7 +22,8 @@ impl ReadsItem<char> for CodePoints {
     }
 }
 
-/// Reads the characters of the row that a line is of a file of this kind into the list: rows of classes have none.
+/// Reads the characters of a row into `chars`. `line` is the row, in a file of the given kind. Rows of classes have no
+/// characters.
 pub fn read_characters(kind: Kind<'_>, line: &[u8], chars: &mut Vec<char>)
     requires short { length line.now ≤ longest_line }
     requires room { longest_line ≤ 2 * vec_capacity chars.old }

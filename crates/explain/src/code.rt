@@ -1,10 +1,10 @@
-// The code point of a character, where one is known.
+// The code point of a character, if it is known.
 ghost use Rattle.std.specs.Prelude.{Some};
 ghost use Rattle.explain.specs.Cells.{code_cell};
 
 use std::fmt;
 
-/// A character, shown as its code point in upper-case hex digits, at least four, or as `-` where none is known.
+/// A character, shown as its code point in upper-case hex digits, at least four, or as `-` if it is not known.
 #[derive(Clone, Copy)]
 pub struct Code(pub Option<char>);
 

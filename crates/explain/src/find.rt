@@ -1,4 +1,4 @@
-//! The row of a line found in a file.
+//! Finds the row of a line in a file.
 ghost use Rattle.std.specs.Prelude.{◌≡◌, ◌≤◌, ◌<◌, ℕ, List, [], OnOk, length};
 ghost use Rattle.bidtests.specs.declared.line_reader.TheConstants.{MOST_UNITS};
 ghost use Rattle.explain.specs.Searching.{SearchesOn, row_or_fault};
@@ -13,7 +13,7 @@ use std::alloc::Global;
 use std::num::NonZeroU64;
 use units::source::ByteSource;
 
-/// Reads the source up to the row that is sought, and answers what that asks for.
+/// Reads the source up to the wanted row, and returns what that row asks for.
 fn search_source<S: ByteSource>(
     search: &mut RowSearch,
     kind: Kind<'_>,
@@ -40,11 +40,11 @@ fn search_source<S: ByteSource>(
     }
 }
 
-/// Reads the source, as a file of this kind, up to the line of this number, counted from 1, and answers the row that it
-/// is. It reads 4,096 bytes at a time, and holds one line.
+/// Reads the source, as a file of the given kind, up to the given line, counted from 1, and returns its row. It reads
+/// 4,096 bytes at a time, and stores one line.
 ///
-/// The faults are `OfRow` where this line or one before it is malformed, which is the first of them, or where it is no
-/// row; `Read` where the source has failed before that was known; and `Memory` where memory is refused.
+/// Fails with `OfRow` if this line or an earlier one is malformed, which reports the first of them, or if the line is
+/// not a row. Fails with `Read` if the source fails before that is known, and with `Memory` if an allocation fails.
 pub fn find_row<S: ByteSource>(
     alloc: Global,
     kind: Kind<'_>,

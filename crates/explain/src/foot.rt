@@ -9,7 +9,7 @@ use sequences::sequence::Sequence;
 use std::io;
 use std::io::Write;
 
-/// Writes the positions of a paragraph that begins at `start` of the text, as positions of the text.
+/// Writes the positions of a paragraph as positions of the text. The paragraph begins at `start` of the text.
 fn print_positions<W: Write>(w: &mut W, start: usize, positions: &[u32]) -> io::Result<()>
     requires { start ≤ longest_text }
     ensures { OnOk result (Appends (W.contents w.old) (W.contents w.new) (positions_text start positions.now)) }
@@ -21,7 +21,7 @@ fn print_positions<W: Write>(w: &mut W, start: usize, positions: &[u32]) -> io::
     Ok(())
 }
 
-/// Writes the line of a sequence: its number, counted from 0, its level, its start and end (X10), and its positions in
+/// Writes the line of a sequence: its number, counted from 0, its level, its sos and eos (X10), and its positions in
 /// the text.
 pub fn print_sequence<W: Write>(
     w: &mut W,
@@ -40,7 +40,7 @@ pub fn print_sequence<W: Write>(
     writeln!(w)
 }
 
-/// Writes the line of a bracket pair: the positions in the text of its opener and its closer.
+/// Writes the line of a bracket pair: the positions of its opener and its closer in the text.
 pub fn print_pair<W: Write>(w: &mut W, opener: usize, closer: usize) -> io::Result<()>
     ensures { OnOk result (Appends (W.contents w.old) (W.contents w.new) (pair_text opener closer)) }
 {

@@ -1,4 +1,4 @@
-//! A row that was found.
+//! A row of a test file.
 ghost use Rattle.std.specs.Prelude.{◌≡◌, ◌≤◌, length};
 ghost use Rattle.bidtests.specs.Readings.{claim_of};
 ghost use Rattle.bidtests.specs.declared.line_reader.TheConstants.{MOST_UNITS};
@@ -9,8 +9,8 @@ use bidtests::claim::Claim;
 use bidtests::line_reader::Asked;
 use std::marker::Model;
 
-/// A row of a test file, with its text, what it claims of that, and the characters of the text, where its file says
-/// these.
+/// A row of a test file, with its text and its expected results. Rows of code points also have the characters of the
+/// text.
 #[derive(Drop)]
 pub struct FoundRow {
     rows: RowReader,
@@ -31,7 +31,7 @@ impl Model for FoundRow {
 }
 
 impl FoundRow {
-    /// The row that was read last, which asked for this.
+    /// Returns the row that was read last. `asked` is what it asks for.
     pub fn new(rows: RowReader, asked: Asked) -> FoundRow
         requires { length rows.reading.text ≤ MOST_UNITS }
         ensures { result ≡ row_in rows asked }
@@ -39,7 +39,7 @@ impl FoundRow {
         FoundRow { rows, asked }
     }
 
-    /// What it claims. Its text has 32,768 units at most.
+    /// Returns the expected results. The text has at most 32,768 units.
     pub fn claim(&self) -> Claim<'_>
         ensures claim { claim_of result ≡ self.now.claim }
         ensures fits { length result.text.now ≤ MOST_UNITS }
@@ -47,7 +47,7 @@ impl FoundRow {
         self.rows.claim(self.asked)
     }
 
-    /// The characters of its text; none where it is a row of classes.
+    /// Returns the characters of the text. A row of classes has none.
     pub fn chars(&self) -> &[char]
         ensures { result.now ≡ self.now.chars }
     {

@@ -11,14 +11,14 @@ use units::bracket::Unit;
 use units::class::Class;
 use units::level::{Direction, ParaLevel};
 
-/// What decided the level of a paragraph.
+/// What decides the level of a paragraph.
 #[derive(Clone, Copy)]
 pub enum Decider {
-    /// The direction that was asked for.
+    /// The requested direction.
     Given,
-    /// That no strong character stands outside of all isolates (P3).
+    /// There is no strong character outside isolates (P3).
     NoStrong,
-    /// The first strong character outside of all isolates (P2): its class, and its position in the text.
+    /// The first strong character outside isolates (P2): its class, and its position in the text.
     Strong(Class, usize),
 }
 
@@ -34,7 +34,7 @@ impl fmt::Display for Decider {
     }
 }
 
-/// The first strong character outside of all isolates, if there is one.
+/// Returns the first strong character outside isolates, if there is one.
 fn decider_by(para: &[Unit], start: usize, first_strong: Option<usize>) -> Decider
     requires start { start ≤ longest_text }
     requires small { length para.now ≤ longest_text }
@@ -47,8 +47,8 @@ fn decider_by(para: &[Unit], start: usize, first_strong: Option<usize>) -> Decid
     }
 }
 
-/// What decided the level of a paragraph that begins at `start` of the text. Its first strong character outside of all
-/// isolates stands at `first_strong` of the paragraph, if it has one.
+/// Returns what decides the level of a paragraph that begins at `start` of the text. `first_strong` is the position, in
+/// the paragraph, of its first strong character outside isolates, if it has one.
 pub fn decider_of(
     direction: Direction,
     para: &[Unit],
@@ -66,8 +66,8 @@ pub fn decider_of(
     }
 }
 
-/// Writes the heading of a paragraph: its number, counted from 0, its level and what decided it, and the line that
-/// names the columns of its rows.
+/// Writes the heading of a paragraph: its number, counted from 0, its level, what decides it, and a line with the names
+/// of the columns.
 pub fn print_heading<W: Write>(
     w: &mut W,
     number: usize,

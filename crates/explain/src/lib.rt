@@ -1,9 +1,8 @@
-//! What the algorithm does with a text, rule by rule: the text that shows the columns that the rules leave.
+//! Shows what each rule of the algorithm does to a text.
 //!
 //! `print` explains a text, or a row of classes. `row_print` explains a row of a test file: for each direction that the
-//! row names, what each rule does to its text, and the expected results beside those that are defined. `find` looks for
-//! the row by the number of its line, as a report prints it. It reads lines by the grammar of the judge, one at a time,
-//! up to that one.
+//! row names, what each rule does to its text, and the expected results beside the defined ones. `find` finds a row by
+//! its line number, as a report prints it. It reads lines by the grammar of the judge, one at a time, up to that line.
 #![tactic(auto)]
 
 mod cell;

@@ -1,4 +1,4 @@
-// The text of a paragraph, by what the rules leave of it.
+// The text of a paragraph, from the results of each rule.
 ghost use Rattle.std.specs.Prelude.{◌≡◌, ◌<◌, ◌≤◌, length, slice_get, OnOk, IfSome};
 ghost use Rattle.std.specs.Io.KnownBytes.{Appends};
 ghost use Rattle.units.specs.Classes.{class_at};
@@ -19,7 +19,7 @@ use units::bracket::Unit;
 use units::class::Class;
 use units::level::Direction;
 
-/// The class of the position `p` behind a rule.
+/// Returns the class of the position `p` after a rule.
 fn class_after(columns: &Columns, rule: Rule, p: usize, size: usize) -> Class
     requires length { HaveLength columns.now size }
     requires inside { p < size }
@@ -28,7 +28,7 @@ fn class_after(columns: &Columns, rule: Rule, p: usize, size: usize) -> Class
     columns.classes_after(rule)[p]
 }
 
-/// The own class of the position `p`, and its class behind each rule.
+/// Returns the original class of the position `p`, and its class after each rule.
 fn classes_through(columns: &Columns, para: &[Unit], p: usize) -> [Class; 12]
     requires length { HaveLength columns.now (length para.now) }
     requires inside { p < length para.now }
@@ -51,7 +51,7 @@ fn classes_through(columns: &Columns, para: &[Unit], p: usize) -> [Class; 12]
     ]
 }
 
-/// The levels of the position `p`.
+/// Returns the levels of the position `p`.
 fn levels_through(columns: &Columns, p: usize, size: usize) -> PositionLevels
     requires length { HaveLength columns.now size }
     requires inside { p < size }
@@ -64,7 +64,7 @@ fn levels_through(columns: &Columns, p: usize, size: usize) -> PositionLevels
     }
 }
 
-/// The character at a position of the text, if it is known.
+/// Returns the character at a position of the text, if it is known.
 fn character_at(chars: &[char], position: usize) -> Option<char>
     ensures { result ≡ slice_get chars.now position }
 {
@@ -127,7 +127,7 @@ fn print_sequences<W: Write>(w: &mut W, columns: &Columns, start: usize) -> io::
     Ok(())
 }
 
-/// Writes the line of the pair that opens at a position of a paragraph, if one does.
+/// Writes the line of the pair that opens at the position `opener` of a paragraph, if there is one.
 fn print_pair_if<W: Write>(
     w: &mut W,
     start: usize,
@@ -173,9 +173,10 @@ fn print_foot<W: Write>(w: &mut W, columns: &Columns, start: usize, size: usize)
     print_order(w, start, columns.order())
 }
 
-/// Writes the text of a paragraph, by what the rules leave of it: its heading, the lines of its positions, its foot. It
-/// has the number `number`, counted from 0, and begins at `start` of the text, whose characters are these, if they are
-/// known.
+/// Writes the text of a paragraph: its heading, the lines of its positions, and its foot.
+///
+/// `columns` are the results of each rule, and `chars` are the characters of the whole text, if they are known. The
+/// paragraph has the number `number`, counted from 0, and begins at `start` of the text.
 pub fn print_paragraph<W: Write>(
     w: &mut W,
     chars: &[char],

@@ -1,4 +1,4 @@
-// The line of a position: what each rule made of it.
+// The line of a position: what each rule changed there.
 ghost use Rattle.std.specs.Prelude.{◌<◌, length, OnOk};
 ghost use Rattle.std.specs.Io.KnownBytes.{Appends};
 ghost use Rattle.explain.specs.PositionText.{changes_text, position_start_text, position_end_text, position_text};
@@ -10,7 +10,7 @@ use std::io::Write;
 use units::class::Class;
 use units::level::Level;
 
-/// The levels of a position, none where it was removed.
+/// The levels of a position. A removed position has none.
 #[derive(Clone, Copy)]
 pub struct PositionLevels {
     /// After X1 to X9.
@@ -21,8 +21,8 @@ pub struct PositionLevels {
     pub line: Option<Level>,
 }
 
-/// Writes the cells in front of the rules that turn classes: where the position stands, its code point, its own class
-/// and its level after X1 to X9.
+/// Writes the cells before the rules that change classes: the position, its code point, its original class, and its
+/// level after X1 to X9.
 fn print_position_start<W: Write>(
     w: &mut W,
     position: usize,
@@ -39,8 +39,8 @@ fn print_position_start<W: Write>(
     write!(w, "{position} {code} {name} {level}")
 }
 
-/// Writes the cells of the rules that turn classes: `classes` are the position's own class, and the one behind each
-/// rule.
+/// Writes the cells of the rules that change classes. `classes` are the original class of the position, and its class
+/// after each rule.
 fn print_changes<W: Write>(w: &mut W, remains: bool, classes: &[Class]) -> io::Result<()>
     requires { 0 < length classes.now }
     ensures { OnOk result (Appends (W.contents w.old) (W.contents w.new) (changes_text remains classes.now)) }
@@ -52,7 +52,7 @@ fn print_changes<W: Write>(w: &mut W, remains: bool, classes: &[Class]) -> io::R
     Ok(())
 }
 
-/// Writes the cells behind the rules that turn classes: the levels after I1 and I2, and after L1.
+/// Writes the cells after the rules that change classes: the levels after I1 and I2, and after L1.
 fn print_position_end<W: Write>(w: &mut W, levels: PositionLevels) -> io::Result<()>
     ensures { OnOk result (Appends (W.contents w.old) (W.contents w.new) (position_end_text levels)) }
 {
@@ -61,7 +61,7 @@ fn print_position_end<W: Write>(w: &mut W, levels: PositionLevels) -> io::Result
     writeln!(w, " {implicit} {line}")
 }
 
-/// Writes the line of a position of the text. `classes` are its own class, and the one behind each rule in turn.
+/// Writes the line of a position of the text. `classes` are its original class, and its class after each rule in turn.
 pub fn print_position<W: Write>(
     w: &mut W,
     position: usize,

@@ -1,4 +1,4 @@
-//! What `explain` prints of a text, or of a row of classes.
+//! Prints what `explain` prints of a text, or of a row of classes.
 ghost use Rattle.std.specs.Prelude.{◌≡◌, ◌≤◌, length, map, Err, IfErr, IfOk, IsOk, OnErr, OnOk};
 ghost use Rattle.std.specs.Io.KnownBytes.{Appends};
 ghost use Rattle.units.specs.Layout.{longest_text};
@@ -19,7 +19,7 @@ use units::class::Class;
 use units::level::Direction;
 use units::memory::Memory;
 
-/// The units of these classes, none of which is a bracket. The error is refused memory.
+/// Returns the units of the given classes, none of which has a bracket. Fails if an allocation fails.
 fn plain_units(alloc: Global, classes: &[Class]) -> Result<Vec<Unit>, Memory>
     ensures { IfOk result (λ units. units.items ≡ map plain_unit classes.now) }
 {
@@ -37,14 +37,14 @@ fn plain_units(alloc: Global, classes: &[Class]) -> Result<Vec<Unit>, Memory>
     Ok(units)
 }
 
-/// The units of these characters, by tables. The error is refused memory.
+/// Returns the units of the given characters, from the tables. Fails if an allocation fails.
 fn text_units(alloc: Global, tables: &Tables, chars: &[char]) -> Result<Vec<Unit>, Memory>
     ensures { IfOk result (λ units. units.items ≡ units_by tables.now chars.now) }
 {
     Ok(tables.units_of(alloc, chars)?)
 }
 
-/// What a write came to, with the fault of a write in place of its error.
+/// Converts the error of a writer into a fault.
 fn written(outcome: io::Result<()>) -> Result<(), PrintFault>
     ensures done { OnOk outcome (IsOk result) }
     ensures fault { OnErr outcome (result ≡ Err PrintFault.Write) }
@@ -52,8 +52,8 @@ fn written(outcome: io::Result<()>) -> Result<(), PrintFault>
     Ok(outcome?)
 }
 
-/// Writes what the rules make of a paragraph, with the number `number`, that begins at `start` of a text, whose
-/// characters are these, if they are known.
+/// Writes what the rules do to a paragraph. It has the number `number` and begins at `start` of the text. `chars` are
+/// the characters of the text, if they are known.
 fn explain_paragraph<W: Write>(
     alloc: Global,
     w: &mut W,
@@ -75,8 +75,9 @@ fn explain_paragraph<W: Write>(
     written(print_paragraph(w, chars, para, &columns, direction, start, number))
 }
 
-/// Writes what `print_explained` does of a text of these units, whose characters are these, if they are known: where
-/// they are not, each row has `-` in place of a code point. There may be 16,777,216 units. The faults are the same.
+/// Writes what `print_explained` writes, for a text of the given units. `chars` are the characters of the text. If they
+/// are not known, each row has `-` instead of a code point. The text may have 16,777,216 units. The faults are the
+/// same.
 pub fn print_units<W: Write>(
     alloc: Global,
     w: &mut W,
@@ -98,21 +99,28 @@ pub fn print_units<W: Write>(
     Ok(())
 }
 
-/// Writes what the algorithm does with a text, rule by rule: for each paragraph (P1) a heading, a row for each
-/// position, and a foot. Positions are those of the whole text, from 0; each line ends with LF, and one blank parts its
-/// items.
+/// Writes what the algorithm does to a text, rule by rule: for each paragraph (P1) a heading, a row for each position,
+/// and a foot. Positions are positions of the whole text, from 0. Each line ends with LF, and its items are separated
+/// by one blank.
 ///
-/// The heading says the paragraph's number, from 0, its level, and what decided it: the class and the position of its
-/// first strong character outside of all isolates (P2), that there is none (P3), or that the direction gave it. Its
-/// second line names the columns. A row says the position, the code point, the own class, the level after X1 to X9, or
-/// `x` where the position is removed, the class after X1 to X9, after each of W1 to W7, N0, N1 and N2, the level after
-/// I1 and I2, and the level after L1 of the paragraph as one line; behind the first level `.` stands for what a rule
-/// didn't change. The foot says the isolating run sequences (X10), each with its level, its start, its end and its
-/// positions, the bracket pairs (BD16) in the order of their openers, and the remaining positions from left to right
-/// (L2).
+/// The heading contains the number of the paragraph, from 0, its level, and what decides the level: the class and the
+/// position of the first strong character outside isolates (P2), that there is none (P3), or that the direction gives
+/// the level. A second line names the columns.
 ///
-/// The text may have 16,777,216 characters. The fault is `Write` if the writer fails, when it is not known how much it
-/// took, and `Memory` if memory is refused. Then what is written is a front of that text, or nothing.
+/// A row contains these columns, in this order:
+/// - the position, the code point and the original class;
+/// - the level after X1 to X9, or `x` if the position is removed;
+/// - the class after X1 to X9, and after each of W1 to W7, N0, N1 and N2;
+/// - the level after I1 and I2, and the level after L1, with the paragraph as one line.
+///
+/// After the first level, `.` means that the rule changes nothing.
+///
+/// The foot contains the isolating run sequences (X10), each with its level, its sos, its eos and its positions. Then
+/// come the bracket pairs (BD16) in the order of their openers, and the remaining positions from left to right (L2).
+///
+/// The text may have 16,777,216 characters. Fails with `Write` if the writer fails, and with `Memory` if an allocation
+/// fails. After `Memory`, the output is a prefix of that text, or empty. After `Write`, it is not known how much the
+/// writer took.
 pub fn print_explained<W: Write>(
     alloc: Global,
     w: &mut W,
@@ -130,8 +138,8 @@ pub fn print_explained<W: Write>(
     print_units(alloc, w, text, &units, direction)
 }
 
-/// Writes what `print_explained` does of a text whose characters have these classes, none of which is a bracket: each
-/// row has `-` in place of a code point. There may be 16,777,216 classes. The faults are the same.
+/// Writes what `print_explained` writes, for a text whose characters have the given classes, none of which has a
+/// bracket. Each row has `-` instead of a code point. There may be 16,777,216 classes. The faults are the same.
 pub fn print_explained_classes<W: Write>(
     alloc: Global,
     w: &mut W,

@@ -1,25 +1,25 @@
-//! Why no row was found.
+//! Why a search returns no row.
 
 use bidtests::verdict::Cause;
 use units::memory::Memory;
 
-/// Why there is no row at the line of a number.
+/// Why a line is not a row.
 #[derive(Clone, Copy, Debug, PartialEq, Eq)]
 pub enum RowFault {
-    /// This line, the one of that number or one before it, is malformed for this cause.
+    /// The given line is malformed for this cause. It is the requested line or an earlier one.
     Malformed { line: u64, cause: Cause },
-    /// The line says something else or nothing, or there are fewer lines.
+    /// The line is not a row, or there are fewer lines.
     NoRow,
 }
 
-/// Why a search found no row.
+/// Why a search returns no row.
 #[derive(Clone, Copy, Debug, PartialEq, Eq)]
 pub enum SearchFault {
-    /// There is none.
+    /// The line is not a row, or it or an earlier one is malformed.
     OfRow(RowFault),
     /// The source failed.
     Read,
-    /// Memory was refused.
+    /// An allocation failed.
     Memory,
 }
 

@@ -1,4 +1,4 @@
-//! What is printed of a row.
+//! Prints what is explained of a row of a test file.
 ghost use Rattle.std.specs.Prelude.{◌≡◌, ◌≤◌, codes, length, map, IfErr, OnOk};
 ghost use Rattle.std.specs.Fmt.{decimal};
 ghost use Rattle.std.specs.Io.KnownBytes.{Appends};
@@ -33,7 +33,7 @@ use std::io;
 use std::io::Write;
 use units::level::{Direction, Level, ParaLevel};
 
-/// Writes the line of a paragraph's level, behind this name.
+/// Writes a line with this name and the level of a paragraph.
 fn print_level_line<W: Write>(w: &mut W, name: &str, level: Option<ParaLevel>) -> io::Result<()>
     ensures { OnOk result (Appends (W.contents w.old) (W.contents w.new)
         (said_line name.now (para_text (option_map level_of_para level)))) }
@@ -44,14 +44,14 @@ fn print_level_line<W: Write>(w: &mut W, name: &str, level: Option<ParaLevel>) -
     }
 }
 
-/// The level of the first paragraph.
+/// Returns the level of the first paragraph.
 fn first_level(paras: &[ParaLevel]) -> Option<ParaLevel>
     ensures { option_map level_of_para result ≡ first_of (map level_of_para paras.now) }
 {
     paras.first().copied()
 }
 
-/// Writes the level that is claimed of the first paragraph, and the one that is defined.
+/// Writes the expected level of the first paragraph, and the defined one.
 fn print_levels_of_first<W: Write>(
     w: &mut W,
     claimed: ParaLevel,
@@ -65,7 +65,7 @@ fn print_levels_of_first<W: Write>(
     print_level_line(w, "defined paragraph level", defined)
 }
 
-/// Writes these levels, if one is claimed.
+/// Writes both levels of the first paragraph, if one is expected.
 fn print_para_lines<W: Write>(
     w: &mut W,
     claimed: Option<ParaLevel>,
@@ -80,7 +80,7 @@ fn print_para_lines<W: Write>(
     }
 }
 
-/// Writes the line of levels, behind this name.
+/// Writes a line with this name and the given levels.
 fn print_levels_line<W: Write>(w: &mut W, name: &str, levels: &[Option<Level>]) -> io::Result<()>
     ensures { OnOk result (Appends (W.contents w.old) (W.contents w.new)
         (said_line name.now (behind_blanks level_text levels.now))) }
@@ -90,7 +90,7 @@ fn print_levels_line<W: Write>(w: &mut W, name: &str, levels: &[Option<Level>]) 
     writeln!(w)
 }
 
-/// Writes the levels that are claimed, and those that are defined.
+/// Writes the expected levels, and the defined ones.
 fn print_levels_lines<W: Write>(
     w: &mut W,
     claimed: &[Option<Level>],
@@ -103,7 +103,7 @@ fn print_levels_lines<W: Write>(
     print_levels_line(w, "defined levels", layout.levels())
 }
 
-/// Writes the order that is claimed.
+/// Writes the expected order.
 fn print_claimed_order<W: Write>(w: &mut W, order: &[usize]) -> io::Result<()>
     ensures { OnOk result (Appends (W.contents w.old) (W.contents w.new)
         (said_line (codes "claimed order") (behind_blanks decimal order.now))) }
@@ -113,7 +113,7 @@ fn print_claimed_order<W: Write>(w: &mut W, order: &[usize]) -> io::Result<()>
     writeln!(w)
 }
 
-/// Writes the order that is defined.
+/// Writes the defined order.
 fn print_defined_order<W: Write>(w: &mut W, layout: &Layout<'_>) -> io::Result<()>
     ensures { OnOk result (Appends (W.contents w.old) (W.contents w.new)
         (said_line (codes "defined order") (behind_blanks decimal (all_orders (view_of layout.now))))) }
@@ -123,7 +123,7 @@ fn print_defined_order<W: Write>(w: &mut W, layout: &Layout<'_>) -> io::Result<(
     writeln!(w)
 }
 
-/// Writes what a row claims, beside what a layout has.
+/// Writes the expected results of a row, beside those of a layout.
 fn print_claim<W: Write>(w: &mut W, claim: Claim<'_>, layout: &Layout<'_>) -> io::Result<()>
     ensures { OnOk result (Appends (W.contents w.old) (W.contents w.new)
         (claim_text (claim_of claim.entry) (view_of layout.now))) }
@@ -134,7 +134,7 @@ fn print_claim<W: Write>(w: &mut W, claim: Claim<'_>, layout: &Layout<'_>) -> io
     print_defined_order(w, layout)
 }
 
-/// Writes what a row claims, beside what the rules give under the direction.
+/// Writes the expected results of a row, beside those that the rules give under the direction.
 fn print_beside<W: Write>(
     w: &mut W,
     claim: Claim<'_>,
@@ -159,7 +159,7 @@ fn print_case_heading<W: Write>(w: &mut W, number: u64, direction: Direction) ->
     writeln!(w, "line {number}: {word}")
 }
 
-/// Writes what is printed of the row at the line of this number under a direction.
+/// Writes what is printed under one direction. `number` is the line number of the row.
 fn print_case<W: Write>(
     alloc: Global,
     w: &mut W,
@@ -182,7 +182,7 @@ fn print_case<W: Write>(
     Ok(())
 }
 
-/// Writes what is printed of the row at the line of this number under each of these directions.
+/// Writes what is printed under each of the given directions. `number` is the line number of the row.
 fn print_cases<W: Write>(
     alloc: Global,
     w: &mut W,
@@ -203,13 +203,15 @@ fn print_cases<W: Write>(
     Ok(())
 }
 
-/// Writes what is printed of the row at the line of this number. For each direction that it names, in the order auto,
-/// LTR, RTL, AutoRtl: a line with that number and the direction, what `explain` prints of its text under that
-/// direction, and then what it claims and what the rules P1 to L2 give, each a line: the level of the first paragraph,
-/// if it claims one, the levels, with `x` where a position is removed, and the order. Items stand behind a blank each.
+/// Writes the explanation of the row whose line number is `number`. For each direction of the row, in the order auto,
+/// LTR, RTL, AutoRtl, it writes:
+/// - a line with that number and the direction;
+/// - what `explain` prints of the row's text under that direction;
+/// - the expected results, and the results of the rules P1 to L2, on a line each: the level of the first paragraph, if
+///   the row expects one, the levels, with `x` for a removed position, and the order. One blank precedes each item.
 ///
-/// The fault is `Write` if the writer fails, when it is not known how much it took, and `Memory` if memory is refused.
-/// Then what is written is a front of that text, or nothing.
+/// Fails with `Write` if the writer fails, and with `Memory` if an allocation fails. After `Memory`, the output is a
+/// prefix of that text, or empty. After `Write`, it is not known how much the writer took.
 pub fn print_row<W: Write>(
     alloc: Global,
     w: &mut W,

@@ -1,4 +1,4 @@
-// Lines read one behind the other, up to a row that is sought.
+// Reads lines in order, up to a wanted row.
 ghost use Rattle.std.specs.Prelude.{◌≡◌, ◌*◌, ◌≤◌, IfOk, IsSome, length, vec_capacity};
 ghost use Rattle.units.specs.Text.{longest_line};
 ghost use Rattle.bidtests.specs.declared.line_reader.TheConstants.{MOST_UNITS};
@@ -12,7 +12,7 @@ use std::alloc::Global;
 use std::marker::Model;
 use units::memory::Memory;
 
-/// What reads the lines, and the characters of the row that was found.
+/// Reads the lines, and stores the characters of the row.
 #[derive(Drop)]
 pub struct RowReader {
     reader: LineReader,
@@ -36,7 +36,7 @@ impl RowReader {
     ghost use Rattle.bidtests.specs.Readings.{claim_of};
     ghost use Rattle.explain.specs.Searching.{SaysOfRow};
 
-    /// Before the first line.
+    /// Creates a reader before the first line.
     pub fn new(alloc: Global) -> Result<RowReader, Memory>
         ensures { IfOk result (λ rows. HasNoList rows.reading) }
     {
@@ -45,8 +45,8 @@ impl RowReader {
         Ok(RowReader { reader, chars })
     }
 
-    /// Reads the line of this number of a file of this kind, by what the lines before it said, and answers what its row
-    /// asks for, if it stands at the number that is sought or behind it.
+    /// Reads a line, given the lines before it. Returns what its row asks for if its number is at least `sought`.
+    /// `number` is the number of the line.
     pub fn take_line(
         &mut self,
         kind: Kind<'_>,
@@ -77,14 +77,14 @@ impl RowReader {
         Ok(Some(asked))
     }
 
-    /// What the row claims that was found, which asked for this.
+    /// Returns the expected results of the row that was read last. `asked` is what it asks for.
     pub fn claim(&self, asked: Asked) -> Claim<'_>
         ensures { claim_of result ≡ claim_in self.now.reading asked }
     {
         self.reader.claim(asked)
     }
 
-    /// The characters of its text, if it has some.
+    /// Returns the characters of the row's text. A row of classes has none.
     pub fn chars(&self) -> &[char]
         ensures { result.now ≡ self.now.chars }
     {

@@ -1,4 +1,4 @@
-// A search for the row of a line, in the bytes of a file.
+// Searches the bytes of a file for the row of a line.
 ghost use Rattle.std.specs.Prelude.{◌≡◌, ◌≤◌, ◌<◌, ℕ, List, [], ◌++◌, IfOk, IsSome, OnOk, length};
 ghost use Rattle.units.specs.LineAnswers.{CutIsShort};
 ghost use Rattle.bidtests.specs.declared.kind.Kind.{Kind as FileKind};
@@ -16,7 +16,7 @@ use std::marker::Model;
 use units::line_cut::{Cut, LineCut};
 use units::memory::Memory;
 
-/// A search for a row: it holds one line, one row's text and the lists in force.
+/// A search for a row. It stores one line, the text of one row and the lists in force.
 #[derive(Drop)]
 pub struct RowSearch {
     cutter: LineCut,
@@ -31,7 +31,7 @@ impl Model for RowSearch {
     ghost view = { λ s. record { cutting = s.cutter; rows = s.rows } };
 }
 
-/// Reads the line that a cut ends, if it ends one.
+/// Reads the line that ends at the cut, if one does.
 fn take_cut(
     kind: Kind<'_>,
     rows: &mut RowReader,
@@ -52,7 +52,7 @@ fn take_cut(
     }
 }
 
-/// What a search comes to by what the last line of its file says.
+/// Returns the result of a search. `row` is the result of the last line of the file.
 fn of_last(row: Result<Option<Asked>, RowFault>) -> Result<Asked, RowFault>
     ensures { EndsLast row result }
 {
@@ -64,7 +64,7 @@ fn of_last(row: Result<Option<Asked>, RowFault>) -> Result<Asked, RowFault>
 }
 
 impl RowSearch {
-    /// Before the first byte of a file.
+    /// Creates a search before the first byte of a file.
     pub fn new(alloc: Global) -> Result<RowSearch, Memory>
         ensures { IfOk result (λ search. (kind : FileKind) (sought : ℕ) → 0 < sought
             → SearchesOn kind sought search []) }
@@ -76,8 +76,8 @@ impl RowSearch {
         })
     }
 
-    /// Takes the next bytes of a file of this kind, through the end of a line at most, and answers how many, and what
-    /// the row asks for that is sought, if that line is the one.
+    /// Takes the next bytes of a file of the given kind, at most through the end of a line. Returns how many it took,
+    /// and what the wanted row asks for if that line is the row.
     fn take_next(
         &mut self,
         kind: Kind<'_>,
@@ -95,8 +95,8 @@ impl RowSearch {
         Ok((used, row))
     }
 
-    /// Takes the next bytes of a file of this kind, up to the row that is sought, and answers what that asks for, if
-    /// they hold it. The error is why there is none.
+    /// Takes the next bytes of a file of the given kind, up to the wanted row. Returns what that row asks for if the
+    /// bytes contain it. Fails if the row does not exist, or if it or an earlier line is malformed.
     pub fn take(
         &mut self,
         kind: Kind<'_>,
@@ -118,7 +118,7 @@ impl RowSearch {
         Ok(None)
     }
 
-    /// The row that was found, which asked for this.
+    /// Returns the row that ended the search. `asked` is what it asks for.
     pub fn found(self, asked: Asked) -> FoundRow
         requires { length self.rows.reading.text ≤ MOST_UNITS }
         ensures { result ≡ row_in self.rows asked }
@@ -127,8 +127,8 @@ impl RowSearch {
         FoundRow::new(rows, asked)
     }
 
-    /// Takes the end of a file of this kind, and answers what the row asks for that is sought, if the line that has
-    /// begun is the one. The error is why there is none.
+    /// Takes the end of a file of the given kind. Returns what the wanted row asks for if the unfinished line is that
+    /// row. Fails if the row does not exist, or if it or an earlier line is malformed.
     pub fn finish(&mut self, kind: Kind<'_>, sought: u64) -> Result<Asked, RowFault>
         ensures ends { (b : List ℕ) → SearchesOn kind.entry sought self.old b
             → EndsWith kind.entry sought self.new b result }
