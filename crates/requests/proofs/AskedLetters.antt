@@ -1,4 +1,4 @@
--- The letters of rows that are asked for, and what is read for them.
+-- The letters of requested rows, and what is read for them.
 use Rattle.std.proofs.Common.{◌≡◌, ℕ, List, Option, None, Some, map, subst, refl}
 use Rattle.std.specs.Option.{option_map}
 use Rattle.units.specs.declared.class.Class.{Class}
@@ -28,7 +28,7 @@ pub chars_read : (letters : RowLetters) (chars : List ℕ) → chars_asked lette
 chars_read (Alphabet word) chars e = ((chars, e), tt)
 chars_read (OfForm form) chars e = tt
 
--- where there are letters, what is read for them is done
+-- if there are letters, what is read for them is done
 pub alphabet_done : (files : FileFacts) (k : FileKind) (source : TableSource) (kind : Kind) (letters : RowLetters) (xs : List Letter)
     → IsKindOfFile files k (Some source) kind → letters_asked kind letters ≡ Some xs → AreDone (alphabet_parts k letters)
 alphabet_done files Classes source kind letters xs h e =

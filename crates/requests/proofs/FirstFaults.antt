@@ -1,4 +1,4 @@
--- The fault of the first step that fails, where parts are joined; and what ends a part.
+-- The fault of the first part that fails if parts are joined, and what ends a part.
 use Rattle.std.proofs.Common.{◌≡◌, ℕ, List, [], ◌∷◌, ◌++◌, ◌≤◌, length, Option, None, Some, Result, Ok, Err, IfErr, IsErrAnd, inl, inr, subst, sym}
 use Rattle.std.specs.Str.{chars}
 use Rattle.units.specs.Text.{lines_of}
@@ -35,7 +35,7 @@ use Rattle.printing.specs.declared.fault.PrintFault.TheVariants.{Write, Memory}
 use Rattle.requests.specs.declared.outcome.Outcome.{Outcome}
 use Rattle.requests.specs.declared.outcome.Outcome.TheVariants.{Judged, Printed}
 
--- a fault that is handed on
+-- a fault that is returned unchanged
 pub handed_on : (Ends : Fault → Type 0) {T : Type 0} (r : Result T Fault) (e : Fault) → IsErrAnd r (λ given. given ≡ e) → Ends e → IfErr r Ends
 handed_on Ends (Ok x) e same h = tt
 handed_on Ends (Err given) e same h = subst Ends (sym same) h
@@ -53,7 +53,7 @@ pub all_done : (xs ys : List RequestPart) → AreDone xs → AreDone ys → AreD
 all_done [] ys done rest = rest
 all_done (x ∷ xs) ys done rest = (done.0, all_done xs ys done.1 rest)
 
--- behind parts that are done, what ends the rest ends all
+-- what ends the parts after completed ones ends all
 pub FailsOver-behind : (xs first all : List RequestPart) (before after : Option (List ℕ)) (fault : Fault) → AreDone xs → FailsOver first all before after fault
     → FailsOver (xs ++ first) (xs ++ all) before after fault
 FailsOver-behind xs first all before after fault done (inl h) = inl (first_behind xs first fault done h.0, h.1)
@@ -63,7 +63,7 @@ pub FailsIn-behind : (xs ys : List RequestPart) (before after : Option (List ℕ
     → FailsIn (xs ++ ys) before after fault
 FailsIn-behind xs ys before after fault done h = FailsOver-behind xs ys ys before after fault done h
 
--- the tables that were read state no fault
+-- the tables that were read have no fault
 pub class_faultless : (bytes : List ℕ) → class_file_fault bytes ≡ None → first_fault class_fault [] (lines_of bytes) ≡ None
 unfolding class_file_fault
 class_faultless bytes h = h
@@ -85,7 +85,7 @@ tables_done files folder tables h = (
   ),
 )
 
--- the tables that rows need, and what they hold by these
+-- the tables that rows need, and the kind of the rows with these
 pub has_rows : (files : FileFacts) (kind : FileKind) (source : Option TableSource) (tables : Option TablesOf) (rows : Kind)
     → HasRowTables files kind source tables → AreRowsBy tables rows → IsKindOfFile files kind source rows
 has_rows files Classes source tables rows h by = subst (λ (t : Option TablesOf). AreRowsBy t rows) h by
@@ -104,7 +104,7 @@ row_tables_done files Classes source rows is = tt
 row_tables_done files Characters (Some source) rows is = source_done files source is.0.now is.1
 row_tables_done files Characters None rows is = absurd is
 
--- and so are all parts of what is read of a text that was read whole
+-- all parts of the reading of a text are done if the text was read whole
 pub text_done : (files : FileFacts) (file text : List ℕ) → HoldsText files file text → AreDone (text_parts files file)
 text_done files file text h = ((h.bytes, h.read), ((h.bytes, h.read, h.utf8), tt))
 
@@ -114,14 +114,14 @@ unfolding whole_parts
 whole_done files source file tables h text read =
     all_done (source_parts files source) (text_parts files file) (source_done files source tables h) (text_done files file text read)
 
--- and of one that is printed while it is read, before its first byte
+-- all parts before the first byte are done for a text that is printed while it is read
 pub begun_done : (files : FileFacts) (source : TableSource) (file : List ℕ) (tables : TablesOf) → AreTablesBy files source tables
     → (bytes : List ℕ) → files.Begins (origin_of file) most_text_bytes bytes → AreDone (printing_parts files source file)
 unfolding printing_parts
 begun_done files source file tables h bytes begins =
     all_done (source_parts files source) (opening_part files most_text_bytes file ∷ []) (source_done files source tables h) ((bytes, begins), tt)
 
--- and all parts of the explaining of code points
+-- all parts of the explanation of code points are done
 pub codes_done : (files : FileFacts) (word : List ℕ) (source : TableSource) (tables : TablesOf) → AreTablesBy files source tables
     → length word ≤ most_text_bytes → (chars : List ℕ) → codes_said word ≡ Some chars → AreDone (explaining_parts files word source)
 unfolding explaining_parts
@@ -132,7 +132,7 @@ pub writing_ends : (f : PrintFault) → EndsWriting (print_fault f)
 writing_ends Write = tt
 writing_ends Memory = tt
 
--- where all was read, a fault of printing is one of writing
+-- if everything was read, a fault of printing is a fault of writing
 pub writing_fails : {A : Type 0} (first all : List RequestPart) (before after : Option (List ℕ)) (r : Result A Fault) (f : PrintFault) → AreDone all
     → IsErrAnd r (λ fault. fault ≡ print_fault f) → IfErr r (FailsOver first all before after)
 writing_fails first all before after (Ok x) f done h = tt
@@ -142,7 +142,7 @@ pub printing_fails : {A : Type 0} (parts : List RequestPart) (before after : Opt
     → IsErrAnd r (λ fault. fault ≡ print_fault f) → IfErr r (FailsIn parts before after)
 printing_fails parts before after r f done h = writing_fails parts parts before after r f done h
 
--- what is asked of rows that were printed says them
+-- all parts of rows that were printed are done
 rows_done : (files : FileFacts) (asked : AskedRows) (before after : Option (List ℕ)) → HasPrintedRows files asked before after → AreDone (rows_parts files asked)
 unfolding rows_parts
 rows_done files asked before after h = (
@@ -156,7 +156,7 @@ rows_done files asked before after h = (
   ),
 )
 
--- and so are all parts of the printing of a text's lines
+-- all parts of the printing of a text's lines are done
 pub lines_done : (files : FileFacts) (asked : AskedLines) (directions : List Direction) → SaysDirections asked.directions.now directions
     → (tables : TablesOf) → AreTablesBy files asked.tables tables
     → (text : List ℕ) → HoldsText files asked.file.now text → first_long_line text ≡ None → AreDone (lines_parts files asked)
@@ -167,13 +167,13 @@ lines_done files asked directions says tables h text read short = (
       (all_done (text_parts files asked.file.now) (lines_part files asked.file.now ∷ []) (text_done files asked.file.now text read) ((text, read, short), tt)),
 )
 
--- what a row that was found holds was read, and so was the file up to it
+-- if the search returned the row, all parts for it are done
 pub row_done : (files : FileFacts) (sought : SoughtRow) (rows : Kind) → IsKindOfFile files sought.kind sought.tables rows → (sought_part files sought).Done
     → AreDone (row_parts files sought)
 row_done files sought rows is found = all_done (row_table_parts files sought.kind sought.tables) (sought_part files sought ∷ [])
     (row_tables_done files sought.kind sought.tables rows is) (found, tt)
 
--- what was done was read before
+-- all parts of a completed request are done
 pub request_done : (files : FileFacts) (before after : Option (List ℕ)) (request : Request) (outcome : Outcome)
     → IsDone files before after request outcome → AreDone (all_parts_of files request)
 request_done files before after (Text source direction file print) Printed h =

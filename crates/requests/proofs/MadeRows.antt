@@ -1,4 +1,4 @@
--- How the printing of rows that are asked for fails: by a word, by the tables, or as what is made of their texts.
+-- How the printing of requested rows fails: by an argument, by the tables, or in the making of their texts.
 use Rattle.std.proofs.Common.{◌≡◌, ℕ, List, [], ◌∷◌, ◌++◌, map, Option, Some, Result, Ok, Err, IfErr, IsErrAnd, inl, inr, refl, subst, sym, ap, ◌∙◌}
 use Rattle.std.specs.Borrow.{Bor}
 use Rattle.std.specs.Option.{option_map}
@@ -28,22 +28,22 @@ use Rattle.requests.specs.declared.request.RowsForm.{RowsForm}
 use Rattle.requests.proofs.AskedLetters.{alphabet_done, chars_read}
 use Rattle.requests.proofs.FirstFaults.{FailsIn-behind, first_behind, first_of_all, handed_on, row_tables_done}
 
--- what ends a part before all else ends the request, and nothing is written
+-- what ends a part before all others ends the request, and nothing is written
 pub first_fails : (parts : List RequestPart) (known : Option (List ℕ)) {T : Type 0} (r : Result T Fault) (e : Fault) → IsErrAnd r (λ given. given ≡ e)
     → IsFirstFault parts e → IfErr r (FailsIn parts known known)
 first_fails parts known r e same h = handed_on (FailsIn parts known known) r e same (inl (h, refl))
 
--- refused memory ends the making of texts
+-- a failed allocation ends the making of texts
 pub memory_fails : (form : RowsForm) (texts : ExhaustiveOf) (known : Option (List ℕ)) {T : Type 0} (r : Result T Fault)
     → IsErrAnd r (λ given. given ≡ OutOfMemory) → IfErr r (FailsIn (making_part form texts ∷ []) known known)
 memory_fails form texts known r same = first_fails (making_part form texts ∷ []) known r OutOfMemory same (inl tt)
 
 module _ (files : FileFacts) (asked : AskedRows) where
-  -- the words for the lengths and for the directions
+  -- the values of the lengths and the directions
   abbrev word_parts : List RequestPart
   word_parts = lengths_part asked.lengths.now ∷ directions_part asked.directions.now ∷ []
 
-  -- what is read behind them
+  -- what is read after them
   abbrev letter_parts : List RequestPart
   letter_parts = alphabet_parts asked.kind asked.letters ++ (row_table_parts files asked.kind (Some asked.tables) ++ texts_part files asked ∷ [])
 
@@ -56,7 +56,7 @@ module _ (files : FileFacts) (asked : AskedRows) where
   unfolding rows_parts
   directions_fail ends fault e h = inr ((ends, e), inl h)
 
-  -- behind the words that say lengths and directions
+  -- after the values of the lengths and the directions
   module _ (least greatest : ℕ) (directions : List Direction) (e : lengths_named asked.lengths.now ≡ Some (least, greatest)) (says : SaysDirections asked.directions.now directions) where
     words_done : AreDone word_parts
     words_done = (((least, greatest), e), ((directions, says), tt))
@@ -109,14 +109,14 @@ module _ (files : FileFacts) (asked : AskedRows) where
         rows_fail_if (Ok x) h = h
         rows_fail_if (Err fault) h = rows_fail fault h
 
-      -- what ends the making of texts of classes
+      -- what ends the making of texts of classes ends the request
       pub of_classes_fail : asked.kind ≡ Classes → letters_asked file.Classes asked.letters ≡ Some letters
           → {T : Type 0} (r : Result T Fault) → IfErr r (FailsIn (making_part asked.form (texts_over letters least greatest) ∷ []) before after)
           → IfErr r (FailsIn (rows_parts files asked) before after)
       of_classes_fail k are r h =
           rows_fail_if file.Classes (subst (λ (f : FileKind). IsKindOfFile files f (Some asked.tables) file.Classes) (sym k) refl) are r h
 
-      -- and of characters, by these tables
+      -- the same for characters, with these tables
       pub of_characters_fail : (tables : TablesOf) (chars : List ℕ) → asked.kind ≡ Characters → AreTablesBy files asked.tables tables
           → chars_asked asked.letters ≡ Some chars → letters ≡ map (letter_by tables) chars
           → {T : Type 0} (r : Result T Fault) → IfErr r (FailsIn (making_part asked.form (texts_over letters least greatest) ∷ []) before after)

@@ -24,7 +24,7 @@ module _ (files : FileFacts) (form : Form) (direction : Direction) (source : Tab
       (inl (inl (first_of_all (source_parts files source) (opening_part files most_text_bytes file ∷ []) e h, refl)))
 
   module _ (tables : TablesOf) (stated : AreTablesBy files source tables) where
-    -- as what FILE names is opened
+    -- by the opening of FILE
     pub opening_fails : {T : Type 0} (r : Result T Fault) (e : Fault) → IsErrAnd r (λ given. given ≡ e)
         → EndsOpening (files.Refuses (origin_of file) most_text_bytes) (word_file most_text_bytes file) e
         → IfErr r (FailsToPrint files form direction source file before before)
@@ -32,7 +32,7 @@ module _ (files : FileFacts) (form : Form) (direction : Direction) (source : Tab
     opening_fails r e same h = handed_on (FailsToPrint files form direction source file before before) r e same
         (inl (inl (first_behind (source_parts files source) (opening_part files most_text_bytes file ∷ []) e (source_done files source tables stated) (inl h), refl)))
 
-    -- by a write, where all of it was read and is UTF-8
+    -- by a write, after all of the text was read and is UTF-8
     pub write_fails : (after : Option (List ℕ)) (bytes : List ℕ) → files.Begins (origin_of file) most_text_bytes bytes
         → files.Holds (origin_of file) most_text_bytes bytes → IsUtf8 bytes → FailsToPrint files form direction source file before after CannotWrite
     write_fails after bytes begins read utf8 =

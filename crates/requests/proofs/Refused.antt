@@ -1,4 +1,4 @@
--- What refused memory leaves, handed on.
+-- The output after a failed allocation, if the fault is returned unchanged.
 use Rattle.std.proofs.Common.{◌≡◌, ℕ, List, Option, Result, Ok, Err, IfErr, IsErrAnd, false}
 use Rattle.printing.specs.declared.fault.PrintFault.{PrintFault}
 use Rattle.printing.specs.declared.fault.PrintFault.TheVariants.{Write, Memory}
@@ -12,7 +12,7 @@ use Rattle.requests.specs.declared.request.Request.{Request}
 use Rattle.requests.proofs.FirstFaults.{handed_on}
 
 module _ (before after : Option (List ℕ)) where
-  -- by the printing of rows
+  -- of the printing of rows
   pub rows_leave : {T : Type 0} (r : Result T Fault) (f : PrintFault) → FaultLeaves before after f → IsErrAnd r (λ given. given ≡ print_fault f)
       → IfErr r (MemoryLeaves before after)
   rows_leave (Ok x) f h same = tt
@@ -20,7 +20,7 @@ module _ (before after : Option (List ℕ)) where
   rows_leave (Err given) Memory h same = λ refused. h
 
   module _ (request : Request) where
-    -- by what a request does
+    -- of a request
     pub leaves_all : {T : Type 0} (r : Result T Fault) → IfErr r (MemoryLeaves before after) → IfErr r (RefusalLeaves before after request)
     leaves_all (Ok x) h = h
     leaves_all (Err given) h = λ first. h
@@ -29,12 +29,12 @@ module _ (before after : Option (List ℕ)) where
         → IfErr r (RefusalLeaves before after request)
     leaves_on r e same h = handed_on (RefusalLeaves before after request) r e same (λ first. h)
 
-    -- of a request that takes memory behind its first write nothing is said
+    -- nothing is promised for a request that allocates after its first write
     pub leaves_open : takes_memory_first request ≡ false → {T : Type 0} (r : Result T Fault) → IfErr r (RefusalLeaves before after request)
     leaves_open later (Ok x) = tt
     leaves_open later (Err given) = λ first. absurd cc
 
-    -- nor of a write that failed
+    -- nothing is promised after a failed write
     pub leaves_written : {T : Type 0} (r : Result T Fault) (e : Fault) → IsErrAnd r (λ given. given ≡ e) → e ≡ CannotWrite
         → IfErr r (RefusalLeaves before after request)
     leaves_written (Ok x) e same is = tt

@@ -46,12 +46,12 @@ module _ (files : FileFacts) (before after : Option (List ℕ)) where
   steps_fail request (Ok x) h = h
   steps_fail request (Err fault) h = inl h
 
-  -- and so does what is handed on of that
+  -- the same for a fault that is returned unchanged
   pub handed_fail : (request : Request) {T : Type 0} (r : Result T Fault) (e : Fault) → IsErrAnd r (λ given. given ≡ e)
       → FailsOver (parts_of files request) (all_parts_of files request) before after e → IfErr r (Fails files before after request)
   handed_fail request r e same h = handed_on (Fails files before after request) r e same (inl h)
 
-  -- what ends a report on a file of such rows ends its request, behind the tables that these need
+  -- what ends a report on a file of these rows ends its request, after the tables that the rows need
   pub rows_fail : (kind : FileKind) (source : Option TableSource) (file : Bor (List ℕ)) (options : ReportOptions) (rows : Kind)
       → IsKindOfFile files kind source rows → {T : Type 0} (r : Result T Fault) (e : Fault) → IsErrAnd r (λ given. given ≡ e)
       → FailsAs files rows file.now options before after e → IfErr r (Fails files before after (Report kind source file options))

@@ -1,5 +1,5 @@
--- How a fault is said: its line on standard error, a second one with its reason, if that is asked for, and the exit
--- status that goes with it.
+-- How a fault is reported: its line on standard error, a second line with its reason if that is requested, and the exit
+-- status.
 use Rattle.std.specs.Prelude.{◌≡◌, ℕ, Bool, List, [], ◌∷◌, ◌++◌, Option, codes, true, false}
 use Rattle.std.specs.List.{concat}
 use Rattle.std.specs.Fmt.{decimal}
@@ -24,21 +24,21 @@ use Rattle.printing.specs.declared.written.Written.TheVariants.{Whole, CutOff}
 use Rattle.rows.specs.declared.fault.RowsFault.{RowsFault}
 use Rattle.rows.specs.declared.fault.RowsFault.TheVariants as refused
 
--- the line that says what is wrong with a line of a table's file: the file's name, the line's number from 1, and the
--- fault's name
+-- the line that reports a faulty line of a table's file: the file's name, the line's number from 1, and the fault's
+-- name
 abbrev pub faulty_line_text : List ℕ → ℕ → TableFault → List ℕ
 faulty_line_text name line fault =
     concat (codes "bidi: " ∷ name ∷ codes ": line " ∷ decimal line ∷ codes ": " ∷ name_of fault ∷ line_feed ∷ [])
 
--- the line that says that a name is that of no class
+-- the line that reports that an item is not the name of a class
 abbrev pub no_class_text : List ℕ → List ℕ
 no_class_text name = concat (codes "bidi: " ∷ name ∷ codes " is no class" ∷ line_feed ∷ [])
 
--- the line that says that an item is no code point
+-- the line that reports that an item is not a code point
 abbrev pub no_code_point_text : List ℕ → List ℕ
 no_code_point_text item = concat (codes "bidi: " ∷ item ∷ codes " is no code point" ∷ line_feed ∷ [])
 
--- the line that says that an item is no direction
+-- the line that reports that an item is not a direction
 abbrev pub no_direction_text : List ℕ → List ℕ
 no_direction_text item = concat (codes "bidi: " ∷ item ∷ codes " is no direction" ∷ line_feed ∷ [])
 
@@ -50,34 +50,34 @@ rows_refusal refused.TooLong = codes "--length ends above 4095"
 rows_refusal refused.TooMany = codes "there are too many texts"
 rows_refusal refused.NoneBetween = codes "--length ends before it begins"
 
--- the line that says it
+-- the line that reports why texts can't be enumerated or drawn
 abbrev pub no_rows_text : RowsFault → List ℕ
 no_rows_text fault = concat (codes "bidi: " ∷ rows_refusal fault ∷ line_feed ∷ [])
 
--- the line that says that the file of this name can't be read
+-- the line that reports that the file of this name can't be read
 abbrev pub unread_text : List ℕ → List ℕ
 unread_text name = concat (codes "bidi: cannot read " ∷ name ∷ line_feed ∷ [])
 
--- the line that says that the text in the file of this name is not UTF-8
+-- the line that reports that the text in the file of this name is not UTF-8
 abbrev pub not_utf8_text : List ℕ → List ℕ
 not_utf8_text name = concat (codes "bidi: " ∷ name ∷ codes ": not UTF-8" ∷ line_feed ∷ [])
 
--- the line that says that a line of the text in the file of this name, by its number from 1, is too long for a row
+-- the line that reports that a line of the text in the file of this name, by its number from 1, is too long for a row
 abbrev pub long_line_text : List ℕ → ℕ → List ℕ
 long_line_text name line =
     concat (codes "bidi: " ∷ name ∷ codes ": line " ∷ decimal line ∷ codes ": too long" ∷ line_feed ∷ [])
 
--- the line that says that a line of the conformance file of this name, by its number from 1, is no row
+-- the line that reports that a line of the conformance file of this name, by its number from 1, is not a row
 abbrev pub no_row_text : List ℕ → ℕ → List ℕ
 no_row_text name line =
     concat (codes "bidi: " ∷ name ∷ codes ": line " ∷ decimal line ∷ codes " is no row" ∷ line_feed ∷ [])
 
--- the line that says why it is malformed
+-- the line that reports why such a line is malformed
 abbrev pub malformed_line_text : List ℕ → ℕ → Cause → List ℕ
 malformed_line_text name line cause = concat
     (codes "bidi: " ∷ name ∷ codes ": line " ∷ decimal line ∷ codes ": malformed: " ∷ cause_name cause ∷ line_feed ∷ [])
 
--- the line that says that a write failed
+-- the line that reports that a write failed
 abbrev pub cannot_write_text : List ℕ
 cannot_write_text = concat (codes "bidi: cannot write" ∷ line_feed ∷ [])
 
@@ -103,13 +103,13 @@ fault_line CannotWrite = cannot_write_text
 fault_line NobodyReads = cannot_write_text
 fault_line OutOfMemory = concat (codes "bidi: out of memory" ∷ line_feed ∷ [])
 
--- what is said of a fault: its line, and if all is asked for the line of its reason too
+-- the text of a fault: its line, and with Verbose the line of its reason
 abbrev pub fault_text : Detail → Fault → List ℕ
 fault_text Brief fault = fault_line fault
 fault_text Verbose fault = fault_line fault ++ reason_line (reason_of fault)
 
--- 2 where the words of the command line are no text, name no tables, no classes, no code points, no directions, no rows
--- or a line that is none, 3 where the run failed
+-- 2 if an argument is not UTF-8, not allowed or too long, if no tables are named, or if the requested line is not a
+-- row; 3 if the run failed
 abbrev pub fault_status : Fault → ℕ
 fault_status WordNotUtf8 = 2
 fault_status TablesNeeded = 2
@@ -131,7 +131,7 @@ fault_status CannotWrite = 3
 fault_status NobodyReads = 3
 fault_status OutOfMemory = 3
 
--- nothing that was to be written is missing
+-- everything that was to be written was written
 abbrev pub is_whole : Written → Bool
 is_whole Whole = true
 is_whole CutOff = false
@@ -144,19 +144,19 @@ all_written CannotWrite = false
 all_written NobodyReads = false
 all_written _ = true
 
--- a run ends by this fault: with its status, and if that is said, what known bytes grew by is what is said of the fault
+-- a run ends with this fault: with its exit status, and if the fault is reported, the known output grew by its text
 pub record EndsBy (detail : Detail) (fault : Fault) (before after : Option (List ℕ)) (ended : Ended) : Type 0 where
   pub status_is : ended.status ≡ fault_status fault
   pub written : ended.is_written ≡ all_written fault
   pub says : ended.is_said ≡ true → Appends before after (fault_text detail fault)
 
--- when a fault ends the opening of this file: it can't be opened for the reason that is said, or memory was refused
+-- when a fault ends the opening of this file: it can't be opened, for this reason, or an allocation failed
 abbrev pub EndsOpening : (Unread → Type 0) → NamedFile → Fault → Type 0
 EndsOpening Cannot file (CannotRead name folder most unread Whole) = (named_file name folder most ≡ file) × Cannot unread
 EndsOpening Cannot file OutOfMemory = Unit {0}
 EndsOpening Cannot file _ = ⊥
 
--- the fault of a run in which printing failed so
+-- the fault of a run from the fault of printing
 abbrev pub print_fault : PrintFault → Fault
 print_fault Write = CannotWrite
 print_fault Memory = OutOfMemory

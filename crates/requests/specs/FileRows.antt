@@ -1,4 +1,4 @@
--- What the rows of a conformance file hold.
+-- The kinds of the rows of conformance files.
 use Rattle.std.specs.Prelude.{◌≡◌, Option, None, Some}
 use Rattle.std.specs.Borrow.{Bor}
 use Rattle.ucdfiles.specs.Tables.{TablesOf}
@@ -15,18 +15,18 @@ abbrev pub kind_of : Kind → FileKind
 kind_of rows_of.Classes = Classes
 kind_of (rows_of.Characters tables) = Characters
 
--- these are the tables of this source, if the rows of a file of this kind need tables
+-- these are the tables of this source if the rows of a file of this kind need tables
 abbrev pub HasRowTables : FileFacts → FileKind → Option TableSource → Option TablesOf → Type 0
 HasRowTables files Classes source tables = tables ≡ None
 HasRowTables files Characters (Some source) tables = (taken : TablesOf) × AreTablesBy files source taken × (tables ≡ Some taken)
 HasRowTables files Characters None tables = ⊥
 
--- this is what rows hold by these tables: classes, where there are none
+-- this is the kind of rows with these tables: classes if there are none
 abbrev pub AreRowsBy : Option TablesOf → Kind → Type 0
 AreRowsBy None rows = rows ≡ rows_of.Classes
 AreRowsBy (Some tables) rows = (lent : Bor TablesOf) × (lent.now ≡ tables) × (rows ≡ rows_of.Characters lent)
 
--- what the rows of a file of this kind hold: classes, or characters by the tables of this source
+-- the kind of the rows of a file of this kind: classes, or characters with the tables of this source
 abbrev pub IsKindOfFile : FileFacts → FileKind → Option TableSource → Kind → Type 0
 IsKindOfFile files Classes source rows = rows ≡ rows_of.Classes
 IsKindOfFile files Characters (Some source) rows =

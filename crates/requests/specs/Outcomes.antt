@@ -1,4 +1,4 @@
--- What a request comes to.
+-- The outcome of a request.
 use Rattle.std.specs.Prelude.{◌≡◌, ◌⊎◌, Bool, ℕ, List, Option, Some, Result, Ok, Err, false, true}
 use Rattle.printing.specs.declared.form.Form.TheVariants as form
 use Rattle.requests.specs.declared.request.FileKind.TheVariants.{Classes, Characters}
@@ -21,13 +21,13 @@ use Rattle.requests.specs.ReadFiles.{FileFacts}
 use Rattle.requests.specs.ReportedFiles.{HasReported, HasBrokenOff}
 use Rattle.requests.specs.Parts.{FailsOver, MemoryLeaves, all_parts_of, parts_of}
 
--- the exit status: that of the verdict or the report, and 0 after a text or rows
+-- the exit status: that of the verdict or the report, and otherwise 0
 abbrev pub outcome_status : Outcome → ℕ
 outcome_status (Judged status) = status
 outcome_status Printed = 0
 
--- what was asked for is done: what is to be printed of the text, of classes, of code points or of a row is printed, or
--- the rows are, or the file is judged or reported on, by the tables that are asked for
+-- the request is done, with the tables that it names: the output for a text, classes, code points or a row is printed,
+-- or the rows are, or the file is judged or reported on
 abbrev pub IsDone : FileFacts → Option (List ℕ) → Option (List ℕ) → Request → Outcome → Type 0
 IsDone files before after (Text source direction file print) Printed =
     HasPrinted files (printed_text print direction) source file.now before after
@@ -45,9 +45,9 @@ IsDone files before after (Rows asked) Printed = HasPrintedRows files asked befo
 IsDone files before after (RowsOf asked) Printed = HasPrintedLines files asked before after
 IsDone files before after _ _ = ⊥
 
--- what is printed while a file is read breaks off: a text where a read fails, where it is not UTF-8 or where memory is
--- refused, a report where a read fails, and both where nobody reads what is written any more; all others print nothing
--- before what they need is read
+-- the output breaks off while a file is read: that of a text if a read fails, if the text is not UTF-8 or if an
+-- allocation fails, that of a report if a read fails, and both if nobody reads the output any more; all other requests
+-- print nothing before they have read what they need
 abbrev pub BreaksOff : FileFacts → Option (List ℕ) → Option (List ℕ) → Request → Fault → Type 0
 BreaksOff files before after (Text source direction file Levels) fault =
     TextBreaksOff files form.Levels direction source file.now before after fault
@@ -56,14 +56,14 @@ BreaksOff files before after (Text source direction file (Reorder columns)) faul
 BreaksOff files before after (Report kind tables file options) fault = HasBrokenOff files kind tables file.now options before after fault
 BreaksOff files before after _ fault = ⊥
 
--- a request fails: in a part that is read before anything is written, or by a write though all was read, or where what
--- it prints breaks off
+-- a request fails: in a part that is read before anything is written, or by a write after everything was read, or
+-- because its output breaks off
 abbrev pub Fails : FileFacts → Option (List ℕ) → Option (List ℕ) → Request → Fault → Type 0
 Fails files before after request fault =
     FailsOver (parts_of files request) (all_parts_of files request) before after fault
     ⊎ BreaksOff files before after request fault
 
--- the requests of which refused memory leaves nothing written: a file is judged or reported on, or rows are printed
+-- the requests that write nothing if an allocation fails: to judge or report on a file, or to print rows
 abbrev pub takes_memory_first : Request → Bool
 takes_memory_first (Judge kind tables file) = true
 takes_memory_first (Report kind tables file options) = true
@@ -71,29 +71,29 @@ takes_memory_first (Rows asked) = true
 takes_memory_first (RowsOf asked) = true
 takes_memory_first _ = false
 
--- what refused memory leaves of what was written before such a request
+-- the output after a failed allocation, for such a request
 abbrev pub RefusalLeaves : Option (List ℕ) → Option (List ℕ) → Request → Fault → Type 0
 RefusalLeaves before after request fault = takes_memory_first request ≡ true → MemoryLeaves before after fault
 
--- a request comes to what it asks for, or fails
+-- a request is done, or it fails
 abbrev pub IsDoneOrFails : FileFacts → Option (List ℕ) → Option (List ℕ) → Request → Result Outcome Fault → Type 0
 IsDoneOrFails files before after request (Ok outcome) = IsDone files before after request outcome
 IsDoneOrFails files before after request (Err fault) = Fails files before after request fault × RefusalLeaves before after request fault
 
--- a run ends without a fault: with this status, and known bytes are what they were
+-- a run ends without a fault: with this status, and the known contents of standard error are unchanged
 pub record EndsWell (status : ℕ) (before after : Option (List ℕ)) (ended : Ended) : Type 0 where
   pub status_is : ended.status ≡ status
   pub written : ended.is_written ≡ true
   pub said : ended.is_said ≡ true
   pub silent : after ≡ before
 
--- a run ends as what its request came to says: with that status, and if there is a fault and that is said, what known
--- bytes grew by is what is said of the fault
+-- a run ends with the result of its request: with its status, and if a fault is reported, the known contents of
+-- standard error grew by the fault's text
 abbrev pub EndsAs : Detail → Result Outcome Fault → Option (List ℕ) → Option (List ℕ) → Ended → Type 0
 EndsAs detail (Ok outcome) before after ended = EndsWell (outcome_status outcome) before after ended
 EndsAs detail (Err fault) before after ended = EndsBy detail fault before after ended
 
--- a request came to this, of which what was written to `out` tells, and the run ended so, of which `err` tells
+-- a request had this outcome, with this growth of `out`, and the run ended so, with this growth of `err`
 pub record HasEnded (files : FileFacts) (before after : Option (List ℕ)) (err_before err_after : Option (List ℕ)) (request : Request) (detail : Detail) (ended : Ended) : Type 0 where
   pub outcome : Result Outcome Fault
   pub comes : IsDoneOrFails files before after request outcome

@@ -1,4 +1,4 @@
--- The parts in which a request is done, in their order, and the fault of the first that fails.
+-- The parts of a request in their order, and the fault of the first that fails.
 use Rattle.std.specs.Prelude.{◌≡◌, ◌<◌, ◌≤◌, ◌⊎◌, ℕ, List, [], ◌∷◌, ◌++◌, length, Option, Some, None, Ok}
 use Rattle.std.specs.Str.{IsUtf8}
 use Rattle.printing.specs.ReadTexts.{IsNotUtf8}
@@ -39,7 +39,7 @@ use Rattle.requests.specs.LengthWords.{EndsLengths, lengths_named}
 use Rattle.requests.specs.ReadFiles.{FileFacts, IsClassPath, bracket_name, mirror_name, in_folder, most_file_bytes, named_file, origin_of, word_file}
 use Rattle.requests.specs.TableFaults.{EndsClasses, EndsTable, IsFaultless}
 
--- a part: that it is done, and the faults that end it
+-- a part: what it means that it is done, and the faults that end it
 pub record RequestPart : Type 1 where
   pub Done : Type 0
   pub EndsBy : Fault → Type 0
@@ -54,81 +54,81 @@ abbrev pub IsFirstFault : List RequestPart → Fault → Type 0
 IsFirstFault [] fault = ⊥
 IsFirstFault (part ∷ parts) fault = part.EndsBy fault ⊎ (part.Done × IsFirstFault parts fault)
 
--- the source of the tables, if none is named
+-- the fault if no table source is named
 abbrev pub EndsUnnamed : Fault → Type 0
 EndsUnnamed fault = fault ≡ TablesNeeded
 
--- when a fault ends the reading of what FILE names: it can't be opened or a read of it fails, for the reason that is
--- said, or memory was refused
+-- when a fault ends the reading of FILE: it can't be opened or a read of it fails, for the reason in the fault, or an
+-- allocation failed
 abbrev pub EndsFile : FileFacts → ℕ → List ℕ → Fault → Type 0
 EndsFile files most file (CannotRead name folder limit unread Whole) = (named_file name folder limit ≡ word_file most file)
     × (files.Refuses (origin_of file) most unread ⊎ ((bytes : List ℕ) × files.Fails (origin_of file) most bytes unread))
 EndsFile files most file OutOfMemory = Unit {0}
 EndsFile files most file _ = ⊥
 
--- when a fault ends the search for the row at the line of this number, in what FILE names, as a file of such rows: that
--- can't be opened, or the search in it ends so
+-- when a fault ends the search for the row at the line of this number in FILE, as a file of these rows: FILE can't be
+-- opened, or the search in it ends so
 abbrev pub EndsSearch : FileFacts → Kind → ℕ → List ℕ → Fault → Type 0
 EndsSearch files rows number file fault =
     EndsOpening (files.Refuses (origin_of file) most_file_bytes) (word_file most_file_bytes file) fault
     ⊎ FindsNoRow files rows number file fault
 
--- when a fault ends the reading of the characters of what FILE names: its bytes are not UTF-8, or memory was refused
+-- when a fault ends the reading of the characters of FILE: its bytes are not UTF-8, or an allocation failed
 abbrev pub EndsText : FileFacts → List ℕ → Fault → Type 0
 EndsText files file (NotUtf8 named place Whole) = (named.now ≡ file)
     × (bytes : List ℕ) × files.Holds (origin_of file) most_text_bytes bytes × IsNotUtf8 bytes place
 EndsText files file OutOfMemory = Unit {0}
 EndsText files file _ = ⊥
 
--- when a fault ends the look at its lines: this one is the first that is too long for a row
+-- when a fault ends the check of its lines: this line is the first that is too long for a row
 abbrev pub EndsLines : FileFacts → List ℕ → Fault → Type 0
 EndsLines files file (LongLine named line) = (named.now ≡ file) × (text : List ℕ) × HoldsText files file text × (first_long_line text ≡ Some line)
 EndsLines files file _ = ⊥
 
--- that a word has no more bytes than a text may have, which this fault says
+-- that a value has no more bytes than a text may have; otherwise this is the fault
 abbrev pub length_part : Fault → List ℕ → RequestPart
 length_part too_long word = record {
   Done = length word ≤ most_text_bytes;
   EndsBy = λ fault. (fault ≡ too_long) × (most_text_bytes < length word);
 }
 
--- the reading of the names in it
+-- the reading of the names in a value
 abbrev pub names_part : List ℕ → RequestPart
 names_part word = record {
   Done = (classes : List Class) × (classes_named word ≡ Some classes);
   EndsBy = EndsItems class_of_short NoClass word;
 }
 
--- what is read of a word for classes
+-- what is read for a value of classes
 abbrev pub classes_parts : List ℕ → List RequestPart
 classes_parts word = length_part ClassesTooLong word ∷ names_part word ∷ []
 
--- the reading of the code points in it
+-- the reading of the code points in a value
 abbrev pub codes_part : List ℕ → RequestPart
 codes_part word = record {
   Done = (chars : List ℕ) × (codes_said word ≡ Some chars);
   EndsBy = EndsItems char_of NoCodePoint word;
 }
 
--- what is read of a word for code points
+-- what is read for a value of code points
 abbrev pub codes_parts : List ℕ → List RequestPart
 codes_parts word = length_part CodesTooLong word ∷ codes_part word ∷ []
 
--- the reading of a word for lengths
+-- the reading of lengths
 abbrev pub lengths_part : List ℕ → RequestPart
 lengths_part word = record {
   Done = (ends : ℕ × ℕ) × (lengths_named word ≡ Some ends);
   EndsBy = EndsLengths word;
 }
 
--- that there is a file of this form of texts
+-- that there is a file of this form for these texts
 abbrev pub making_part : RowsForm → ExhaustiveOf → RequestPart
 making_part form texts = record {
   Done = refusal_in form texts ≡ None;
   EndsBy = EndsMaking form texts;
 }
 
--- the reading of a word for directions
+-- the reading of directions
 abbrev pub directions_part : List ℕ → RequestPart
 directions_part word = record {
   Done = (directions : List Direction) × SaysDirections word directions;
@@ -142,35 +142,35 @@ memory_part = record {
   EndsBy = λ fault. fault ≡ OutOfMemory;
 }
 
--- what is read for the letters of a file of this kind: the names or the code points in their word, if there is one; the
--- classes of a form are letters without tables
+-- what is read for the letters of a file of this kind: the names or the code points in the alphabet, if there is one;
+-- the classes of a form need no tables
 abbrev pub alphabet_parts : FileKind → RowLetters → List RequestPart
 alphabet_parts Classes (Alphabet word) = names_part word.now ∷ []
 alphabet_parts Characters (Alphabet word) = codes_part word.now ∷ []
 alphabet_parts Classes (OfForm form) = memory_part ∷ []
 alphabet_parts Characters (OfForm form) = []
 
--- when a fault ends the writing: a write failed, or memory was refused
+-- when a fault ends the writing: a write failed, or an allocation did
 abbrev pub EndsWriting : Fault → Type 0
 EndsWriting CannotWrite = Unit {0}
 EndsWriting OutOfMemory = Unit {0}
 EndsWriting _ = ⊥
 
--- what refused memory leaves, where it leaves nothing written: what was written before, and no more
+-- if an allocation fails, the known output is unchanged
 abbrev pub MemoryLeaves : Option (List ℕ) → Option (List ℕ) → Fault → Type 0
 MemoryLeaves before after fault = fault ≡ OutOfMemory → after ≡ before
 
--- the fault is that of the first of these parts of reading that fails, and nothing is written; or all these are done,
--- and a write or memory failed
+-- the fault is that of the first of these parts that fails, and nothing is written; or all these parts are done, and a
+-- write or an allocation failed
 abbrev pub FailsOver : List RequestPart → List RequestPart → Option (List ℕ) → Option (List ℕ) → Fault → Type 0
 FailsOver first all before after fault = (IsFirstFault first fault × (after ≡ before)) ⊎ (AreDone all × EndsWriting fault)
 
--- the same where nothing is written before all parts of reading are done
+-- the same if nothing is written before all parts are done
 abbrev pub FailsIn : List RequestPart → Option (List ℕ) → Option (List ℕ) → Fault → Type 0
 FailsIn parts before after fault = FailsOver parts parts before after fault
 
 module _ (files : FileFacts) where
-  -- the reading of the folder's table of this name, by the fault of a line behind others
+  -- the reading of the folder's table of this name; the fault of a line depends on the lines before it
   abbrev pub table_part : (List (List ℕ) → List ℕ → Option LineFault) → List ℕ → List ℕ → RequestPart
   table_part fault folder name = record {
     Done = IsFaultless files fault (in_folder folder name);
@@ -184,23 +184,23 @@ module _ (files : FileFacts) where
     EndsBy = EndsClasses files folder;
   }
 
-  -- the classes, the brackets, the mirror images
+  -- the reading of the classes, the brackets and the mirror images
   abbrev pub table_parts : List ℕ → List RequestPart
   table_parts folder =
       class_part folder ∷ table_part bracket_fault folder bracket_name ∷ table_part mirror_fault folder mirror_name ∷ []
 
-  -- what is read for the tables of this source: nothing, if they are built in
+  -- what is read for the tables of this source: nothing for the built-in ones
   abbrev pub source_parts : TableSource → List RequestPart
   source_parts (Folder folder) = table_parts folder.now
   source_parts BuiltIn = []
 
-  -- what is read for the rows of a file of this kind: the tables of this source, if they are needed
+  -- what is read for the rows of a file of this kind: the tables of this source if they are needed
   abbrev pub row_table_parts : FileKind → Option TableSource → List RequestPart
   row_table_parts Classes source = []
   row_table_parts Characters (Some source) = source_parts source
   row_table_parts Characters None = record { Done = ⊥; EndsBy = EndsUnnamed } ∷ []
 
-  -- that the texts which are asked for can be enumerated or drawn
+  -- that the requested texts can be enumerated or drawn
   abbrev pub texts_part : AskedRows → RequestPart
   texts_part asked = record {
     Done = CanBeMade files asked;
@@ -212,21 +212,21 @@ module _ (files : FileFacts) where
   rows_parts asked = lengths_part asked.lengths.now ∷ directions_part asked.directions.now
       ∷ (alphabet_parts asked.kind asked.letters ++ (row_table_parts asked.kind (Some asked.tables) ++ texts_part asked ∷ []))
 
-  -- the reading of what FILE names to its end
+  -- the reading of FILE to its end
   abbrev pub file_part : ℕ → List ℕ → RequestPart
   file_part most file = record {
     Done = (bytes : List ℕ) × files.Holds (origin_of file) most bytes;
     EndsBy = EndsFile files most file;
   }
 
-  -- the opening of what FILE names, of which a part was read then
+  -- the opening of FILE, and the reading of a part of it
   abbrev pub opening_part : ℕ → List ℕ → RequestPart
   opening_part most file = record {
     Done = (bytes : List ℕ) × files.Begins (origin_of file) most bytes;
     EndsBy = EndsOpening (files.Refuses (origin_of file) most) (word_file most file);
   }
 
-  -- the reading of its characters
+  -- the reading of the characters of FILE
   abbrev pub characters_part : List ℕ → RequestPart
   characters_part file = record {
     Done = (bytes : List ℕ) × files.Holds (origin_of file) most_text_bytes bytes × IsUtf8 bytes;
@@ -236,7 +236,7 @@ module _ (files : FileFacts) where
   abbrev pub text_parts : List ℕ → List RequestPart
   text_parts file = file_part most_text_bytes file ∷ characters_part file ∷ []
 
-  -- that no line of its text is too long for a row
+  -- that no line of the text is too long for a row
   abbrev pub lines_part : List ℕ → RequestPart
   lines_part file = record {
     Done = (text : List ℕ) × HoldsText files file text × (first_long_line text ≡ None);
@@ -263,7 +263,7 @@ module _ (files : FileFacts) where
   unfoldable pub explaining_parts : List ℕ → TableSource → List RequestPart
   explaining_parts word source = codes_parts word ++ source_parts source
 
-  -- the search for the row that is sought
+  -- the search for the wanted row
   abbrev pub sought_part : SoughtRow → RequestPart
   sought_part sought = record {
     Done = (rows : Kind) × IsKindOfFile files sought.kind sought.tables rows
@@ -288,7 +288,7 @@ module _ (files : FileFacts) where
   parts_of (Rows asked) = rows_parts asked
   parts_of (RowsOf asked) = lines_parts asked
 
-  -- and what is read for it in all
+  -- all that is read for a request
   abbrev pub all_parts_of : Request → List RequestPart
   all_parts_of (Text source direction file print) = whole_parts source file.now
   all_parts_of (Report kind tables file options) = row_table_parts kind tables ++ file_part most_file_bytes file.now ∷ []

@@ -1,4 +1,4 @@
--- What is printed of a file's text, and of classes and of code points in a word.
+-- What is printed of a file's text, and of the classes and the code points in an option's value.
 use Rattle.std.specs.Prelude.{◌≡◌, ◌≤◌, ℕ, ◌^◌, List, length, Option, Some}
 use Rattle.std.specs.Io.KnownBytes.{Appends}
 use Rattle.std.specs.Str.{chars, IsUtf8}
@@ -14,7 +14,7 @@ use Rattle.requests.specs.declared.request.TableSource.{TableSource}
 use Rattle.requests.specs.ReadFiles.{FileFacts, origin_of}
 use Rattle.requests.specs.TableSources.{AreTablesBy}
 
--- what is printed of a text, by tables
+-- what is printed of a text, with tables
 abbrev pub printed_text : Print → Direction → TablesOf → List ℕ → List ℕ
 printed_text Levels direction tables text = printed_levels tables text direction
 printed_text (Reorder columns) direction tables text = printed_reorder tables text direction columns
@@ -24,7 +24,7 @@ printed_text Explained direction tables text = explained tables text direction
 abbrev pub most_text_bytes : ℕ
 most_text_bytes = 2 ^ 24
 
--- what FILE names was read whole and is UTF-8, and this is the text of its characters
+-- FILE was read whole and is UTF-8, and these are its characters
 pub record HoldsText (files : FileFacts) (file text : List ℕ) : Type 0 where
   pub bytes : List ℕ
   pub begins : files.Begins (origin_of file) most_text_bytes bytes
@@ -32,8 +32,8 @@ pub record HoldsText (files : FileFacts) (file text : List ℕ) : Type 0 where
   pub utf8 : IsUtf8 bytes
   pub text_is : text ≡ chars bytes
 
--- what FILE names was read whole and is UTF-8, and what known bytes grew by is what is printed of its characters
--- by the tables of this source
+-- FILE was read whole and is UTF-8, and the known output grew by what is printed of its characters with the tables of
+-- this source
 pub record HasPrinted (files : FileFacts) (printed : TablesOf → List ℕ → List ℕ) (source : TableSource) (file : List ℕ) (before after : Option (List ℕ)) : Type 0 where
   pub tables : TablesOf
   pub stated : AreTablesBy files source tables
@@ -41,14 +41,14 @@ pub record HasPrinted (files : FileFacts) (printed : TablesOf → List ℕ → L
   pub read : HoldsText files file text
   pub said : Appends before after (printed tables text)
 
--- a word names classes, and what known bytes grew by is what `explain` prints of them
+-- a value lists classes, and the known output grew by what `explain` prints of them
 pub record HasExplained (word : List ℕ) (direction : Direction) (before after : Option (List ℕ)) : Type 0 where
   pub short : length word ≤ most_text_bytes
   pub classes : List Class
   pub named : classes_named word ≡ Some classes
   pub said : Appends before after (explained_classes classes direction)
 
--- a word says code points, and what known bytes grew by is what `explain` prints of a text of these characters by the
+-- a value lists code points, and the known output grew by what `explain` prints of a text of these characters with the
 -- tables of this source
 pub record HasExplainedCodes (files : FileFacts) (word : List ℕ) (source : TableSource) (direction : Direction) (before after : Option (List ℕ)) : Type 0 where
   pub short : length word ≤ most_text_bytes

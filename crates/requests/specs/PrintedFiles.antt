@@ -1,4 +1,4 @@
--- What a text that is printed while its file is read leaves behind.
+-- The output for a text that is printed while its file is read.
 use Rattle.std.specs.Prelude.{◌≡◌, ◌⊎◌, ℕ, List, Option}
 use Rattle.units.specs.declared.level.Direction.{Direction}
 use Rattle.ucdfiles.specs.Tables.{TablesOf}
@@ -13,8 +13,8 @@ use Rattle.requests.specs.declared.fault.Fault.{Fault}
 use Rattle.requests.specs.declared.fault.Fault.TheVariants.{CannotRead, NotUtf8, NobodyReads, OutOfMemory}
 use Rattle.requests.specs.declared.request.TableSource.{TableSource}
 
--- a text was read as far as these bytes, of which this holds, and unless a write failed, what known bytes grew by is what
--- is printed of the paragraphs that have ended in them, as far as they are UTF-8, by the tables of this source
+-- a text was read up to these bytes, with this result of the read; unless a write failed, the known output grew by what
+-- is printed of the paragraphs that have ended in them, as far as they are UTF-8, with the tables of this source
 pub record HasPrintedEnded (files : FileFacts) (form : Form) (direction : Direction) (source : TableSource) (Read : List ℕ → Type 0) (written : Written) (before after : Option (List ℕ)) : Type 0 where
   pub tables : TablesOf
   pub stated : AreTablesBy files source tables
@@ -22,9 +22,9 @@ pub record HasPrintedEnded (files : FileFacts) (form : Form) (direction : Direct
   pub read : Read bytes
   pub said : IsWritten written before after (printed_ended form tables bytes direction)
 
--- when a fault breaks off the printing of the text in what FILE names: a read fails after these bytes, for the reason
--- that is said; or they are all, and are not UTF-8 from this place on; or, once FILE was opened, nobody reads what is
--- written any more, or memory was refused
+-- when a fault breaks off the printing of the text of FILE: a read fails after these bytes, for the reason in the
+-- fault; or they are all bytes, and are not UTF-8 after this place; or, after FILE was opened, nobody reads the output
+-- any more, or an allocation failed
 abbrev pub TextBreaksOff : FileFacts → Form → Direction → TableSource → List ℕ → Option (List ℕ) → Option (List ℕ) → Fault → Type 0
 TextBreaksOff files form direction source file before after (CannotRead name folder most unread written) =
     (named_file name folder most ≡ word_file most_text_bytes file)
@@ -35,7 +35,8 @@ TextBreaksOff files form direction source file before after NobodyReads = AreDon
 TextBreaksOff files form direction source file before after OutOfMemory = AreDone (printing_parts files source file)
 TextBreaksOff files form direction source file before after _ = ⊥
 
--- the printing of a text fails: in a part before its first byte, or by a write though all of it was read, or it breaks off
+-- the printing of a text fails: in a part before its first byte, or by a write after all of the text was read, or it
+-- breaks off
 abbrev pub FailsToPrint : FileFacts → Form → Direction → TableSource → List ℕ → Option (List ℕ) → Option (List ℕ) → Fault → Type 0
 FailsToPrint files form direction source file before after fault =
     FailsOver (printing_parts files source file) (whole_parts files source file) before after fault

@@ -1,4 +1,4 @@
--- What is printed of a text as rows: a conformance file of its lines, with right answers.
+-- What is printed of a text as rows: a conformance file of its lines, with right results.
 use Rattle.std.specs.Prelude.{◌≡◌, ℕ, List, Option, None}
 use Rattle.std.specs.Borrow.{Bor}
 use Rattle.std.specs.Io.KnownBytes.{Appends}
@@ -18,20 +18,19 @@ use Rattle.requests.specs.declared.request.AskedLines.{AskedLines}
 use Rattle.requests.specs.declared.request.FileKind.{FileKind}
 use Rattle.requests.specs.declared.request.FileKind.TheVariants.{Classes, Characters}
 
--- how the rows of a file of this kind name characters, by these tables
+-- how the rows of a file of this kind name characters, with these tables
 abbrev pub naming_in : FileKind → Bor TablesOf → Naming
 naming_in Classes tables = naming.Classes tables
 naming_in Characters tables = naming.Codes tables
 
--- no line of this text is too long for a row, and known bytes grew by the file of its lines that have a character, under
--- these directions, by the standard limits; the judge's verdict on that is a yes
+-- no line of this text is too long for a row, and the known output grew by the file of its lines that have a character,
+-- under these directions, with the standard limits; the judge's verdict on that file is a yes
 pub record HasPrintedTextRows (naming : Naming) (directions : List Direction) (text : List ℕ) (before after : Option (List ℕ)) : Type 0 where
   pub short : first_long_line text ≡ None
   pub said : Appends before after (cases_text standard (kind_of naming) (cases_of_text naming directions text))
   pub right : JudgeSaysYes standard (kind_of naming) (cases_of_text naming directions text)
 
--- the lines of the text in what FILE names were printed as rows, of the kind, by the tables and under the directions that
--- are asked for
+-- the lines of the text of FILE were printed as rows, with the kind, the tables and the directions of the request
 pub record HasPrintedLines (files : FileFacts) (asked : AskedLines) (before after : Option (List ℕ)) : Type 0 where
   pub directions : List Direction
   pub named : SaysDirections asked.directions.now directions

@@ -1,4 +1,4 @@
--- What was read, from standard input or from files by their names, and the tables that three files state.
+-- What was read from standard input or from files, by name, and the tables that three files state.
 use Rattle.std.specs.Prelude.{◌≡◌, ◌⊎◌, ℕ, ◌^◌, List, [], ◌∷◌, Option, None, Some, option_map, codes, if◌then◌else◌}
 use Rattle.std.specs.Borrow.{Bor}
 use Rattle.std.specs.List.{concat}
@@ -9,7 +9,7 @@ use Rattle.ucdfiles.specs.ClassFile.{StatesClasses}
 use Rattle.ucdfiles.specs.PairFiles.{StatesBrackets, StatesMirrors}
 use Rattle.ucdfiles.specs.Tables.{TablesOf, class_by, bracket_by, glyph_by}
 
--- a source handed out these bytes on the way from one state to another
+-- a source returned these bytes between two states
 abbrev pub Gives : Reading → List ℕ → Reading → Type 0
 Gives opened bytes now = HandsOut opened.remaining now.remaining opened.left now.left opened.state now.state bytes
 
@@ -18,16 +18,16 @@ pub data Origin : Type 0 where
   StandardInput : Origin
   FileNamed : List ℕ → Origin
 
--- what the word FILE of a command line names: `-` standard input, and any other word the file of that name
+-- what the argument FILE names: `-` standard input, and any other argument the file of that name
 abbrev pub origin_of : List ℕ → Origin
 origin_of word = if bytes_eq word (codes "-") then StandardInput else FileNamed word
 
--- what is said of an origin, by the limit that it is read with, and bytes
+-- a statement about an origin, the limit that it is read with, and bytes
 abbrev pub OfOrigin : Type 1
 OfOrigin = Origin → ℕ → List ℕ → Type 0
 
--- what is said of origins: that one can't be opened with a limit, and why; that it begins with these bytes; that it
--- holds them and no more; that a read behind them fails, and why
+-- statements about origins: that one can't be opened with a limit, and why; that it begins with these bytes; that it
+-- has them and no more; that a read after them fails, and why
 pub record FileFacts : Type 1 where
   pub Refuses : Origin → ℕ → Unread → Type 0
   pub Begins : OfOrigin
@@ -48,7 +48,7 @@ pub record NamedFile : Type 0 where
 abbrev pub named_file : Bor (List ℕ) → Option (Bor (List ℕ)) → ℕ → NamedFile
 named_file name folder most = record { name = name.now; folder = option_map (λ folder. folder.now) folder; most = most }
 
--- what the word FILE names
+-- the file that the argument FILE names
 abbrev pub word_file : ℕ → List ℕ → NamedFile
 word_file most file = record { name = file; folder = None; most = most }
 
@@ -60,7 +60,7 @@ table_file folder name = record { name = name; folder = Some folder; most = most
 abbrev pub class_name : List ℕ
 class_name = codes "DerivedBidiClass.txt"
 
--- another of the classes, where Unicode publishes it
+-- another name of the classes' file, relative to the folder in which Unicode publishes the other two
 abbrev pub extracted_name : List ℕ
 extracted_name = codes "extracted/DerivedBidiClass.txt"
 
@@ -78,7 +78,7 @@ in_folder folder name = concat (folder ∷ codes "/" ∷ name ∷ [])
 abbrev pub CannotOpen : FileFacts → List ℕ → List ℕ → Unread → Type 0
 CannotOpen files folder name unread = files.Refuses (FileNamed (in_folder folder name)) most_file_bytes unread
 
--- this is the path of the classes' file: of the one in the folder, or where that can't be opened of the one in its folder
+-- this is the path of the classes' file: the one in the folder or, if that can't be opened, the one in its subfolder
 -- `extracted`
 abbrev pub IsClassPath : FileFacts → List ℕ → List ℕ → Type 0
 IsClassPath files folder path =

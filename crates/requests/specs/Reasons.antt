@@ -1,4 +1,4 @@
--- What is known of a fault beyond its line: the reason, in words, which is a second line if it is asked for.
+-- The reason of a fault in words, if more is known than its line says. It is a second line if that is requested.
 use Rattle.std.specs.Prelude.{ℕ, List, [], ◌∷◌, ◌++◌, Option, Some, None, codes}
 use Rattle.std.specs.Borrow.{Bor}
 use Rattle.std.specs.List.{concat}
@@ -14,7 +14,7 @@ use Rattle.requests.specs.declared.request.FileKind.TheVariants.{Classes, Charac
 use Rattle.requests.specs.declared.fault.Fault.{Fault}
 use Rattle.requests.specs.declared.fault.Fault.TheVariants.{ClassesTooLong, CodesTooLong, NoClass, NoCodePoint, NoLengths, NoDirection, CannotRead, FaultyLine, NotUtf8, LongLine, MalformedLine}
 
--- why a file can't be read, which may have so many bytes at most
+-- why a file of at most so many bytes can't be read
 abbrev pub unread_words : Unread → ℕ → List ℕ
 unread_words Missing most = codes "no such file"
 unread_words Forbidden most = codes "permission denied"
@@ -22,16 +22,16 @@ unread_words Folder most = codes "a folder"
 unread_words TooLarge most = concat (codes "more than " ∷ decimal most ∷ codes " bytes" ∷ [])
 unread_words Other most = codes "unknown"
 
--- the folder of the tables, if the file is one of these
+-- the folder of the tables if the file is one of them
 abbrev pub folder_words : Option (Bor (List ℕ)) → List ℕ
 folder_words None = []
 folder_words (Some folder) = codes ", folder of tables " ++ folder.now
 
--- the place of the first fault of a text that is not UTF-8: the line, counted from 1, and how many bytes come before it
+-- the place after which a text is not UTF-8: the line, counted from 1, and the number of bytes before it
 abbrev pub place_words : TextPlace → List ℕ
 place_words place = concat (codes "line " ∷ decimal place.line ∷ codes ", byte offset " ∷ decimal place.offset ∷ [])
 
--- the word that has the item, and what each of its items may be
+-- the value that has the item, and the allowed items
 abbrev pub item_words : List ℕ → List ℕ → List ℕ
 item_words word allowed = concat (codes "in '" ∷ word ∷ codes "', allowed: " ∷ allowed ∷ [])
 
@@ -47,7 +47,7 @@ direction_items = codes "auto ltr rtl auto-rtl"
 abbrev pub length_items : List ℕ
 length_items = codes "allowed: N or A..B, 1 to 4095, without leading zeros"
 
--- the part of a line that is malformed for this cause, in a conformance file of this kind, whose fields are counted from 0
+-- the part of a line that is malformed for this cause, in a conformance file of this kind; fields are counted from 0
 abbrev pub field_words : FileKind → Cause → List ℕ
 field_words kind malformed.LineTooLong = codes "the line, more than 65536 bytes"
 field_words Classes malformed.FieldCount = codes "the number of fields, allowed: 2"

@@ -1,4 +1,4 @@
--- A row of a conformance file, found and explained.
+-- The search for a row of a conformance file, and its explanation.
 use Rattle.std.specs.Prelude.{◌≡◌, ℕ, List, Option, Result, Ok, Err}
 use Rattle.std.specs.Borrow.{Bor}
 use Rattle.std.specs.Io.KnownBytes.{Appends}
@@ -16,25 +16,25 @@ use Rattle.requests.specs.declared.fault.Fault.TheVariants.{CannotRead, LineIsNo
 use Rattle.requests.specs.declared.request.FileKind.{FileKind}
 use Rattle.requests.specs.declared.request.SoughtRow.{SoughtRow}
 
--- what FILE names, as a file of such rows, has this at the line of this number: it begins with bytes by which each file
--- has it there that begins with them and, where FILE holds no more, ends with them
+-- FILE, as a file of these rows, has this result at the line of this number: it begins with bytes that decide the
+-- result; if they are all bytes of FILE, they decide it for a file that ends there
 pub record HasAtLine (files : FileFacts) (rows : Kind) (number : ℕ) (file : List ℕ) (found : Result RowView RowFault) : Type 0 where
   pub bytes : List ℕ
   pub begins : files.Begins (origin_of file) most_file_bytes bytes
   pub sought : IsSought (files.Holds (origin_of file) most_file_bytes bytes) rows number bytes found
 
--- how it is said of a file of this kind why there is no row at the line of this number
+-- the fault of a file of this kind that has no row at the line of this number
 abbrev pub row_fault : Bor (List ℕ) → FileKind → ℕ → RowFault → Fault
 row_fault file kind number (Malformed line cause) = MalformedLine file kind line cause
 row_fault file kind number NoRow = LineIsNoRow file number
 
--- a read of what FILE names fails behind bytes that settle nothing of the line of this number, for this reason
+-- a read of FILE fails, for this reason, after bytes that don't decide the result at the line of this number
 abbrev pub FailsUnsettled : FileFacts → Kind → ℕ → List ℕ → Unread → Type 0
 FailsUnsettled files rows number file unread =
     (bytes : List ℕ) × files.Fails (origin_of file) most_file_bytes bytes unread × IsUnsettled rows number bytes
 
--- when a fault ends the search for that row in a file that was opened: a read fails before it is known what stands there;
--- the line is no row, or it or one before it is malformed, the first that is; or memory was refused
+-- when a fault ends the search for that row in a file that was opened: a read fails before the result is decided; the
+-- line is not a row; it or an earlier one is malformed, and the first such line is reported; or an allocation failed
 abbrev pub FindsNoRow : FileFacts → Kind → ℕ → List ℕ → Fault → Type 0
 FindsNoRow files rows number file (CannotRead name folder most unread Whole) =
     (named_file name folder most ≡ word_file most_file_bytes file) × FailsUnsettled files rows number file unread
@@ -45,8 +45,8 @@ FindsNoRow files rows number file (MalformedLine named kind line cause) =
 FindsNoRow files rows number file OutOfMemory = Unit {0}
 FindsNoRow files rows number file _ = ⊥
 
--- the row that is sought was found, by the tables of its source if they are needed, and what known bytes grew by is what
--- is printed of it
+-- the search returned the wanted row, with the tables of its source if they are needed, and the known output grew by
+-- what is printed of the row
 pub record HasExplainedRow (files : FileFacts) (sought : SoughtRow) (before after : Option (List ℕ)) : Type 0 where
   pub rows : Kind
   pub is : IsKindOfFile files sought.kind sought.tables rows

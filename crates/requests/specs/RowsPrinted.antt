@@ -1,4 +1,4 @@
--- What is printed of rows that are asked for: a conformance file of texts of some lengths, with right answers.
+-- What is printed for requested rows: a conformance file of texts of some lengths, with right results.
 use Rattle.std.specs.Prelude.{◌≡◌, ℕ, List, Option, None, Some, map}
 use Rattle.std.specs.Io.KnownBytes.{Appends}
 use Rattle.std.specs.Option.{option_map}
@@ -29,17 +29,17 @@ use Rattle.requests.specs.declared.request.RowsForm.TheVariants.{Exhaustive, Ran
 use Rattle.requests.specs.declared.fault.Fault.{Fault}
 use Rattle.requests.specs.declared.fault.Fault.TheVariants.{NoRows, OutOfMemory}
 
--- the classes of which texts are to be made: those that a word names, or those of a form
+-- the requested classes for the texts: those that the alphabet names, or those of a form
 abbrev pub classes_asked : RowLetters → Option (List Class)
 classes_asked (Alphabet word) = classes_named word.now
 classes_asked (OfForm form) = Some (form_classes form)
 
--- the characters of which they are to be made: those whose code points a word says, or those of a form
+-- the requested characters for the texts: those with the code points of the alphabet, or those of a form
 abbrev pub chars_asked : RowLetters → Option (List ℕ)
 chars_asked (Alphabet word) = codes_said word.now
 chars_asked (OfForm form) = Some (form_characters form)
 
--- these as letters of rows of this kind
+-- the requested letters of rows of this kind
 abbrev pub letters_asked : Kind → RowLetters → Option (List Letter)
 letters_asked file.Classes letters = option_map (map letter.Class) (classes_asked letters)
 letters_asked (file.Characters tables) letters = option_map (map (letter_by tables.now)) (chars_asked letters)
@@ -48,7 +48,7 @@ letters_asked (file.Characters tables) letters = option_map (map (letter_by tabl
 abbrev pub texts_over : List Letter → ℕ → ℕ → ExhaustiveOf
 texts_over letters least greatest = record { alphabet = letters; least = least; greatest = greatest }
 
--- so many of these texts, drawn by a seed
+-- so many of these texts, drawn with a seed
 abbrev pub drawn_from : ℕ → ℕ → ExhaustiveOf → RandomOf
 drawn_from seed count texts = record {
   alphabet = texts.alphabet;
@@ -58,28 +58,28 @@ drawn_from seed count texts = record {
   count = count;
 }
 
--- the first reason why there is no file of this form of these texts
+-- the first reason why these texts have no file of this form
 abbrev pub refusal_in : RowsForm → ExhaustiveOf → Option RowsFault
 refusal_in Exhaustive texts = refusal_of texts
 refusal_in (Random seed count) texts = no_drawing_of (drawn_from seed count texts)
 
--- the cases of that file under these directions: of all these texts, or of those that are drawn
+-- the cases of that file under these directions: of all these texts, or of the drawn ones
 abbrev pub cases_of_form : RowsForm → List Direction → ExhaustiveOf → List Case
 cases_of_form Exhaustive directions texts = cases_in texts directions
 cases_of_form (Random seed count) directions texts = cases_drawn (drawn_from seed count texts) directions
 
--- there is such a file, and it is what known bytes grew by, by the standard limits; the judge's verdict on it is a yes
+-- such a file exists, and the known output grew by it, with the standard limits; the judge's verdict on it is a yes
 pub record HasPrintedTexts (kind : Kind) (form : RowsForm) (directions : List Direction) (texts : ExhaustiveOf) (before after : Option (List ℕ)) : Type 0 where
   pub some : refusal_in form texts ≡ None
   pub said : Appends before after (cases_text standard kind (cases_of_form form directions texts))
   pub right : JudgeSaysYes standard kind (cases_of_form form directions texts)
 
--- what is asked for says the letters and the lengths of these texts
+-- the request contains the letters and the lengths of these texts
 pub record AreTextsOf (kind : Kind) (asked : AskedRows) (texts : ExhaustiveOf) : Type 0 where
   pub letters : letters_asked kind asked.letters ≡ Some texts.alphabet
   pub ends : lengths_named asked.lengths.now ≡ Some (texts.least, texts.greatest)
 
--- the rows that are asked for were printed: the file of their kind and form, of their texts under their directions
+-- the requested rows were printed: the file of their kind and form, of their texts under their directions
 pub record HasPrintedRows (files : FileFacts) (asked : AskedRows) (before after : Option (List ℕ)) : Type 0 where
   pub kind : Kind
   pub is : IsKindOfFile files asked.kind (Some asked.tables) kind
@@ -89,18 +89,18 @@ pub record HasPrintedRows (files : FileFacts) (asked : AskedRows) (before after 
   pub named : SaysDirections asked.directions.now directions
   pub made : HasPrintedTexts kind asked.form directions texts before after
 
--- when a fault ends what is made of texts: there is no such file, for this reason, or memory was refused
+-- when a fault ends the printing of texts: there is no such file, for this reason, or an allocation failed
 abbrev pub EndsMaking : RowsForm → ExhaustiveOf → Fault → Type 0
 EndsMaking form texts (NoRows fault) = refusal_in form texts ≡ Some fault
 EndsMaking form texts OutOfMemory = Unit {0}
 EndsMaking form texts _ = ⊥
 
--- what is asked for says texts of which there is such a file
+-- the requested texts have such a file
 abbrev pub CanBeMade : FileFacts → AskedRows → Type 0
 CanBeMade files asked = (kind : Kind) × IsKindOfFile files asked.kind (Some asked.tables) kind
     × (texts : ExhaustiveOf) × AreTextsOf kind asked texts × (refusal_in asked.form texts ≡ None)
 
--- when a fault ends what is made of the texts that are asked for
+-- when a fault ends the printing of the requested texts
 abbrev pub EndsTexts : FileFacts → AskedRows → Fault → Type 0
 EndsTexts files asked fault = (kind : Kind) × IsKindOfFile files asked.kind (Some asked.tables) kind
     × (texts : ExhaustiveOf) × AreTextsOf kind asked texts × EndsMaking asked.form texts fault

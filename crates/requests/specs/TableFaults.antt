@@ -1,4 +1,4 @@
--- How a fault of a table's file is said, and what it says of the file.
+-- How a fault of a table's file is reported, and what it states about the file.
 use Rattle.std.specs.Prelude.{◌≡◌, ◌⊎◌, ℕ, List, [], Option, Some, None}
 use Rattle.std.specs.Borrow.{Bor}
 use Rattle.units.specs.Text.{lines_of, settled_lines}
@@ -14,25 +14,24 @@ use Rattle.requests.specs.declared.fault.Fault.TheVariants.{CannotRead, FaultyLi
 use Rattle.requests.specs.FaultText.{EndsOpening}
 use Rattle.requests.specs.ReadFiles.{CannotOpen, FileFacts, FileNamed, IsClassPath, NamedFile, class_name, extracted_name, in_folder, most_file_bytes, named_file, table_file}
 
--- the fault of a table's file of this name in a folder: that of the line that it has, else memory or a read, with its
--- reason
+-- the fault for a table's file of this name in a folder: that of the given line, or else a failed allocation or read,
+-- with its reason
 abbrev pub said_as : Bor (List ℕ) → Bor (List ℕ) → TableFault → Unread → Option ℕ → Fault
 said_as name folder fault unread (Some line) = FaultyLine name folder line fault
 said_as name folder table.Memory unread None = OutOfMemory
 said_as name folder _ unread None = CannotRead name (Some folder) most_file_bytes unread Whole
 
--- how the fault of such a file is said, by why a read of it failed
+-- how the fault of such a file is reported; unread is the reason if a read of it failed
 abbrev pub table_fault : Bor (List ℕ) → Bor (List ℕ) → TableFault → Unread → Fault
 table_fault name folder fault unread = said_as name folder fault unread (line_of_fault fault)
 
--- this is the fault of the first faulty line: of those that are settled in what the file begins with, or of all that it
--- holds
+-- this is the fault of the first faulty line: of the lines that a prefix of the file decides, or of all its lines
 abbrev pub HasFault : FileFacts → (List (List ℕ) → List ℕ → Option LineFault) → List ℕ → TableFault → Type 0
 HasFault files fault path e = (bytes : List ℕ)
     × ((files.Begins (FileNamed path) most_file_bytes bytes × (first_fault fault [] (settled_lines bytes) ≡ Some e))
     ⊎ (files.Holds (FileNamed path) most_file_bytes bytes × (first_fault fault [] (lines_of bytes) ≡ Some e)))
 
--- a read fails behind bytes without a faulty line, for this reason
+-- a read fails after bytes without a faulty line, for this reason
 abbrev pub FailsFaultless : FileFacts → (List (List ℕ) → List ℕ → Option LineFault) → List ℕ → Unread → Type 0
 FailsFaultless files fault path unread = (bytes : List ℕ)
     × files.Fails (FileNamed path) most_file_bytes bytes unread × (first_fault fault [] (settled_lines bytes) ≡ None)
@@ -41,8 +40,8 @@ FailsFaultless files fault path unread = (bytes : List ℕ)
 abbrev pub IsFaultless : FileFacts → (List (List ℕ) → List ℕ → Option LineFault) → List ℕ → Type 0
 IsFaultless files fault path = (bytes : List ℕ) × files.Holds (FileNamed path) most_file_bytes bytes × (first_fault fault [] (lines_of bytes) ≡ None)
 
--- when a fault that names this file ends the reading of a table's file that was opened: a read fails, its first faulty
--- line is said, or memory was refused
+-- when a fault that names this file ends the reading of a table's file that was opened: a read fails, the file has a
+-- first faulty line, or an allocation failed
 abbrev pub EndsReading : FileFacts → (List (List ℕ) → List ℕ → Option LineFault) → List ℕ → NamedFile → Fault → Type 0
 EndsReading files fault path file (CannotRead name folder most unread Whole) =
     (named_file name folder most ≡ file) × FailsFaultless files fault path unread
@@ -63,7 +62,7 @@ CannotOpenClasses files folder unread = CannotOpen files folder class_name unrea
     × ((other : Unread) × CannotOpen files folder extracted_name other)
 
 -- when a fault ends the reading of the folder's classes: neither of the two files can be opened, or the reading of the
--- first that opens ends so; the file in the folder is named
+-- first that opens ends so; the fault names the file in the folder
 abbrev pub EndsClasses : FileFacts → List ℕ → Fault → Type 0
 EndsClasses files folder said =
     EndsOpening (CannotOpenClasses files folder) (table_file folder class_name) said

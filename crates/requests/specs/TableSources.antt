@@ -1,4 +1,4 @@
--- The tables of a request: those of a folder, or those that are built in.
+-- The tables of a request: those of a folder, or the built-in ones.
 use Rattle.standard.specs.declared.facts.TheConstants.{BRACKETS, CLASSES, MIRRORS}
 use Rattle.ucdfiles.specs.Files.{StateTables}
 use Rattle.ucdfiles.specs.Tables.{TablesOf}
@@ -6,7 +6,7 @@ use Rattle.requests.specs.ReadFiles.{FileFacts, AreTables}
 use Rattle.requests.specs.declared.request.TableSource.{TableSource}
 use Rattle.requests.specs.declared.request.TableSource.TheVariants.{Folder, BuiltIn}
 
--- the tables are those that the facts state which are built in
+-- the tables state the built-in facts
 unfoldable pub AreBuiltIn : TablesOf → Type 0
 AreBuiltIn tables = StateTables CLASSES BRACKETS MIRRORS tables
 

@@ -1,4 +1,4 @@
-// Directions read from a word of the command line.
+// Reads directions from the value of an option.
 ghost use Rattle.std.specs.Prelude.{IfOk, IfErr};
 ghost use Rattle.requests.specs.DirectionWords.{EndsDirections, SaysDirections};
 
@@ -7,7 +7,7 @@ use crate::items::{ReadsItem, read_all};
 use std::alloc::Global;
 use units::level::Direction;
 
-/// The word for a direction.
+/// Reads the name of a direction.
 #[derive(Drop)]
 struct DirectionWords;
 
@@ -34,8 +34,8 @@ impl ReadsItem<Direction> for DirectionWords {
     }
 }
 
-/// The directions that a word names, with blanks between them: one or more. The faults are the first item that is none,
-/// a word without an item, and refused memory.
+/// Reads the directions in `word`, one or more, separated by blanks. Fails with `NoDirection` at the first item that is
+/// not a direction, with `NoDirections` if there is no item, and with `OutOfMemory` if an allocation fails.
 pub fn directions_in<'a>(alloc: Global, word: &'a str) -> Result<Vec<Direction>, Fault<'a>>
     ensures directions { IfOk result (λ directions. SaysDirections word.now directions.items) }
     ensures fault { IfErr result (EndsDirections word.now) }

@@ -1,4 +1,4 @@
-// Rows that are asked for: texts of some lengths over some letters, printed as a conformance file.
+// Prints requested rows: texts of some lengths over some letters, as a conformance file.
 ghost use Rattle.std.specs.Prelude.{◌≡◌, [], ◌∷◌, Some, IfErr, IfOk, OnOk};
 ghost use Rattle.std.specs.List.{All};
 ghost use Rattle.bidtests.specs.declared.kind.Kind.TheVariants as file;
@@ -26,7 +26,7 @@ use std::alloc::Global;
 use std::io::Write;
 use units::level::Direction;
 
-/// Prints the texts of this form, of these lengths over such letters, each under these directions.
+/// Prints the texts of this form with the given lengths and letters, each under the given directions.
 fn print_form<'a, W: Write>(
     alloc: Global,
     kind: Kind<'_>,
@@ -63,7 +63,8 @@ fn print_form<'a, W: Write>(
     Ok(())
 }
 
-/// The letters that are asked for, which are classes. The faults are the first name of no class, and refused memory.
+/// Returns the requested letters of rows of classes. Fails at the first name that is not a class, or if an allocation
+/// fails.
 fn letters_of_classes<'a>(alloc: Global, letters: RowLetters<'a>) -> Result<Vec<Letter>, Fault<'a>>
     ensures letters { IfOk result (λ made. letters_asked file.Classes letters.entry ≡ Some made.items) }
     ensures kind { IfOk result (λ made. All (IsLetterOf file.Classes) made.items) }
@@ -78,8 +79,8 @@ fn letters_of_classes<'a>(alloc: Global, letters: RowLetters<'a>) -> Result<Vec<
     }
 }
 
-/// Prints the rows that are asked for, of characters, which these are that they say, with these lengths and directions.
-/// Their tables are read first.
+/// Prints the requested rows of characters, after it has read their tables. `characters`, `lengths` and `directions`
+/// are those of the request.
 fn print_of_characters<'a, F: Files, W: Write>(
     alloc: Global,
     asked: AskedRows<'a>,
@@ -112,9 +113,10 @@ fn print_of_characters<'a, F: Files, W: Write>(
     )
 }
 
-/// Prints the rows that are asked for, with what the rules give. The faults are a word that says no lengths, one that
-/// names no directions, the first item of the alphabet that is no class or no code point, what `tables_by` ends with,
-/// why the texts can't be enumerated or drawn, refused memory, and a failed write.
+/// Prints the requested rows, with the results of the rules. Errors are checked in this order: the lengths, the
+/// directions, the first item of the alphabet that is not a class or not a code point, the tables (as in `tables_by`),
+/// and whether the texts can be enumerated or drawn. Also fails if an allocation or a write fails. For rows of classes
+/// no tables are read.
 pub fn print_rows<'a, F: Files, W: Write>(
     alloc: Global,
     asked: AskedRows<'a>,

@@ -1,4 +1,4 @@
-// What goes wrong in a run, and how it is said.
+// The faults of a run, and how they are reported.
 ghost use Rattle.std.specs.Prelude.{◌≡◌, OnOk};
 ghost use Rattle.std.specs.Io.KnownBytes.{Appends};
 ghost use Rattle.requests.specs.FaultText.{EndsBy, all_written, fault_line, fault_status, fault_text};
@@ -26,55 +26,55 @@ use ucdfiles::fault::TableFault;
 use units::memory::Memory;
 use units::unread::Unread;
 
-/// How much is said of a fault.
+/// How much of a fault is reported.
 #[derive(Clone, Copy, Debug, PartialEq, Eq)]
 pub enum Detail {
-    /// Its line.
+    /// The line of the fault.
     Brief,
-    /// Its line, and if more is known, a second line with the reason.
+    /// The line of the fault, and a second line with the reason if more is known.
     Verbose,
 }
 
 /// Why a run did not end well.
 #[derive(Debug, Drop)]
 pub enum Fault<'a> {
-    /// A word of the command line is not UTF-8.
+    /// An argument of the command line is not UTF-8.
     WordNotUtf8,
-    /// The rows of a file of characters are asked for, and no tables are named.
+    /// The request is about rows of characters, and names no tables.
     TablesNeeded,
-    /// The word for the classes has more bytes than a text may have.
+    /// The value of `--classes` has more bytes than a text may have.
     ClassesTooLong,
-    /// The word for the code points has more bytes than a text may have.
+    /// The value of `--codes` has more bytes than a text may have.
     CodesTooLong,
-    /// This item of the word for the classes is the name of no class.
+    /// This item of the classes is not the name of a class.
     NoClass {
         word: &'a str,
         item: &'a [u8],
     },
-    /// This item of the word for the code points is none.
+    /// This item of the code points is not a code point.
     NoCodePoint {
         word: &'a str,
         item: &'a [u8],
     },
-    /// The word for the lengths says none.
+    /// The value of the lengths is not a range of lengths.
     NoLengths(&'a str),
-    /// This item of the word for the directions is none.
+    /// This item of the directions is not a direction.
     NoDirection {
         word: &'a str,
         item: &'a [u8],
     },
-    /// The word for the directions has none.
+    /// The value of the directions has no item.
     NoDirections,
     /// The texts over the letters, of the lengths, can't be enumerated or drawn.
     NoRows(RowsFault),
-    /// This line of the conformance file of this name, counted from 1, is no row.
+    /// The given line of the conformance file of this name, counted from 1, is not a row.
     LineIsNoRow {
         name: &'a str,
         line: u64,
     },
-    /// The file of this name can't be opened, a read of it failed, or it has more than `most` bytes, for this reason.
-    /// A table's file has the folder in which it was looked for. All output up to there was written, unless a write
-    /// failed before.
+    /// The file of this name can't be opened, a read of it failed, or it has more than `most` bytes. `unread` is the
+    /// reason. For a table's file, `folder` is the folder that was searched. All output up to that place was written,
+    /// unless an earlier write failed.
     CannotRead {
         name: &'a str,
         folder: Option<&'a str>,
@@ -82,37 +82,37 @@ pub enum Fault<'a> {
         unread: Unread,
         written: Written,
     },
-    /// A line of the table's file of this name is faulty. The folder is that of the tables.
+    /// A line of the table's file of this name is faulty. `folder` is the folder of the tables.
     FaultyLine {
         name: &'a str,
         folder: &'a str,
         line: u64,
         fault: TableFault,
     },
-    /// The text in the file of this name is not UTF-8 from this place on. All output up to there was written, unless a
-    /// write failed before.
+    /// The text in the file of this name is not UTF-8 after this place. All output up to that place was written, unless
+    /// an earlier write failed.
     NotUtf8 {
         name: &'a str,
         place: TextPlace,
         written: Written,
     },
-    /// This line of the text in the file of this name, counted from 1, is too long for a row.
+    /// The given line of the text in the file of this name, counted from 1, is too long for a row.
     LongLine {
         name: &'a str,
         line: usize,
     },
-    /// This line of the conformance file of this name and kind, counted from 1, is malformed.
+    /// The given line of the conformance file of this name and kind, counted from 1, is malformed.
     MalformedLine {
         name: &'a str,
         kind: FileKind,
         line: u64,
         cause: Cause,
     },
-    /// A write to the output, or its flush, failed, and all that the request asks for was read.
+    /// A write to the output, or its flush, failed, after everything that the request needs was read.
     CannotWrite,
-    /// A write to the output, or its flush, failed because nobody reads the output any more. Nothing more was read.
+    /// A write to the output, or its flush, failed because nobody reads the output any more. The rest was not read.
     NobodyReads,
-    /// Memory was refused.
+    /// An allocation failed.
     OutOfMemory,
 }
 
@@ -164,8 +164,8 @@ impl<T: Drop> From<AllocFailed<T>> for Fault<'_> {
 }
 
 impl Fault<'_> {
-    /// The exit status: 2 where the words of the command line are no text, name no tables, no classes, no code points,
-    /// no directions, no rows or a line that is none, else 3.
+    /// Returns the exit status: 2 if an argument is not UTF-8, not allowed or too long, if no tables are named, or if
+    /// the requested line is not a row, otherwise 3.
     fn status(&self) -> u8
         ensures { result ≡ fault_status self.now }
     {
@@ -179,7 +179,7 @@ impl Fault<'_> {
         }
     }
 
-    /// Whether no write to the output failed, by this fault or before it.
+    /// Returns whether no write to the output failed, by this fault or before it.
     fn all_written(&self) -> bool
         ensures { result ≡ all_written self.now }
     {
@@ -192,7 +192,7 @@ impl Fault<'_> {
         }
     }
 
-    /// Writes the fault's line.
+    /// Writes the line of the fault.
     fn print<E: Write>(&self, err: &mut E) -> io::Result<()>
         ensures { OnOk result (Appends (E.contents err.old) (E.contents err.new) (fault_line self.now)) }
     {
@@ -228,7 +228,7 @@ impl Fault<'_> {
         }
     }
 
-    /// Writes the line of the reason, if more is known than the fault's line says.
+    /// Writes the line of the reason, if more is known than the line of the fault says.
     fn print_reason<E: Write>(&self, err: &mut E) -> io::Result<()>
         ensures { OnOk result (Appends (E.contents err.old) (E.contents err.new) (reason_line (reason_of self.now))) }
     {
@@ -258,7 +258,7 @@ impl Fault<'_> {
         }
     }
 
-    /// Writes what is said of the fault: its line, and in detail the line of the reason too.
+    /// Writes the line of the fault and, with `Verbose`, the line of the reason.
     fn print_in<E: Write>(&self, err: &mut E, detail: Detail) -> io::Result<()>
         ensures { OnOk result (Appends (E.contents err.old) (E.contents err.new) (fault_text detail self.now)) }
     {
@@ -269,8 +269,8 @@ impl Fault<'_> {
         }
     }
 
-    /// Reports the fault in this detail, and returns how the run ends: with the fault's exit status, which is the same
-    /// if `err` fails. The fault is said if `err` takes all of it and its flush succeeds.
+    /// Reports the fault in this detail, and returns how the run ends. The exit status is that of the fault, also if
+    /// `err` fails. The fault counts as reported if `err` takes all of it and its flush succeeds.
     pub fn report<E: Write>(&self, err: &mut E, detail: Detail) -> Ended
         ensures { EndsBy detail self.now (E.contents err.old) (E.contents err.new) result }
     {

@@ -1,4 +1,4 @@
-// The lines that say faults.
+// Writes the lines that report faults.
 ghost use Rattle.std.specs.Prelude.{◌≡◌, [], ◌∷◌, ◌++◌, codes, OnOk};
 ghost use Rattle.std.specs.List.{concat};
 ghost use Rattle.std.specs.Io.KnownBytes.{Appends};
@@ -20,21 +20,21 @@ pub fn print_line<E: Write>(err: &mut E, line: &str) -> io::Result<()>
     writeln!(err, "{line}")
 }
 
-/// Writes the line that says that the file of this name can't be read.
+/// Writes the line that reports that the file of this name can't be read.
 pub fn print_unread<E: Write>(err: &mut E, name: &str) -> io::Result<()>
     ensures { OnOk result (Appends (E.contents err.old) (E.contents err.new) (unread_text name.now)) }
 {
     writeln!(err, "bidi: cannot read {name}")
 }
 
-/// Writes the line that says that the text in the file of this name is not UTF-8.
+/// Writes the line that reports that the text in the file of this name is not UTF-8.
 pub fn print_not_utf8<E: Write>(err: &mut E, name: &str) -> io::Result<()>
     ensures { OnOk result (Appends (E.contents err.old) (E.contents err.new) (not_utf8_text name.now)) }
 {
     writeln!(err, "bidi: {name}: not UTF-8")
 }
 
-/// Writes the line that says what is wrong with a line of a table's file.
+/// Writes the line that reports a faulty line of a table's file.
 pub fn print_faulty_line<E: Write>(
     err: &mut E,
     name: &str,
@@ -47,21 +47,21 @@ pub fn print_faulty_line<E: Write>(
     writeln!(err, "bidi: {name}: line {line}: {fault}")
 }
 
-/// Writes the line that says that a line of a text is too long for a row.
+/// Writes the line that reports that a line of a text is too long for a row.
 pub fn print_long_line<E: Write>(err: &mut E, name: &str, line: usize) -> io::Result<()>
     ensures { OnOk result (Appends (E.contents err.old) (E.contents err.new) (long_line_text name.now line)) }
 {
     writeln!(err, "bidi: {name}: line {line}: too long")
 }
 
-/// Writes the line that says that a line of a conformance file is no row.
+/// Writes the line that reports that a line of a conformance file is not a row.
 pub fn print_no_row<E: Write>(err: &mut E, name: &str, line: u64) -> io::Result<()>
     ensures { OnOk result (Appends (E.contents err.old) (E.contents err.new) (no_row_text name.now line)) }
 {
     writeln!(err, "bidi: {name}: line {line} is no row")
 }
 
-/// Writes the line that says why a line of a conformance file is malformed.
+/// Writes the line that reports why a line of a conformance file is malformed.
 pub fn print_malformed_line<E: Write>(
     err: &mut E,
     name: &str,
@@ -75,7 +75,7 @@ pub fn print_malformed_line<E: Write>(
     writeln!(err, "bidi: {name}: line {line}: malformed: {cause}")
 }
 
-/// Writes a line that says this of an item of a word.
+/// Writes a line that reports an item of an option's value. `said` is what is wrong with it.
 pub fn print_item<E: Write>(err: &mut E, item: &[u8], said: &[u8]) -> io::Result<()>
     ensures { OnOk result (Appends (E.contents err.old) (E.contents err.new) (codes "bidi: " ++ item.now ++ said.now)) }
 {
@@ -84,7 +84,7 @@ pub fn print_item<E: Write>(err: &mut E, item: &[u8], said: &[u8]) -> io::Result
     err.write_all(said)
 }
 
-/// Writes the line that says that a word is no range of lengths.
+/// Writes the line that reports that a value is not a range of lengths.
 pub fn print_no_lengths<E: Write>(err: &mut E, word: &str) -> io::Result<()>
     ensures { OnOk result (Appends (E.contents err.old) (E.contents err.new)
         (concat (codes "bidi: " ∷ word.now ∷ codes " is no range of lengths" ∷ line_feed ∷ []))) }
@@ -92,7 +92,7 @@ pub fn print_no_lengths<E: Write>(err: &mut E, word: &str) -> io::Result<()>
     writeln!(err, "bidi: {word} is no range of lengths")
 }
 
-/// Why texts can't be enumerated or drawn, in words.
+/// Returns in words why texts can't be enumerated or drawn.
 fn refusal_in_words(fault: RowsFault) -> &'static str
     ensures { result.now ≡ rows_refusal fault }
 {
@@ -105,7 +105,7 @@ fn refusal_in_words(fault: RowsFault) -> &'static str
     }
 }
 
-/// Writes the line that says why texts can't be enumerated or drawn.
+/// Writes the line that reports why texts can't be enumerated or drawn.
 pub fn print_no_rows<E: Write>(err: &mut E, fault: RowsFault) -> io::Result<()>
     ensures { OnOk result (Appends (E.contents err.old) (E.contents err.new) (no_rows_text fault)) }
 {

@@ -1,4 +1,4 @@
-// Files by their names, and standard input.
+// Files by name, and standard input.
 ghost use Rattle.std.specs.Prelude.{◌≡◌, ◌≤◌, ℕ, List, IfOk, IfErr, refl};
 ghost use Rattle.units.specs.HandsOut.{unread_of};
 ghost use Rattle.units.specs.declared.unread.Unread.{Unread};
@@ -12,12 +12,12 @@ use units::reader_source::ReaderSource;
 use units::source::ByteSource;
 use units::unread::Unread;
 
-/// Why a file gave no source.
+/// Why a file can't be read.
 #[derive(Clone, Copy, Debug, PartialEq, Eq)]
 pub enum OpenFault {
     /// It can't be opened, for this reason.
     Cannot(Unread),
-    /// Memory was refused.
+    /// An allocation failed.
     Memory,
 }
 
@@ -32,39 +32,37 @@ impl From<AllocError> for OpenFault {
     }
 }
 
-/// Files that can be read, by their names, and standard input. Of each it is said what reading it comes to, with a
-/// limit of so many bytes.
+/// Files that can be opened by name, and standard input. `facts` states what reading each of them gives, with a limit
+/// on the number of bytes.
 pub trait Files {
-    /// What hands out the bytes of a file or of standard input.
+    /// The source of the bytes of a file or of standard input.
     type Source: ByteSource + Drop;
 
-    // The source was opened as the file of a name or as standard input, to hand out at most so many bytes.
+    // The source was opened as a named file or as standard input, with this limit on its bytes.
     ghost opens: { Self → Origin → ℕ → Self.Source → Type 0 };
 
-    // Which of them can't be opened, and what each begins with, what it holds, and where it fails; and why.
+    // Which of them can't be opened, the bytes that each begins with, all bytes of each, where each fails, and why.
     ghost facts: { Self → FileFacts };
 
     // Why a source failed.
     ghost why: { Self.Source → Unread };
 
-    /// A source of the bytes of the file of this name, of which a read past the first `most` bytes fails. The fault is
-    /// `Cannot` where there is no such file or it can't be opened, with the reason, and `Memory` where memory was
-    /// refused.
+    /// Opens the file of this name as a source. A read after the first `most` bytes fails. Fails with `Cannot` if the
+    /// file does not exist or can't be opened, with the reason, and with `Memory` if an allocation fails.
     fn file(&self, alloc: Global, name: &str, most: u64) -> Result<Self::Source, OpenFault>
         ensures opened { IfOk result (opens self.now (FileNamed name.now) most) }
         ensures limit { IfOk result (λ source. Self.Source.most_left source ≤ most) }
         ensures cannot { IfErr result (λ fault. (unread : Unread) → fault ≡ OpenFault.Cannot unread
             → (facts self.now).Refuses (FileNamed name.now) most unread) };
 
-    /// A source of the bytes of standard input, of which a read past the first `most` bytes fails. The faults are the
-    /// same.
+    /// Opens standard input as a source. A read after the first `most` bytes fails. The faults are the same.
     fn input(&self, alloc: Global, most: u64) -> Result<Self::Source, OpenFault>
         ensures opened { IfOk result (opens self.now StandardInput most) }
         ensures limit { IfOk result (λ source. Self.Source.most_left source ≤ most) }
         ensures cannot { IfErr result (λ fault. (unread : Unread) → fault ≡ OpenFault.Cannot unread
             → (facts self.now).Refuses StandardInput most unread) };
 
-    /// Why a read of this source failed; of one that has not failed the answer says nothing.
+    /// Returns why a read of this source failed. If none has failed, the result has no meaning.
     fn unread(&self, source: &Self::Source) -> Unread
         ensures { result ≡ why source.now };
 
@@ -80,14 +78,14 @@ pub trait Files {
         → (facts files).Fails origin most bytes (why now) };
 }
 
-/// The files of the system, and its standard input.
+/// The files and the standard input of the system.
 #[derive(Drop)]
 pub struct SystemFiles<'a, R: std::rt::Files + Input> {
     rt: &'a R,
 }
 
 impl<'a, R: std::rt::Files + Input> SystemFiles<'a, R> {
-    /// The files that the runtime opens, and the standard input that it reads.
+    /// Wraps the files that the runtime opens, and its standard input.
     pub fn new(rt: &'a R) -> Self {
         SystemFiles { rt }
     }
@@ -96,7 +94,7 @@ impl<'a, R: std::rt::Files + Input> SystemFiles<'a, R> {
 impl<'a, R: std::rt::Files + Input> Files for SystemFiles<'a, R> {
     type Source = ReaderSource<Either<R::File, R::Reader>>;
 
-    // Of a file of the system, and of its standard input, no clause says what it holds, nor why it can't be opened.
+    // The clauses don't state what a file of the system or its standard input contains, or why it can't be opened.
     ghost opens = { λ _ _ most source. IsOpened most source };
 
     ghost facts = { λ _. system_facts };

@@ -1,4 +1,4 @@
-// The items of a word of the command line, each read.
+// Reads the items of an option's value.
 ghost use Rattle.std.specs.Borrow.{Bor};
 ghost use Rattle.std.specs.Prelude.{◌≡◌, ◌≤◌, ℕ, List, Option, Some, length, IfOk, IfErr, OnOk};
 ghost use Rattle.units.specs.Layout.{longest_text};
@@ -15,23 +15,23 @@ use units::class::Class;
 use units::text::code_point::code_point;
 use units::text::items::next_item;
 
-/// How an item of a word is read.
+/// Reads an item of an option's value.
 pub trait ReadsItem<T> {
     ghost reading: { Self → List ℕ → Option T };
 
-    // How it is said of an item of a word that it says nothing.
+    // The fault of an item of a value that can't be read.
     ghost unread: { Self → Bor (List ℕ) → Bor (List ℕ) → FaultOf };
 
-    /// What the item says, if it says something.
+    /// Reads the item, if it has a meaning.
     fn read(&self, item: &[u8]) -> Option<T>
         ensures { result ≡ reading self.now item.now };
 
-    /// The fault that the item of the word says nothing.
+    /// Returns the fault of an item of `word` that can't be read.
     fn fault<'a>(&self, word: &'a str, item: &'a [u8]) -> Fault<'a>
         ensures { result ≡ unread self.now word.entry item.entry };
 }
 
-/// What each item of a word says, by this reader. The faults are the first item that says nothing, and refused memory.
+/// Reads each item of `word` with this reader. Fails at the first item that can't be read, or if an allocation fails.
 pub fn read_all<'a, T: Copy, R: ReadsItem<T>>(
     alloc: Global,
     reader: &R,
@@ -53,7 +53,7 @@ pub fn read_all<'a, T: Copy, R: ReadsItem<T>>(
     Ok(values)
 }
 
-/// The short name of a class.
+/// Reads the short name of a class.
 #[derive(Drop)]
 pub struct ClassNames;
 
@@ -74,7 +74,7 @@ impl ReadsItem<Class> for ClassNames {
     }
 }
 
-/// A code point that is no surrogate.
+/// Reads a code point that is not a surrogate.
 #[derive(Drop)]
 pub struct CodePoints;
 
@@ -95,8 +95,9 @@ impl ReadsItem<char> for CodePoints {
     }
 }
 
-/// The classes whose short names stand in a word, with blanks between them: as many as there are, or none. The faults
-/// are a word of more bytes than a text may have, the first name of no class, and refused memory.
+/// Reads the classes in `word`, as short names separated by blanks. There may be none. Fails with `ClassesTooLong` if
+/// `word` has more bytes than a text may have, with `NoClass` at the first item that is not a class, and with
+/// `OutOfMemory` if an allocation fails.
 pub fn classes_in<'a>(alloc: Global, word: &'a str) -> Result<Vec<Class>, Fault<'a>>
     ensures classes { IfOk result (λ classes. classes_named word.now ≡ Some classes.items) }
     ensures bound { IfOk result (λ classes. length classes.items ≤ longest_text) }
@@ -109,8 +110,9 @@ pub fn classes_in<'a>(alloc: Global, word: &'a str) -> Result<Vec<Class>, Fault<
     read_all(alloc, &ClassNames, word)
 }
 
-/// The characters whose code points stand in a word, with blanks between them: as many as there are, or none. The
-/// faults are a word of more bytes than a text may have, the first item that is no code point, and refused memory.
+/// Reads the characters in `word`, as code points separated by blanks. There may be none. Fails with `CodesTooLong` if
+/// `word` has more bytes than a text may have, with `NoCodePoint` at the first item that is not a code point, and with
+/// `OutOfMemory` if an allocation fails.
 pub fn chars_in<'a>(alloc: Global, word: &'a str) -> Result<Vec<char>, Fault<'a>>
     ensures chars { IfOk result (λ chars. codes_said word.now ≡ Some chars.items) }
     ensures bound { IfOk result (λ chars. length chars.items ≤ longest_text) }

@@ -1,4 +1,4 @@
-// A file judged, and its verdict printed.
+// Judges a file, and prints the verdict.
 ghost use Rattle.std.specs.Prelude.{◌≡◌, [], ◌∷◌, ℕ, List, IfOk, IfErr};
 ghost use Rattle.units.specs.Limits.{standard};
 ghost use Rattle.bidtests.specs.JudgedSoFar.{IsVerdictBehind, Judges};
@@ -24,7 +24,7 @@ use std::alloc::Global;
 use std::io::Write;
 use units::memory::Memory;
 
-/// The exit status of a verdict: 0 for a yes, 1 for a no.
+/// Returns the exit status of a verdict: 0 for a yes, 1 for a no.
 fn status_of(verdict: Verdict) -> u8
     ensures { result ≡ verdict_status verdict }
 {
@@ -34,7 +34,7 @@ fn status_of(verdict: Verdict) -> u8
     }
 }
 
-/// The verdict on all bytes of what FILE names, behind what the judge was handed.
+/// Returns the verdict on all bytes of FILE. They follow the bytes that the judge already has.
 fn verdict_on<'a, F: Files>(
     alloc: Global,
     judge: Judge<'_>,
@@ -62,7 +62,7 @@ fn verdict_on<'a, F: Files>(
     }
 }
 
-/// A judge of such rows, before the first byte of their file.
+/// Creates a judge of these rows, before the first byte of their file.
 fn judge_of<'t>(alloc: Global, rows: Kind<'t>) -> Result<Judge<'t>, Memory>
     ensures { IfOk result (λ judge. Judges standard rows.entry judge []) }
 {
@@ -72,7 +72,7 @@ fn judge_of<'t>(alloc: Global, rows: Kind<'t>) -> Result<Judge<'t>, Memory>
     }
 }
 
-/// Judges what FILE names, as a file of such rows, prints the verdict's line and answers its exit status.
+/// Judges FILE as a file of these rows, prints the line of the verdict, and returns its exit status.
 fn judge_as<'a, F: Files, W: Write>(
     alloc: Global,
     rows: Kind<'_>,
@@ -92,7 +92,7 @@ fn judge_as<'a, F: Files, W: Write>(
     Ok(status_of(verdict))
 }
 
-/// Judges what FILE names, as a file of this kind. Where tables are needed and none are named, nothing is opened.
+/// Judges FILE as a file of this kind. If tables are needed and none are named, nothing is opened.
 pub fn judge_file<'a, F: Files, W: Write>(
     alloc: Global,
     kind: FileKind,

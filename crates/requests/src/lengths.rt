@@ -1,4 +1,4 @@
-// Lengths read from a word of the command line.
+// Reads lengths from the value of an option.
 ghost use Rattle.std.specs.Prelude.{◌≡◌, Some, IfOk, IfErr};
 ghost use Rattle.units.specs.Text.{ends};
 ghost use Rattle.requests.specs.LengthWords.{EndsLengths, length_of, lengths_named};
@@ -14,21 +14,21 @@ pub struct Lengths {
     pub greatest: usize,
 }
 
-/// The least and the greatest, where both are read.
+/// Returns the least and the greatest length, if both are given.
 fn both(least: Option<u32>, greatest: Option<u32>) -> Option<(u32, u32)>
     ensures { result ≡ ends least greatest }
 {
     Some((least?, greatest?))
 }
 
-/// A length: decimal digits, at most 65,535.
+/// Reads a length: decimal digits, at most 65,535.
 fn length(item: &[u8]) -> Option<u32>
     ensures { result ≡ length_of item.now }
 {
     number(item, 65_535)
 }
 
-/// The lengths that a word says: `N`, or `N..N`.
+/// Reads the lengths in `word`: `N`, or `N..N`.
 #[tactic(auto, using(crate::proofs::LengthPieces::length_pieces))]
 fn read_lengths(word: &[u8]) -> Option<(u32, u32)>
     ensures { result ≡ lengths_named word.now }
@@ -45,8 +45,8 @@ fn read_lengths(word: &[u8]) -> Option<(u32, u32)>
     }
 }
 
-/// The lengths that a word says: one, or the least and the greatest with `..` between them. The fault is that it says
-/// none.
+/// Reads the lengths in `word`: one, or the least and the greatest with `..` between them. Fails with `NoLengths` if it
+/// has another form.
 pub fn lengths_in<'a>(word: &'a str) -> Result<Lengths, Fault<'a>>
     ensures lengths { IfOk result (λ lengths. lengths_named word.now ≡ Some (lengths.least, lengths.greatest)) }
     ensures fault { IfErr result (EndsLengths word.now) }

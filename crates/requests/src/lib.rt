@@ -1,6 +1,6 @@
-//! What is asked of the command `bidi`, done over the files and writers that its caller hands it: bidirectional text is
-//! laid out, what each rule does to it is shown, and conformance files of the bidirectional algorithm are judged,
-//! reported on and written.
+//! Performs what the command `bidi` is asked to do, with the files and writers that the caller passes: lays out
+//! bidirectional text, shows what each rule does to it, and judges, reports on and writes conformance files of the
+//! bidirectional algorithm.
 #![tactic(auto)]
 
 mod directions;

@@ -1,4 +1,4 @@
-// Files and standard input opened.
+// Opens files and standard input.
 ghost use Rattle.std.specs.Prelude.{◌≡◌, ◌≤◌, IfOk, IfErr};
 ghost use Rattle.units.specs.declared.unread.Unread.{Unread};
 ghost use Rattle.requests.specs.FaultText.{EndsOpening};
@@ -10,16 +10,16 @@ use printing::written::Written;
 use std::alloc::Global;
 use units::unread::Unread;
 
-/// The most bytes that a conformance file or a table's file may have.
+/// The maximum size of a conformance file or a table's file, in bytes.
 pub const MOST_FILE_BYTES: u64 = 1_099_511_627_776;
 
-/// The most bytes that a text may have.
+/// The maximum size of a text, in bytes.
 pub const MOST_TEXT_BYTES: u64 = 16_777_216;
 
-/// The word for FILE that names standard input.
+/// The value of FILE that names standard input.
 const STANDARD_INPUT: &str = "-";
 
-/// A source of what FILE names.
+/// Opens FILE as a source.
 fn source_of<F: Files>(
     alloc: Global,
     files: &F,
@@ -38,9 +38,9 @@ fn source_of<F: Files>(
     }
 }
 
-/// Opens what FILE names, standard input by `-` and else the file of that name, of which a read past the first `most`
-/// bytes fails. The faults are that it can't be opened, which has that word, the limit and the reason, and refused
-/// memory.
+/// Opens FILE: standard input if it is `-`, and otherwise the file of that name. A read after the first `most` bytes
+/// fails. Fails with `CannotRead`, with the name, the limit and the reason, if it can't be opened, and with
+/// `OutOfMemory` if an allocation fails.
 pub fn open<'a, F: Files>(
     alloc: Global,
     files: &F,

@@ -1,14 +1,15 @@
-// What a request came to.
+// The results of requests and runs.
 ghost use Rattle.std.specs.Prelude.{◌≡◌};
 ghost use Rattle.requests.specs.Outcomes.{outcome_status};
 
-/// What a request that is done came to.
+/// The result of a request that was done.
 #[derive(Clone, Copy, Debug, PartialEq, Eq)]
 pub enum Outcome {
-    /// A file was judged and its verdict printed, or it was reported on: the exit status of the verdict or the report.
+    /// A file was judged or reported on, and the result was printed. The number is the exit status of the verdict or
+    /// the report.
     Judged(u8),
-    /// A text was printed, by its levels or as it is shown, or what each rule does to a text, to classes or to a row,
-    /// or rows.
+    /// The output was printed: a text's levels or lines, what each rule does to a text, to classes or to a row, or
+    /// rows.
     Printed,
 }
 
@@ -19,12 +20,12 @@ pub struct Ended {
     pub status: u8,
     /// Whether no write to the output failed.
     pub is_written: bool,
-    /// Whether the line of what went wrong, if something did, was written whole.
+    /// Whether the line that reports the fault, if there is one, was written completely.
     pub is_said: bool,
 }
 
 impl Outcome {
-    /// The exit status: that of the verdict or the report, and 0 after a text or rows.
+    /// Returns the exit status: that of the verdict or the report, and otherwise 0.
     pub fn status(self) -> u8
         ensures { result ≡ outcome_status self }
     {

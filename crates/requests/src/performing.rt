@@ -1,4 +1,4 @@
-// What a request asks for, done.
+// Performs a request.
 ghost use Rattle.std.specs.Prelude.{IfOk, IfErr, OnOk};
 ghost use Rattle.requests.specs.Outcomes.{Fails, IsDone, RefusalLeaves};
 ghost use Rattle.requests.specs.Printed.{HasExplained, HasExplainedCodes, HasPrinted, printed_text};
@@ -24,7 +24,7 @@ use std::alloc::Global;
 use std::io::Write;
 use units::level::Direction;
 
-/// Prints what each rule does to the text in what FILE names, by the tables of this source, which are read first.
+/// Prints what each rule does to the text of FILE, with the tables of this source. The tables are read first.
 fn explain_file<'a, F: Files, W: Write>(
     alloc: Global,
     source: TableSource<'a>,
@@ -44,7 +44,7 @@ fn explain_file<'a, F: Files, W: Write>(
     Ok(())
 }
 
-/// Prints this of the text in what FILE names, by the tables of this source, which are read first.
+/// Prints the text of FILE as requested, with the tables of this source. The tables are read first.
 fn print_file<'a, F: Files, W: Write>(
     alloc: Global,
     source: TableSource<'a>,
@@ -69,7 +69,7 @@ fn print_file<'a, F: Files, W: Write>(
     }
 }
 
-/// Prints what each rule does to the classes that the word names.
+/// Prints what each rule does to the classes in `word`.
 fn explain_classes<'a, W: Write>(
     alloc: Global,
     word: &'a str,
@@ -85,8 +85,8 @@ fn explain_classes<'a, W: Write>(
     Ok(())
 }
 
-/// Prints what each rule does to a text of the characters whose code points stand in the word, which is read first, by
-/// the tables of this source.
+/// Prints what each rule does to a text of the code points in `word`, with the tables of this source. The code points
+/// are read first.
 fn explain_codes<'a, F: Files, W: Write>(
     alloc: Global,
     word: &'a str,
@@ -106,7 +106,7 @@ fn explain_codes<'a, F: Files, W: Write>(
     Ok(())
 }
 
-/// Does what is asked for.
+/// Performs the request.
 pub fn perform<'a, F: Files, W: Write>(
     alloc: Global,
     request: Request<'a>,

@@ -1,4 +1,4 @@
-// A text read from what FILE names.
+// Reads the text of FILE.
 ghost use Rattle.std.specs.Prelude.{◌≤◌, length, IfOk, IfErr};
 ghost use Rattle.units.specs.Layout.{longest_text};
 ghost use Rattle.requests.specs.Printed.{HoldsText, most_text_bytes};
@@ -13,7 +13,7 @@ use printing::written::Written;
 use std::alloc::Global;
 use units::source::ByteSource;
 
-/// All bytes of what FILE names.
+/// Returns all bytes of FILE.
 fn bytes_in_file<'a, F: Files>(
     alloc: Global,
     file: &'a str,
@@ -47,7 +47,7 @@ fn bytes_in_file<'a, F: Files>(
     }
 }
 
-/// The text in what FILE names, in UTF-8.
+/// Returns the text of FILE, which is UTF-8.
 pub fn text_in_file<'a, F: Files>(
     alloc: Global,
     file: &'a str,

@@ -1,4 +1,4 @@
-// The line that says the reason of a fault.
+// Writes the line with the reason of a fault.
 ghost use Rattle.std.specs.Prelude.{◌≡◌, ◌++◌, codes, OnOk, Some};
 ghost use Rattle.std.specs.Io.KnownBytes.{Appends};
 ghost use Rattle.requests.specs.Reasons.{field_words, folder_words, item_words, place_words, reason_line, unread_words};
@@ -10,17 +10,17 @@ use std::io;
 use std::io::Write;
 use units::unread::Unread;
 
-/// What each item of a word for classes may be.
+/// The allowed items of `--classes`.
 pub const CLASS_ITEMS: &str =
     "L R AL EN ES ET AN CS NSM BN B S WS ON LRE LRO RLE RLO PDF LRI RLI FSI PDI";
 
-/// What each item of a word for code points may be.
+/// The allowed items of `--codes`.
 pub const CODE_POINT_ITEMS: &str = "4 to 6 upper-case hex digits, at most 10FFFF, no surrogate";
 
-/// What each item of a word for directions may be.
+/// The allowed items of `--directions`.
 pub const DIRECTION_ITEMS: &str = "auto ltr rtl auto-rtl";
 
-/// What a word for lengths may be.
+/// The allowed values of `--length`.
 pub const LENGTH_ITEMS: &str = "allowed: N or A..B, 1 to 4095, without leading zeros";
 
 /// Writes the line with this reason.
@@ -30,7 +30,7 @@ pub fn print_reason<E: Write>(err: &mut E, reason: &str) -> io::Result<()>
     writeln!(err, "bidi: reason: {reason}")
 }
 
-/// Writes the line with the word that has an item which is not allowed, and with what is allowed.
+/// Writes the line with the value that has an item which is not allowed, and with the allowed items.
 pub fn print_item_reason<E: Write>(err: &mut E, word: &str, allowed: &str) -> io::Result<()>
     ensures { OnOk result (Appends (E.contents err.old) (E.contents err.new)
         (reason_line (Some (item_words word.now allowed.now)))) }
@@ -38,7 +38,7 @@ pub fn print_item_reason<E: Write>(err: &mut E, word: &str, allowed: &str) -> io
     writeln!(err, "bidi: reason: in '{word}', allowed: {allowed}")
 }
 
-/// Writes the line with the folder of the tables, one of which has a faulty line.
+/// Writes the line with the folder of the tables. One of its files has a faulty line.
 pub fn print_folder_reason<E: Write>(err: &mut E, folder: &str) -> io::Result<()>
     ensures { OnOk result (Appends (E.contents err.old) (E.contents err.new)
         (reason_line (Some (codes "the folder of tables is " ++ folder.now)))) }
@@ -46,7 +46,7 @@ pub fn print_folder_reason<E: Write>(err: &mut E, folder: &str) -> io::Result<()
     writeln!(err, "bidi: reason: the folder of tables is {folder}")
 }
 
-/// Writes the line with the place at which a text begins to be no UTF-8.
+/// Writes the line with the place after which a text is not UTF-8.
 pub fn print_place_reason<E: Write>(err: &mut E, place: TextPlace) -> io::Result<()>
     ensures { OnOk result (Appends (E.contents err.old) (E.contents err.new)
         (reason_line (Some (place_words place)))) }
@@ -56,7 +56,7 @@ pub fn print_place_reason<E: Write>(err: &mut E, place: TextPlace) -> io::Result
     writeln!(err, "bidi: reason: line {line}, byte offset {offset}")
 }
 
-/// Writes why a file of at most so many bytes can't be read, in words.
+/// Writes in words why a file of at most `most` bytes can't be read.
 fn print_unread_words<E: Write>(err: &mut E, unread: Unread, most: u64) -> io::Result<()>
     ensures { OnOk result (Appends (E.contents err.old) (E.contents err.new) (unread_words unread most)) }
 {
@@ -69,7 +69,7 @@ fn print_unread_words<E: Write>(err: &mut E, unread: Unread, most: u64) -> io::R
     }
 }
 
-/// Writes in which folder a table's file was looked for.
+/// Writes the folder that was searched for a table's file.
 fn print_folder<E: Write>(err: &mut E, folder: Option<&str>) -> io::Result<()>
     ensures { OnOk result (Appends (E.contents err.old) (E.contents err.new) (folder_words folder.entry)) }
 {
@@ -79,7 +79,7 @@ fn print_folder<E: Write>(err: &mut E, folder: Option<&str>) -> io::Result<()>
     }
 }
 
-/// Writes the line with the reason why a file of at most so many bytes can't be read, and with the folder if it is a
+/// Writes the line with the reason why a file of at most `most` bytes can't be read, and with the folder if it is a
 /// table's file.
 pub fn print_unread_reason<E: Write>(
     err: &mut E,
@@ -96,7 +96,7 @@ pub fn print_unread_reason<E: Write>(
     err.write_all(b"\n")
 }
 
-/// The part of a line that is malformed for this cause, in words. The fields of a row are counted from 0.
+/// Returns in words the part of a line that is malformed for this cause. The fields of a row are counted from 0.
 pub fn field_in_words(kind: FileKind, cause: Cause) -> &'static str
     ensures { result.now ≡ field_words kind cause }
 {

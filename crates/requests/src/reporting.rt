@@ -1,4 +1,4 @@
-// A file reported on.
+// Reports on a file.
 ghost use Rattle.std.specs.Prelude.{◌≡◌, IfOk, IfErr};
 ghost use Rattle.requests.specs.Outcomes.{Fails, IsDone};
 ghost use Rattle.requests.specs.Parts.{MemoryLeaves};
@@ -19,15 +19,15 @@ use std::alloc::Global;
 use std::io::Write;
 use units::limits::Limits;
 
-/// The exit status of a report: 0 where the file is right, 1 where it is not.
+/// Returns the exit status of a report: 0 if the file is right, 1 if it is not.
 fn status_of(right: bool) -> u8
     ensures { result ≡ report_status right }
 {
     if right { 0 } else { 1 }
 }
 
-/// Reports on what FILE names, as a file of such rows, by these options: prints the first wrong cases while it is read,
-/// and then the counts. Answers the exit status.
+/// Reports on FILE as a file of these rows, with these options. Prints the first wrong cases while it reads the file,
+/// and then the counts. Returns the exit status.
 fn report_as<'a, F: Files, W: Write>(
     alloc: Global,
     rows: Kind<'_>,
@@ -65,7 +65,7 @@ fn report_as<'a, F: Files, W: Write>(
     }
 }
 
-/// Reports on what FILE names, as a file of this kind. Where tables are needed and none are named, nothing is opened.
+/// Reports on FILE as a file of this kind. If tables are needed and none are named, nothing is opened.
 pub fn report_file<'a, F: Files, W: Write>(
     alloc: Global,
     kind: FileKind,

@@ -1,4 +1,4 @@
-// What may be asked for.
+// The requests.
 
 use report::terms::Leniency;
 use rows::form::Form;
@@ -19,7 +19,7 @@ pub enum FileKind {
 pub enum Print {
     /// Its levels.
     Levels,
-    /// Its lines as they are shown, with a break at every so many columns.
+    /// Its lines as they are shown, with a break after every `columns` characters of a paragraph.
     Reorder { columns: Option<NonZeroU16> },
     /// What each rule does to it.
     Explained,
@@ -28,65 +28,65 @@ pub enum Print {
 /// Where the tables come from.
 #[derive(Clone, Copy, Debug, PartialEq, Eq)]
 pub enum TableSource<'a> {
-    /// The three files of the folder of this name.
+    /// The three files in the folder of this name.
     Folder(&'a str),
-    /// The facts of Unicode that are built in.
+    /// The built-in Unicode data.
     BuiltIn,
 }
 
-/// Of which letters the texts of rows are made.
+/// The letters of the texts of rows.
 #[derive(Clone, Copy, Debug, PartialEq, Eq)]
 pub enum RowLetters<'a> {
-    /// Those that the word says: names of classes, or code points.
+    /// The items of this value: names of classes, or code points.
     Alphabet(&'a str),
-    /// Those of a form of hard texts.
+    /// The letters of a form of hard texts.
     OfForm(Form),
 }
 
 /// Which texts over their letters rows have.
 #[derive(Clone, Copy, Debug, PartialEq, Eq)]
 pub enum RowsForm {
-    /// All of the lengths, the shorter ones first.
+    /// All texts of the lengths, in the order of their length.
     Exhaustive,
-    /// So many, drawn by a seed.
+    /// `count` texts, drawn with a seed.
     Random { seed: u64, count: u64 },
 }
 
-/// Which rows are asked for.
+/// The requested rows.
 #[derive(Clone, Copy, Debug, PartialEq, Eq)]
 pub struct AskedRows<'a> {
-    /// The kind of the file that they make.
+    /// The kind of the file that the rows form.
     pub kind: FileKind,
-    /// The tables by which rows of characters are right; those of classes need none.
+    /// The tables for rows of characters. Rows of classes need none.
     pub tables: TableSource<'a>,
     pub letters: RowLetters<'a>,
     pub form: RowsForm,
-    /// The word for the lengths of the texts.
+    /// The value of `--length`: the lengths of the texts.
     pub lengths: &'a str,
-    /// The word for the directions under which each text stands.
+    /// The value of `--directions`: the directions of each text.
     pub directions: &'a str,
 }
 
-/// Which text is asked for as rows.
+/// The text whose lines are requested as rows.
 #[derive(Clone, Copy, Debug, PartialEq, Eq)]
 pub struct AskedLines<'a> {
-    /// The kind of the file that its lines make.
+    /// The kind of the file that the lines form.
     pub kind: FileKind,
-    /// The tables that say what its characters are.
+    /// The tables for the characters of the text.
     pub tables: TableSource<'a>,
     pub file: &'a str,
-    /// The word for the directions under which each line stands.
+    /// The value of `--directions`: the directions of each line.
     pub directions: &'a str,
 }
 
-/// Which row of a conformance file is sought.
+/// The row of a conformance file that is to be explained.
 #[derive(Clone, Copy, Debug, PartialEq, Eq)]
 pub struct SoughtRow<'a> {
     /// The kind of the file.
     pub kind: FileKind,
-    /// The tables, which only a file of characters needs.
+    /// The tables. Only a file of characters needs them.
     pub tables: Option<TableSource<'a>>,
-    /// The number of its line, counted from 1.
+    /// The number of the row's line, counted from 1.
     pub line: NonZeroU64,
     pub file: &'a str,
 }
@@ -94,35 +94,35 @@ pub struct SoughtRow<'a> {
 /// How a conformance file is reported on.
 #[derive(Clone, Copy, Debug, PartialEq, Eq)]
 pub struct ReportOptions {
-    /// How many wrong cases are printed at most.
+    /// The maximum number of wrong cases that are printed.
     pub most: u64,
-    /// What of each claim is compared.
+    /// Which expected results are compared.
     pub leniency: Leniency,
 }
 
-/// What is asked for. Files and folders are named as they were given.
+/// A request. Files and folders have the names that were given.
 #[derive(Clone, Copy, Debug, PartialEq, Eq)]
 pub enum Request<'a> {
-    /// Print this of the file's text, by these tables.
+    /// Print the text of the file in this form, with these tables.
     Text {
         tables: TableSource<'a>,
         direction: Direction,
         file: &'a str,
         print: Print,
     },
-    /// Print what each rule does to the classes whose names stand in the word.
+    /// Print what each rule does to the classes in `classes`.
     ExplainClasses {
         classes: &'a str,
         direction: Direction,
     },
-    /// Print what each rule does to a text of the characters whose code points stand in the word, by these tables.
+    /// Print what each rule does to a text of the code points in `codes`, with these tables.
     ExplainCodes {
         codes: &'a str,
         tables: TableSource<'a>,
         direction: Direction,
     },
-    /// Print what each rule does to the text of this row, under each direction that it names, and what it claims beside
-    /// what is defined.
+    /// Print what each rule does to the text of this row, under each of its directions, and the expected results beside
+    /// the defined ones.
     ExplainRow(SoughtRow<'a>),
     /// Judge a conformance file. Only a file of characters needs the tables.
     Judge {
@@ -130,16 +130,16 @@ pub enum Request<'a> {
         tables: Option<TableSource<'a>>,
         file: &'a str,
     },
-    /// Report on a conformance file: print the first of its wrong cases, at most so many, and how many there are. The
-    /// tables are needed as they are to judge.
+    /// Report on a conformance file: print its first wrong cases, up to a limit, and the number of all wrong cases.
+    /// Only a file of characters needs the tables.
     Report {
         kind: FileKind,
         tables: Option<TableSource<'a>>,
         file: &'a str,
         options: ReportOptions,
     },
-    /// Print these rows, as a conformance file of which a judge says yes.
+    /// Print these rows as a conformance file on which a judge's verdict is yes.
     Rows(AskedRows<'a>),
-    /// Print the lines of this text so.
+    /// Print the lines of this text as rows.
     RowsOf(AskedLines<'a>),
 }

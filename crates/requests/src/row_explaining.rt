@@ -1,4 +1,4 @@
-// A row of a conformance file explained.
+// Explains a row of a conformance file.
 ghost use Rattle.std.specs.Prelude.{◌≡◌, Ok, IfErr, IfOk, OnOk};
 ghost use Rattle.requests.specs.FileRows.{kind_of};
 ghost use Rattle.requests.specs.RowsExplained.{HasAtLine, HasExplainedRow, row_fault};
@@ -19,7 +19,7 @@ use std::alloc::Global;
 use std::io::Write;
 use std::num::NonZeroU64;
 
-/// The kind of a file of such rows.
+/// Returns the kind of a file of these rows.
 fn kind_of(rows: Kind<'_>) -> FileKind
     ensures { result ≡ kind_of rows.entry }
 {
@@ -29,7 +29,7 @@ fn kind_of(rows: Kind<'_>) -> FileKind
     }
 }
 
-/// How it is said of a file of this kind why there is no row at a line.
+/// Returns the fault of a file of this kind that has no row at a line.
 fn fault_of_row<'a>(file: &'a str, kind: FileKind, line: NonZeroU64, fault: RowFault) -> Fault<'a>
     ensures { result ≡ row_fault file.entry kind line.value fault }
 {
@@ -47,7 +47,7 @@ fn fault_of_row<'a>(file: &'a str, kind: FileKind, line: NonZeroU64, fault: RowF
     }
 }
 
-/// The row at a line of what FILE names, as a file of such rows, which is read up to that line.
+/// Returns the row at a line of FILE, as a file of these rows. FILE is read up to that line.
 fn row_in_file<'a, F: Files>(
     alloc: Global,
     rows: Kind<'_>,
@@ -76,10 +76,10 @@ fn row_in_file<'a, F: Files>(
     }
 }
 
-/// Explains the row that is sought: under each direction that it names, what each rule does to its text, and what it
-/// claims beside what is defined. Where tables are needed and none are named, nothing is opened. The faults are those
-/// of `tables_by`, that FILE can't be opened or read, that a line up to the one that is sought is malformed, that
-/// this is no row, refused memory, and a failed write.
+/// Explains the requested row: for each of its directions, what each rule does to its text, and the expected results
+/// beside the defined ones. If tables are needed and none are named, nothing is opened. Fails with the faults of
+/// `row_tables`, if FILE can't be opened or read, if a line up to the requested one is malformed, if that line is not a
+/// row, or if an allocation or a write fails.
 pub fn explain_row<'a, F: Files, W: Write>(
     alloc: Global,
     sought: SoughtRow<'a>,

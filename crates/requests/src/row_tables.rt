@@ -1,4 +1,4 @@
-// The tables by which the rows of a conformance file are read.
+// The tables for the rows of a conformance file.
 ghost use Rattle.std.specs.Prelude.{IfOk, IfErr};
 ghost use Rattle.requests.specs.FileRows.{AreRowsBy, HasRowTables};
 ghost use Rattle.requests.specs.Parts.{IsFirstFault, row_table_parts};
@@ -11,8 +11,8 @@ use bidtests::kind::Kind;
 use std::alloc::Global;
 use ucdfiles::tables::Tables;
 
-/// Returns the tables of the source if the rows of a file of this kind need tables, with the faults of `tables_by`. If
-/// they are needed and no source is named, fails with `TablesNeeded` and opens nothing.
+/// Returns the tables of the source if the rows of a file of this kind need tables. Fails with the faults of
+/// `tables_by`. If tables are needed and no source is named, fails with `TablesNeeded` and opens nothing.
 pub fn row_tables<'a, F: Files>(
     alloc: Global,
     files: &F,
@@ -29,7 +29,7 @@ pub fn row_tables<'a, F: Files>(
     }
 }
 
-/// What rows hold by these tables: classes, where there are none.
+/// Returns the kind of the rows: characters with these tables, or classes if there are none.
 pub fn rows_by(tables: &Option<Tables>) -> Kind<'_>
     ensures { AreRowsBy tables.now result }
 {

@@ -1,4 +1,4 @@
-// A request done to its end.
+// Runs a request to its end.
 ghost use Rattle.std.specs.Prelude.{◌≡◌, ◌≤◌, IfOk, IfErr};
 ghost use Rattle.std.specs.Io.KnownBytes.{Keeps};
 ghost use Rattle.requests.specs.Outcomes.{Fails, HasEnded, IsDone, RefusalLeaves};
@@ -11,7 +11,7 @@ use crate::request::Request;
 use std::alloc::Global;
 use std::io::Write;
 
-/// Hands on all that was written. The fault is that of a write.
+/// Flushes the output. Fails with `CannotWrite` if that fails.
 fn flush<W: Write>(out: &mut W) -> Result<(), Fault<'static>>
     ensures bytes { Keeps (W.contents out.old) (W.contents out.new) }
     ensures fault { IfErr result (λ fault. fault ≡ Fault.CannotWrite) }
@@ -22,7 +22,7 @@ fn flush<W: Write>(out: &mut W) -> Result<(), Fault<'static>>
     }
 }
 
-/// Does what is asked for, with all that was written handed on.
+/// Performs the request, and flushes the output.
 fn perform_and_flush<'a, F: Files, W: Write>(
     alloc: Global,
     request: Request<'a>,
@@ -40,13 +40,16 @@ fn perform_and_flush<'a, F: Files, W: Write>(
     Ok(outcome)
 }
 
-/// Does what is asked for, and returns how the run ends, with the exit status: 0 where a text was printed or explained,
-/// a row was, or rows were printed, and after a yes or a report that is right, 1 after a no, or a report that is not
-/// right, that was written, 2 where no tables are named though they are needed, a word for classes or for code points
-/// has an item that is none or is too long, words make no rows, or the line that is to be explained is no row, 3 where
-/// a file or standard input can't be read, a table, the text or a line up to the one that is to be explained is faulty,
-/// a write fails or memory is refused. After 2 and 3 the fault is reported to `err` in this detail, and whether it took
-/// that is returned too; after 0 and 1 nothing is written to it.
+/// Performs the request, and returns how the run ends, with the exit status:
+/// - 0 if a text, an explanation or rows were printed, and after a yes or a report on a right file;
+/// - 1 after a no, or after a report on a file that is not right, if it was written;
+/// - 2 if tables are needed and none are named, if an option's value is not allowed or too long, if there are no such
+///   rows, or if the line that is to be explained is not a row;
+/// - 3 if a file or standard input can't be read, if a table, the text or a line up to the one that is to be explained
+///   is faulty, or if a write or an allocation fails.
+///
+/// With status 2 and 3, the fault is reported to `err` in this detail, and the result says whether `err` took the
+/// report. With status 0 and 1, nothing is written to `err`.
 pub fn run_request<'a, F: Files, W: Write, E: Write>(
     alloc: Global,
     request: Request<'a>,
@@ -57,11 +60,11 @@ pub fn run_request<'a, F: Files, W: Write, E: Write>(
 ) -> Ended
     ensures status { result.status ≤ 3 }
 
-    // The status is that of what was done, or of the fault of the first part that failed, which is reported.
+    // The status is that of the completed request, or of the fault of the first part that fails, which is reported.
     ensures ended { HasEnded (F.facts files.now) (W.contents out.old) (W.contents out.new)
         (E.contents err.old) (E.contents err.new) request.entry detail result }
 
-    // 1 is answered only where the request came to a no, or to a report that is not right, that was written.
+    // The status is 1 only after a no, or after a report on a file that is not right, and only if it was written.
     ensures no { result.status ≡ 1 → IsDone (F.facts files.now)
         (W.contents out.old) (W.contents out.new) request.entry (Outcome.Judged 1) }
     ensures silent { result.status ≤ 1 → E.contents err.new ≡ E.contents err.old }

@@ -26,7 +26,7 @@ use units::unread::Unread;
 /// The file of the classes in the folder of the tables.
 pub const CLASSES: &str = "DerivedBidiClass.txt";
 
-/// The file of the classes, from the folder in which Unicode publishes the other two.
+/// The file of the classes, relative to the folder in which Unicode publishes the other two.
 const EXTRACTED_CLASSES: &str = "extracted/DerivedBidiClass.txt";
 
 /// The file of the bracket pairs.
@@ -50,8 +50,8 @@ fn open_in<F: Files>(
     files.file(alloc, path.as_str(), MOST_FILE_BYTES)
 }
 
-/// Opens the table's file of this name in the folder. The faults are that it can't be opened, with the reason, and
-/// refused memory.
+/// Opens the table's file of this name in the folder. Fails with `CannotRead` and the reason if it can't be opened, and
+/// with `OutOfMemory` if an allocation fails.
 fn open_table<'a, F: Files>(
     alloc: Global,
     files: &F,
@@ -75,8 +75,9 @@ fn open_table<'a, F: Files>(
     }
 }
 
-/// Opens the file of the classes in the folder `extracted` of the folder, where the one in the folder can't be opened
-/// for this reason. The faults are that neither can be opened, said of the one in the folder, and refused memory.
+/// Opens the file of the classes in the folder's subfolder `extracted`. `unread` is the reason why the one in the
+/// folder can't be opened. If this one can't be opened either, fails with `CannotRead` for the one in the folder. Fails
+/// with `OutOfMemory` if an allocation fails.
 fn open_extracted<'a, F: Files>(
     alloc: Global,
     files: &F,
@@ -101,8 +102,8 @@ fn open_extracted<'a, F: Files>(
     }
 }
 
-/// Opens the file of the classes: the one in the folder, or where that can't be opened the one in its folder
-/// `extracted`, where Unicode publishes it. Where neither can be opened, the fault names the first, with its reason.
+/// Opens the file of the classes: the one in the folder or, if that can't be opened, the one in its subfolder
+/// `extracted`, where Unicode publishes it. If neither can be opened, the fault names the first, with its reason.
 fn open_classes<'a, F: Files>(
     alloc: Global,
     files: &F,
@@ -120,8 +121,7 @@ fn open_classes<'a, F: Files>(
     }
 }
 
-/// Returns how the fault of the table's file of this name in the folder is reported, with the reason for which a read of
-/// it failed.
+/// Returns the fault of the table's file of this name in the folder. `unread` is the reason if a read of it failed.
 fn fault_of_table<'a>(
     folder: &'a str,
     name: &'static str,
@@ -148,7 +148,7 @@ fn fault_of_table<'a>(
     }
 }
 
-/// The classes of the folder.
+/// Reads the classes of the folder.
 fn read_classes<'a, F: Files>(
     alloc: Global,
     files: &F,
@@ -168,7 +168,7 @@ fn read_classes<'a, F: Files>(
     }
 }
 
-/// The brackets of the folder.
+/// Reads the brackets of the folder.
 fn read_brackets<'a, F: Files>(
     alloc: Global,
     files: &F,
@@ -188,7 +188,7 @@ fn read_brackets<'a, F: Files>(
     }
 }
 
-/// The mirror images of the folder.
+/// Reads the mirror images of the folder.
 fn read_mirrors<'a, F: Files>(
     alloc: Global,
     files: &F,
@@ -208,9 +208,9 @@ fn read_mirrors<'a, F: Files>(
     }
 }
 
-/// Reads the tables of a folder: the classes, from the folder or its folder `extracted`, then the brackets, then the
-/// mirror images. The fault is the first one: a file that can't be opened or read, its first faulty line, or refused
-/// memory.
+/// Reads the tables of a folder: the classes, from the folder or its subfolder `extracted`, then the brackets, then the
+/// mirror images. Fails with the first fault: a file that can't be opened or read, the first faulty line of a file, or
+/// a failed allocation.
 pub fn read_tables<'a, F: Files>(
     alloc: Global,
     files: &F,

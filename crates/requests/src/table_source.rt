@@ -1,4 +1,4 @@
-// The tables of a request: those of a folder, or those that are built in.
+// The tables of a request: those of a folder, or the built-in ones.
 ghost use Rattle.std.specs.Prelude.{IfOk, IfErr};
 ghost use Rattle.requests.specs.Parts.{IsFirstFault, source_parts};
 ghost use Rattle.requests.specs.TableSources.{AreTablesBy};
@@ -11,7 +11,7 @@ use std::alloc::Global;
 use ucdfiles::tables::Tables;
 
 #[tactic(auto, unfolding(crate::specs::TableSources::AreBuiltIn))]
-/// Returns the tables of the folder, with the faults of `read_tables`, or those that are built in, without a fault.
+/// Returns the tables of the folder, with the faults of `read_tables`, or the built-in ones, without a fault.
 pub fn tables_by<'a, F: Files>(
     alloc: Global,
     files: &F,

@@ -1,4 +1,4 @@
-// A text printed while it is read.
+// Prints a text while it is read.
 ghost use Rattle.std.specs.Prelude.{IfErr, OnOk};
 ghost use Rattle.printing.specs.Behind.{printed_as};
 ghost use Rattle.requests.specs.Printed.{HasPrinted};
@@ -15,11 +15,14 @@ use std::alloc::Global;
 use std::io::Write;
 use units::level::Direction;
 
-/// Prints the text in what FILE names in this form, by the tables of this source, which are read first: each paragraph
-/// is printed and handed on as soon as its end is read. The faults are those of `tables_by` and `open`, before anything
-/// is printed; that a read failed or that the text is not UTF-8, after the paragraphs that have ended by then; and a
-/// failed write, if the whole text was read and is UTF-8. Two faults end it before: that nobody reads what is written
-/// any more, and refused memory.
+/// Prints the text of FILE in this form, with the tables of this source. The tables are read first. Each paragraph is
+/// printed and flushed as soon as its end is read.
+///
+/// Fails:
+/// - before anything is printed, with the faults of `tables_by` and `open`;
+/// - after the paragraphs that have ended, if a read fails or the text is not UTF-8;
+/// - after the whole text was read, if it is UTF-8 and a write failed;
+/// - at once, if nobody reads the output any more, or if an allocation fails.
 pub fn print_text<'a, F: Files, W: Write>(
     alloc: Global,
     source: TableSource<'a>,

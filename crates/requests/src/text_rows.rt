@@ -1,4 +1,4 @@
-// A text's lines, printed as the rows of a conformance file.
+// Prints the lines of a text as the rows of a conformance file.
 ghost use Rattle.std.specs.Prelude.{◌≡◌, None, IfErr, IfOk, OnOk};
 ghost use Rattle.rows.specs.TextLines.{first_long_line};
 ghost use Rattle.requests.specs.Printed.{HoldsText};
@@ -18,7 +18,7 @@ use std::alloc::Global;
 use std::io::Write;
 use ucdfiles::tables::Tables;
 
-/// How the rows of a file of this kind name characters, by these tables.
+/// Returns how the rows of a file of this kind name characters, with these tables.
 fn naming_in(kind: FileKind, tables: &Tables) -> Naming<'_>
     ensures { result ≡ naming_in kind tables.entry }
 {
@@ -28,8 +28,8 @@ fn naming_in(kind: FileKind, tables: &Tables) -> Naming<'_>
     }
 }
 
-/// The text in what FILE names, of which no line is too long for a row. The faults are those of `text_in_file`, and the
-/// first line that is too long.
+/// Returns the text of FILE if no line is too long for a row. Fails with the faults of `text_in_file`, and with
+/// `LongLine` at the first line that is too long.
 fn row_text_in_file<'a, F: Files>(
     alloc: Global,
     file: &'a str,
@@ -46,9 +46,9 @@ fn row_text_in_file<'a, F: Files>(
     }
 }
 
-/// Prints the lines of the text that is asked for as rows, with what the rules give. The faults are those of
-/// `directions_in`, `tables_by` and `text_in_file`, the first line that is too long for a row, refused memory, and a
-/// failed write.
+/// Prints the lines of the requested text as rows, with the results of the rules. Fails with the faults of
+/// `directions_in`, `tables_by` and `text_in_file`, with `LongLine` at the first line that is too long for a row, and
+/// if an allocation or a write fails.
 pub fn print_text_rows<'a, F: Files, W: Write>(
     alloc: Global,
     asked: AskedLines<'a>,

@@ -4,7 +4,7 @@ use Rattle.bidtests.proofs.Filling.{Fills}
 use Rattle.requests.specs.ItemWords.{first_unread}
 use Rattle.requests.proofs.items.read_all.Given as goal
 
--- these were read, and of the word this is left: the first item that says nothing is in it
+-- these values were read, and this is the rest of the input: the first item that can't be read is in it
 pub record Reads {A : Type 0} (reading : List ℕ → Option A) (word left : List ℕ) (values : List A) : Type 0 where
   pub fills : Fills reading word left values
   pub faultless : first_unread reading (items_of left) ≡ first_unread reading (items_of word)

@@ -17,7 +17,7 @@ use Rattle.requests.specs.declared.request.Request.TheVariants.{Judge}
 use Rattle.requests.specs.declared.request.TableSource.{TableSource}
 use Rattle.requests.proofs.judging.judge_file.Goals as goal
 
--- a file of such rows was judged
+-- a file of these rows was judged
 judged : (files : FileFacts) (kind : FileKind) (source : Option TableSource) (file : Bor (List ℕ)) (before after : Option (List ℕ)) (rows : Kind)
     (status : ℕ) → IsKindOfFile files kind source rows → HasJudged files (IsVerdictOn rows) file.now before after status
     → IsDone files before after (Judge kind source file) (Judged status)

@@ -14,7 +14,7 @@ handed_on : (r : Result Outcome Fault) (e : Fault) → IsErrAnd r (λ given. giv
 handed_on (Ok outcome) e same is = absurd same
 handed_on (Err given) e same is = same ∙ is
 
--- all was read and printed before what was printed is handed on
+-- everything was read and printed before the flush
 pub returns-in_err-flush-clause-fault : goal.returns-in_err-flush-clause-fault
 returns-in_err-flush-clause-fault g c =
     steps_fail _ _ _ _ _ (writing_fails _ _ _ _ _ Write (request_done _ _ _ _ _ c.in_ok-outcome.ensures.done)
