@@ -1,4 +1,4 @@
--- What arguments and subcommands add to a command.
+-- The result of adding arguments and subcommands to a command.
 use Rattle.std.proofs.Common.{◌≡◌, ◌∙◌, false, true, ap, ap₂, is_some, not}
 use Rattle.clap.specs.Built.{AddsArg, AddsSubcommand}
 use Rattle.clap.specs.Simple.{App, app_of, with_rule, with_subcommand}

@@ -1,4 +1,4 @@
--- The command line, as it is read: the command with its subcommands and arguments, and the request that the values of a
+-- How the command line is read: the command with its subcommands and arguments, and the request that the values of a
 -- subcommand make.
 use Rattle.std.specs.Prelude.{◌≡◌, ◌≢◌, ◌⊎◌, ℕ, List, [], ◌∷◌, ◌++◌, Option, None, Some, Result, Ok, Err, IfOk, codes, fold, map, option_map, unwrap_or, is_some, pos, true, false, if◌then◌else◌}
 use Rattle.std.specs.Borrow.{Bor}
@@ -48,14 +48,14 @@ use Rattle.requests.specs.declared.request.RowsForm.TheVariants.{Exhaustive, Ran
 use Rattle.requests.specs.declared.request.Request.{Request}
 use Rattle.requests.specs.declared.request.Request.TheVariants as requested
 
--- words that a value may be
+-- the words that a value may be
 abbrev pub Choice : Type 0
 Choice = Bor (List (Bor Text))
 
 abbrev pub words_of : Choice → List Text
 words_of choice = map (λ word. word.now) choice.now
 
--- the words that name directions, kinds and forms
+-- the names of directions, kinds and forms
 abbrev pub direction_words : List Text
 direction_words = codes "auto" ∷ codes "ltr" ∷ codes "rtl" ∷ codes "auto-rtl" ∷ []
 
@@ -70,7 +70,7 @@ form_words = codes "exhaustive" ∷ codes "random" ∷ codes "nest" ∷ codes "b
 abbrev pub option_rule : Text → Rule
 option_rule name = record (new_rule name) { long = Some name; value_names = 1 }
 
--- one whose value is among these words
+-- an option whose value is one of these words
 abbrev pub choice_rule : Text → Choice → Rule
 choice_rule name words = record (option_rule name) { parser = Some (parser.Names words) }
 
@@ -82,7 +82,7 @@ file_rule = record (new_rule (codes "file")) { value_names = 1; required = true 
 abbrev pub tables_rule : Rule
 tables_rule = record (option_rule (codes "tables")) { parser = Some parser.NonEmptyString }
 
--- --direction, which is `auto` where it is not given
+-- --direction, with the default `auto`
 abbrev pub direction_rule : Choice → Rule
 direction_rule directions = record (choice_rule (codes "direction") directions) { defaults = codes "auto" ∷ [] }
 
@@ -94,11 +94,11 @@ row_rule = record (option_rule (codes "row")) { parser = Some (parser.Unsigned 1
 abbrev pub columns_rule : Rule
 columns_rule = record (option_rule (codes "columns")) { parser = Some (parser.Signed (pos 1) (pos 65535)) }
 
--- --kind, which is needed
+-- --kind, which is required
 abbrev pub kind_rule : Choice → Rule
 kind_rule kinds = record (choice_rule (codes "kind") kinds) { required = true }
 
--- --directions, which are `auto`, `ltr` and `rtl` where they are not given
+-- --directions, with the default `auto ltr rtl`
 abbrev pub directions_rule : Rule
 directions_rule = record (option_rule (codes "directions")) { defaults = codes "auto ltr rtl" ∷ [] }
 
@@ -144,7 +144,7 @@ rows_app forms kinds = app_with (codes "rows") (choice_rule (codes "form") forms
     ∷ built_in_rule ∷ option_rule (codes "alphabet") ∷ option_rule (codes "length") ∷ directions_rule ∷ number_rule (codes "seed")
     ∷ number_rule (codes "count") ∷ option_rule (codes "of") ∷ [])
 
--- the command without its subcommands: one is needed, but for help and the version
+-- the command without its subcommands: one is required, except for help and the version
 abbrev pub bidi_top : App
 bidi_top = on_top (λ s. record s { has_version = true; subcommand_required = true }) (new_app (codes "bidi"))
 
@@ -154,7 +154,7 @@ pub record Choices : Type 0 where
   pub kinds : Choice
   pub forms : Choice
 
--- the command, whose six subcommands have these choices
+-- the command; its six subcommands have these choices
 abbrev pub bidi_app : Choices → App
 bidi_app c = fold with_subcommand bidi_top ((levels_app c.directions).top ∷ (reorder_app c.directions).top ∷ (explain_app c.kinds c.directions).top
     ∷ (judge_app c.kinds).top ∷ (report_app c.kinds).top ∷ (rows_app c.forms c.kinds).top ∷ [])
@@ -167,48 +167,48 @@ pub record IsBidi (app : App) : Type 0 where
   pub forms : words_of choices.forms ≡ form_words
   pub is : app ≡ bidi_app choices
 
--- the word for a kind of file
+-- the name of a kind of file
 abbrev pub kind_word : FileKind → Text
 kind_word Classes = codes "classes"
 kind_word Characters = codes "characters"
 
--- the direction that a word names: left to right, right to left, auto with right to left, and else auto
+-- the direction with this name: left to right, right to left, auto with right to left, and otherwise auto
 abbrev pub direction_named : Option Text → Direction
 direction_named None = Auto
 direction_named (Some word) =
     if bytes_eq word (direction_word Ltr) then Ltr
     else (if bytes_eq word (direction_word Rtl) then Rtl else (if bytes_eq word (direction_word AutoRtl) then AutoRtl else Auto))
 
--- the kind of file that a word names
+-- the kind of file with this name
 abbrev pub kind_named : Option Text → Option FileKind
 kind_named None = None
 kind_named (Some word) =
     if bytes_eq word (kind_word Classes) then Some Classes else (if bytes_eq word (kind_word Characters) then Some Characters else None)
 
--- a number of columns as its text is read
+-- the number of columns from its text
 abbrev pub ReadsColumns : Text → Result NonZeroU16 ParseIntError → Type 0
 ReadsColumns text r = IfOk r (λ n. n.value ≡ digits_value 10 (without_leading_plus text)) × ParsesNonZeroUnsigned 16 text r
 
--- the columns by the text of their number, if it is given
+-- the columns from the text of their number if it is given
 abbrev pub ColumnsAre : Option Text → Option NonZeroU16 → Type 0
 ColumnsAre None columns = columns ≡ None
 ColumnsAre (Some text) columns = ReadsOne ReadsColumns text columns
 
--- a line as its text is read
+-- the line from its text
 abbrev pub ReadsLine : Text → Result NonZeroU64 ParseIntError → Type 0
 ReadsLine text r = IfOk r (λ n. n.value ≡ digits_value 10 (without_leading_plus text)) × ParsesNonZeroUnsigned 64 text r
 
--- a line by its text, if that is given, and else the first
+-- the line from its text if it is given, and otherwise the first
 abbrev pub LineIs : Option Text → NonZeroU64 → Type 0
 LineIs None line = line.value ≡ 1
 LineIs (Some text) line =
     (read : Option NonZeroU64) × ReadsOne ReadsLine text read × (line.value ≡ unwrap_or (option_map (λ n. n.value) read) 1)
 
--- a number as its text is read
+-- the number from its text
 abbrev pub ReadsNumber : Text → Result ℕ ParseIntError → Type 0
 ReadsNumber text r = ParsesUnsigned 64 10 text r
 
--- a number by its text, if that is given, and else this one
+-- the number from its text if it is given, and otherwise this one
 abbrev pub NumberIs : ℕ → Option Text → ℕ → Type 0
 NumberIs default None n = n ≡ default
 NumberIs default (Some text) n = (read : Option ℕ) × ReadsOne ReadsNumber text read × (n ≡ unwrap_or read default)
@@ -217,38 +217,37 @@ NumberIs default (Some text) n = (read : Option ℕ) × ReadsOne ReadsNumber tex
 abbrev pub detail_in : List Row → Detail
 detail_in rows = if is_given (first_of (codes "verbose") rows) then Verbose else Brief
 
--- what of a claim a report compares: the order alone with --order, what is shown with --shown
+-- which expected results a report compares: only the order with --order, only what is shown with --shown
 abbrev pub leniency_in : List Row → Leniency
 leniency_in rows = record {
   parts = if is_given (first_of (codes "order") rows) then parts.OrderAlone else parts.All;
   positions = if is_given (first_of (codes "shown") rows) then positions.Shown else positions.All;
 }
 
--- the folder that tables come from, if they come from one
+-- the folder of the tables, if they are those of a folder
 abbrev pub folder_of : TableSource → Option Text
 folder_of (Folder folder) = Some folder.now
 folder_of BuiltIn = None
 
--- the tables that the values name for a file of rows: with --tables those of a folder, with --built-in those that are
--- built in; the two exclude each other
+-- the tables of a file of rows: those of a folder with --tables, the built-in ones with --built-in; both can't be given
 abbrev pub NamesTables : List Row → Option TableSource → Type 0
 NamesTables rows None = (first_of (codes "tables") rows ≡ None) × (is_given (first_of (codes "built-in") rows) ≡ false)
 NamesTables rows (Some (Folder folder)) =
     (first_of (codes "tables") rows ≡ Some folder.now) × (is_given (first_of (codes "built-in") rows) ≡ false)
 NamesTables rows (Some BuiltIn) = (first_of (codes "tables") rows ≡ None) × (is_given (first_of (codes "built-in") rows) ≡ true)
 
--- the tables that the values name for texts, which are those that are built in where none are named
+-- the tables of texts; the default is the built-in ones
 abbrev pub TakesTables : List Row → TableSource → Type 0
 TakesTables rows source = (first_of (codes "tables") rows ≡ folder_of source) × (has_two_tables rows ≡ false)
 
--- the form of rows that the values say: all texts, or with another word for the form 1,000 that are drawn, or as many as
--- are asked for, by the seed 0 or the one that is given
+-- the form of rows: all texts or, with another name of a form, 1,000 drawn texts, or as many as are requested, with the
+-- seed 0 or the given one
 abbrev pub FormIs : List Row → RowsForm → Type 0
 FormIs rows Exhaustive = first_of (codes "form") rows ≡ Some (codes "exhaustive")
 FormIs rows (Random seed count) = (first_of (codes "form") rows ≢ Some (codes "exhaustive"))
     × NumberIs 0 (one_of (codes "seed") rows) seed × NumberIs 1000 (one_of (codes "count") rows) count
 
--- the word for a form of hard texts
+-- the name of a form of hard texts
 abbrev pub form_word : Form → Text
 form_word Nest = codes "nest"
 form_word Brackets = codes "brackets"
@@ -257,16 +256,16 @@ form_word Numbers = codes "numbers"
 form_word Isolates = codes "isolates"
 form_word Separators = codes "separators"
 
--- the letters of rows that the values say: an alphabet with a form that takes one, and else those of the form alone
+-- the letters of rows: an alphabet for a form that takes one, and otherwise those of the form
 abbrev pub LettersAre : List Row → RowLetters → Type 0
 LettersAre rows (Alphabet word) = (is_over_alphabet (first_of (codes "form") rows) ≡ true) × (first_of (codes "alphabet") rows ≡ Some word.now)
 LettersAre rows (OfForm form) = (first_of (codes "form") rows ≡ Some (form_word form)) × (first_of (codes "alphabet") rows ≡ None)
 
--- the kind of the file of rows: the one that the values name, or where they name none this one
+-- the kind of the file of rows: the given one, or this default
 abbrev pub rows_kind : FileKind → List Row → FileKind
 rows_kind default rows = unwrap_or (kind_named (first_of (codes "kind") rows)) default
 
--- the rows that the values ask for, of classes where no kind is named
+-- the requested rows; the default kind is classes
 pub record AsksForRows (rows : List Row) (asked : AskedRows) : Type 0 where
   pub of : first_of (codes "of") rows ≡ None
   pub kind : asked.kind ≡ rows_kind Classes rows
@@ -276,8 +275,8 @@ pub record AsksForRows (rows : List Row) (asked : AskedRows) : Type 0 where
   pub lengths : first_of (codes "length") rows ≡ Some asked.lengths.now
   pub directions : first_of (codes "directions") rows ≡ Some asked.directions.now
 
--- the text whose lines the values ask for as rows, of characters where no kind is named, and nothing that says texts of a
--- form
+-- the text whose lines are requested as rows, with no argument that determines texts of a form; the default kind is
+-- characters
 pub record AsksForLines (rows : List Row) (asked : AskedLines) : Type 0 where
   pub of : first_of (codes "of") rows ≡ Some asked.file.now
   pub alone : has_form_words rows ≡ false
@@ -285,7 +284,7 @@ pub record AsksForLines (rows : List Row) (asked : AskedLines) : Type 0 where
   pub tables : TakesTables rows asked.tables
   pub directions : first_of (codes "directions") rows ≡ Some asked.directions.now
 
--- the row that the values ask for, and nothing that says another text or its direction
+-- the row to be explained, with no argument for another text or its direction
 pub record AsksToExplainRow (rows : List Row) (sought : SoughtRow) : Type 0 where
   pub given : is_some (first_of (codes "row") rows) ≡ true
   pub alone : has_text_words rows ≡ false
@@ -294,7 +293,7 @@ pub record AsksToExplainRow (rows : List Row) (sought : SoughtRow) : Type 0 wher
   pub line : LineIs (one_of (codes "row") rows) sought.line
   pub file : first_of (codes "file") rows ≡ Some sought.file.now
 
--- the subcommand of this name prints this of a text, by these values
+-- the subcommand of this name prints this of a text, with these values
 abbrev pub AsksToPrint : Text → List Row → Print → Type 0
 AsksToPrint name rows Levels = name ≡ codes "levels"
 AsksToPrint name rows (Reorder columns) = (name ≡ codes "reorder") × ColumnsAre (one_of (codes "columns") rows) columns
@@ -323,51 +322,51 @@ AsksFor name rows (requested.Report kind tables file options) = (name ≡ codes 
 AsksFor name rows (requested.Rows asked) = (name ≡ codes "rows") × AsksForRows rows asked
 AsksFor name rows (requested.RowsOf asked) = (name ≡ codes "rows") × AsksForLines rows asked
 
--- the subcommand that was met makes this request
+-- the given subcommand makes this request
 abbrev pub IsAskedBy : Option (Text × List Row) → Request → Type 0
 IsAskedBy None request = ⊥
 IsAskedBy (Some met) request = AsksFor met.0 met.1 request
 
--- the detail in which a fault is reported, by the subcommand that was met
+-- the detail in which a fault is reported, for the given subcommand
 abbrev pub detail_by : Option (Text × List Row) → Detail
 detail_by None = Brief
 detail_by (Some met) = detail_in met.1
 
--- the subcommand that was met makes this request, whose fault is reported in this detail
+-- the given subcommand makes this request, and its fault is reported in this detail
 abbrev pub IsInvokedBy : Option (Text × List Row) → Invocation → Type 0
 IsInvokedBy met invocation = IsAskedBy met invocation.request × (invocation.detail ≡ detail_by met)
 
--- the subcommand that was met makes no request, for this reason
+-- the given subcommand makes no request, for this reason
 abbrev pub MakesNone : Option (Text × List Row) → NoRequest → Type 0
 MakesNone met why = (why ≡ refusal_without_request met) × ((request : Request) → ¬ (IsAskedBy met request))
 
--- the words pass, and this subcommand is met, with these values
+-- `clap` accepts the arguments, and they give this subcommand, with these values
 pub record HasMet (words : List Text) (met : Option (Text × List Row)) : Type 0 where
   pub app : App
   pub is : IsBidi app
   pub passes : fault_of app words ≡ []
   pub same : met ≡ subcommand_of app words
 
--- the words make this request, in this detail
+-- the arguments make this request, in this detail
 abbrev pub IsRead : List Text → Invocation → Type 0
 IsRead words invocation = (met : Option (Text × List Row)) × HasMet words met × IsInvokedBy met invocation
 
--- so says an error of `clap`: memory was refused, or the words are refused with this kind of error, or ask for help or
--- the version
+-- the error of `clap`: an allocation failed, or the arguments are rejected with this kind of error, or they ask for
+-- help or the version
 abbrev pub IsRefusedByClap : List Text → Error → Type 0
 IsRefusedByClap words error = (kind_of error ≡ OutOfMemory)
     ⊎ ((app : App) × IsBidi app × IsAmong (kind_of error) (fault_of app words))
 
--- the words pass, and make no request, for this reason
+-- `clap` accepts the arguments, but they make no request, for this reason
 abbrev pub WordsMakeNone : List Text → NoRequest → Type 0
 WordsMakeNone words why = (met : Option (Text × List Row)) × HasMet words met × MakesNone met why
 
--- why the words are no request
+-- why the arguments make no request
 abbrev pub IsUnread : List Text → WordsFault → Type 0
 IsUnread words (fault.ByClap error) = IsRefusedByClap words error
 IsUnread words (fault.NoRequest why) = WordsMakeNone words why
 
--- what the words are read as: a request with its detail, or why they are none
+-- the result of reading the arguments: a request with its detail, or why they make none
 abbrev pub IsReadAs : List Text → Result Invocation WordsFault → Type 0
 IsReadAs words (Ok invocation) = IsRead words invocation
 IsReadAs words (Err fault) = IsUnread words fault

@@ -1,4 +1,4 @@
--- What a run comes to, by how its words were read.
+-- The result of a run, from the result of reading its arguments.
 use Rattle.std.specs.Prelude.{◌≡◌, ◌≢◌, ◌⊎◌, ℕ, List, [], ◌∷◌, Option, Result, Ok, Err, codes, true}
 use Rattle.std.specs.List.{concat}
 use Rattle.std.specs.Io.KnownBytes.{Appends}
@@ -21,25 +21,25 @@ use Rattle.command.specs.declared.refusal.NoRequest.{NoRequest}
 use Rattle.command.specs.declared.refusal.WordsFault.{WordsFault}
 use Rattle.command.specs.declared.refusal.WordsFault.TheVariants as fault
 
--- the words ask for help or the version
+-- the arguments ask for help or the version
 abbrev pub AsksForHelp : Error → Type 0
 AsksForHelp error = (kind_of error ≡ kind.DisplayHelp) ⊎ (kind_of error ≡ kind.DisplayVersion)
 
--- the words are read, and refused
+-- the arguments are rejected
 abbrev pub RefusesWords : Error → Type 0
 RefusesWords error = (kind_of error ≢ kind.OutOfMemory) × (kind_of error ≢ kind.DisplayHelp) × (kind_of error ≢ kind.DisplayVersion)
 
--- the text of the version: the product's name, and what stands behind it
+-- the version text: the product's name, and the version after it
 abbrev pub version_text : List ℕ
 version_text = concat (codes "bidi " ∷ BIDI_VERSION.now ∷ codes "\n" ∷ [])
 
--- what was asked for is printed: known bytes grew by the text of the version; of help it is not said by what
+-- what was requested is printed: the known output grew by the version text; the text of help is not stated
 abbrev pub IsPrinted : Option (List ℕ) → Option (List ℕ) → ErrorKind → Type 0
 IsPrinted before after kind.DisplayVersion = Appends before after version_text
 IsPrinted before after _ = Unit {0}
 
--- words that `clap` answers with this error end so: help or the version was asked for, and is printed, or a write of it
--- failed; or memory was refused; or the words are refused, and nothing is printed
+-- the end of a run whose arguments give this error of `clap`: help or the version is requested and printed, or its
+-- write failed; or an allocation failed; or the arguments are rejected, and nothing is printed
 abbrev pub EndsWithout : Option (List ℕ) → Option (List ℕ) → Option (List ℕ) → Option (List ℕ) → Error → Ended → Type 0
 EndsWithout before after err_before err_after error ended =
     (AsksForHelp error × IsPrinted before after (kind_of error) × EndsWell 0 err_before err_after ended)
@@ -47,37 +47,37 @@ EndsWithout before after err_before err_after error ended =
     ⊎ (((kind_of error ≡ kind.OutOfMemory) × (after ≡ before) × EndsBy Brief OutOfMemory err_before err_after ended)
     ⊎ (RefusesWords error × (after ≡ before) × (ended.status ≡ 2))))
 
--- words that pass and make no request, for this reason, end so: nothing is printed, and where that is said, known bytes
--- grew by the text that says it
+-- the end of a run whose arguments are accepted but make no request, for this reason: nothing is printed, and if the
+-- reason is reported, the known contents of standard error grew by its text
 pub record EndsUnasked (why : NoRequest) (before after err_before err_after : Option (List ℕ)) (ended : Ended) : Type 0 where
   pub status_is : ended.status ≡ 2
   pub unprinted : after ≡ before
   pub says : ended.is_said ≡ true → Appends err_before err_after (no_request_text why)
 
--- words that are no request, for this reason, end so
+-- the end of a run whose arguments make no request, for this reason
 abbrev pub EndsUnread : Option (List ℕ) → Option (List ℕ) → Option (List ℕ) → Option (List ℕ) → WordsFault → Ended → Type 0
 EndsUnread before after err_before err_after (fault.ByClap error) ended = EndsWithout before after err_before err_after error ended
 EndsUnread before after err_before err_after (fault.NoRequest why) ended = EndsUnasked why before after err_before err_after ended
 
--- words that were read so came to what that asks for, and the run ended so: of the first two what is printed tells, of
--- the next two what is said
+-- the end of a run with this result of reading its arguments: before and after are the output, err_before and err_after
+-- standard error
 abbrev pub EndsAsRead : FileFacts → Option (List ℕ) → Option (List ℕ) → Option (List ℕ) → Option (List ℕ) → Result Invocation WordsFault → Ended → Type 0
 EndsAsRead files before after err_before err_after (Ok invocation) ended =
     HasEnded files before after err_before err_after invocation.request invocation.detail ended
 EndsAsRead files before after err_before err_after (Err fault) ended = EndsUnread before after err_before err_after fault ended
 
--- the words were read, and the run came to what that asks for
+-- the arguments were read, and the run ended with what they ask for
 pub record HasRun (files : FileFacts) (before after err_before err_after : Option (List ℕ)) (words : List (List ℕ)) (ended : Ended) : Type 0 where
   pub read : Result Invocation WordsFault
   pub is : IsReadAs words read
   pub ends : EndsAsRead files before after err_before err_after read ended
 
--- what the words were read as is a request, which came to a no, or to a report that is not right
+-- the arguments were read as a request, and its result is a no, or a report on a file that is not right
 abbrev pub RequestSaidNo : FileFacts → Option (List ℕ) → Option (List ℕ) → Result Invocation WordsFault → Type 0
 RequestSaidNo files before after read =
     (invocation : Invocation) × (read ≡ Ok invocation) × IsDone files before after invocation.request (Judged 1)
 
--- the words are read as a request, which came to a no, or to a report that is not right
+-- the arguments are read as a request, and its result is a no, or a report on a file that is not right
 abbrev pub HasSaidNo : FileFacts → Option (List ℕ) → Option (List ℕ) → List (List ℕ) → Type 0
 HasSaidNo files before after words =
     (invocation : Invocation) × IsRead words invocation × IsDone files before after invocation.request (Judged 1)

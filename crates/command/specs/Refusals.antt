@@ -1,4 +1,4 @@
--- Why words that `clap` lets pass make no request, and what a user is told then.
+-- Why arguments that `clap` accepts make no request, and what is printed for the user then.
 use Rattle.std.specs.Prelude.{◌&&◌, ◌||◌, Bool, false, ℕ, List, [], ◌∷◌, Option, None, Some, is_some, not, codes, if◌then◌else◌}
 use Rattle.std.specs.List.{concat}
 use Rattle.std.specs.Str.{bytes_eq}
@@ -13,81 +13,82 @@ abbrev pub is_given : Option Text → Bool
 is_given None = false
 is_given (Some word) = bytes_eq word (codes "true")
 
--- tables are named: those of a folder, or those that are built in
+-- tables are named: those of a folder, or the built-in ones
 abbrev pub has_table_words : List Row → Bool
 has_table_words rows = is_some (first_of (codes "tables") rows) || is_given (first_of (codes "built-in") rows)
 
--- both are named, which exclude each other
+-- both are named, which is not allowed
 abbrev pub has_two_tables : List Row → Bool
 has_two_tables rows = is_some (first_of (codes "tables") rows) && is_given (first_of (codes "built-in") rows)
 
--- classes are given, and a text or tables beside them
+-- classes are given, and also a text or tables
 abbrev pub has_classes_and_text : List Row → Bool
 has_classes_and_text rows =
     is_some (first_of (codes "classes") rows) && (has_table_words rows || is_some (first_of (codes "file") rows))
 
--- code points are given, and classes or a text beside them
+-- code points are given, and also classes or a text
 abbrev pub has_codes_and_text : List Row → Bool
 has_codes_and_text rows =
     is_some (first_of (codes "codes") rows) && (is_some (first_of (codes "classes") rows) || is_some (first_of (codes "file") rows))
 
--- a row is given, or the kind of a file, which only a row has
+-- a row is given, or the kind of a file; only a row has a kind
 abbrev pub has_row_words : List Row → Bool
 has_row_words rows = is_some (first_of (codes "row") rows) || is_some (first_of (codes "kind") rows)
 
--- classes, code points or a direction are given, none of which a row takes: it names its directions
+-- classes, code points or a direction are given; none of them can be used with a row, which has its own directions
 abbrev pub has_text_words : List Row → Bool
 has_text_words rows =
     is_some (first_of (codes "classes") rows) || (is_some (first_of (codes "codes") rows) || is_some (first_of (codes "direction") rows))
 
--- of `explain` with a row: it excludes these, and its kind and a file are required
+-- for `explain` with a row: classes, code points and a direction are not allowed, and its kind and a file are required
 abbrev pub row_refusal : List Row → NoRequest
 row_refusal rows =
     if has_text_words rows then RowAndText
     else (if is_some (first_of (codes "kind") rows) then RowWithoutFile else RowWithoutKind)
 
--- without one: a text, code points and classes exclude each other, and one of them is required
+-- without a row: exactly one of a text, code points and classes is required
 abbrev pub text_refusal : List Row → NoRequest
 text_refusal rows =
     if has_classes_and_text rows then ClassesAndText else (if has_codes_and_text rows then CodesAndText else NoText)
 
--- of `explain`
+-- for `explain`
 abbrev pub explain_refusal : List Row → NoRequest
 explain_refusal rows =
     if has_two_tables rows then TwoTables Explain
     else (if is_some (first_of (codes "row") rows) then row_refusal rows
     else (if is_some (first_of (codes "kind") rows) then KindWithoutRow else text_refusal rows))
 
--- the texts of this form are made of an alphabet: those of the other forms have letters of their own
+-- the texts of this form are made of an alphabet; other forms have their own letters
 abbrev pub takes_alphabet : Text → Bool
 takes_alphabet form = bytes_eq form (codes "exhaustive") || bytes_eq form (codes "random")
 
--- a form that takes an alphabet is named
+-- the form takes an alphabet
 abbrev pub is_over_alphabet : Option Text → Bool
 is_over_alphabet None = false
 is_over_alphabet (Some form) = takes_alphabet form
 
--- something is given that says which texts of a form rows have
+-- an argument determines the texts of a form
 abbrev pub has_form_words : List Row → Bool
 has_form_words rows =
     is_some (first_of (codes "form") rows) || (is_some (first_of (codes "alphabet") rows) || (is_some (first_of (codes "length") rows)
     || (is_some (first_of (codes "seed") rows) || is_some (first_of (codes "count") rows))))
 
--- of `rows` with a form: lengths are required, and an alphabet is where the form takes one, and excluded where it does not
+-- for `rows` with a form: lengths are required; an alphabet is required if the form takes one, and not allowed
+-- otherwise
 abbrev pub form_refusal : List Row → NoRequest
 form_refusal rows =
     if not (is_some (first_of (codes "length") rows)) then NoLength
     else (if is_over_alphabet (first_of (codes "form") rows) then NoAlphabet else AlphabetAndForm)
 
--- of `rows`: a text and what says texts of a form exclude each other, and a text or a form is required
+-- for `rows`: a text or a form is required, and a text excludes arguments that determine texts of a form
 abbrev pub rows_refusal : List Row → NoRequest
 rows_refusal rows =
     if has_two_tables rows then TwoTables Rows
     else (if is_some (first_of (codes "of") rows) then TextAndForm
     else (if is_some (first_of (codes "form") rows) then form_refusal rows else NoForm))
 
--- where the subcommand of this name makes no request of these values; two sources of tables are all that `judge` and
--- `report` refuse, since `clap` requires their kind and their file
+-- for the subcommand of this name; `judge` and `report` make no request only if two sources of tables are named, since
+-- `clap` requires their kind and their file
 abbrev pub refusal_in_subcommand : Text → List Row → NoRequest
 refusal_in_subcommand name rows =
     if bytes_eq name (codes "explain") then explain_refusal rows
@@ -95,7 +96,7 @@ refusal_in_subcommand name rows =
     else (if bytes_eq name (codes "report") then TwoTables Report
     else (if bytes_eq name (codes "rows") then rows_refusal rows else NoSubcommand)))
 
--- where the subcommand that was met makes none
+-- for the given subcommand
 abbrev pub refusal_without_request : Option (Text × List Row) → NoRequest
 refusal_without_request None = NoSubcommand
 refusal_without_request (Some met) = refusal_in_subcommand met.0 met.1
@@ -117,7 +118,7 @@ words_without_request NoAlphabet = codes "the argument '--alphabet <LETTERS>' is
 words_without_request AlphabetAndForm = codes "the argument '--alphabet <LETTERS>' can be used only with '--form exhaustive' and '--form random'"
 words_without_request NoSubcommand = codes "a subcommand is needed"
 
--- how to call what was called
+-- the usage of the subcommand
 abbrev pub usage_without_request : NoRequest → List ℕ
 usage_without_request (TwoTables Explain) = EXPLAIN_USAGE.now
 usage_without_request (TwoTables Judge) = JUDGE_USAGE.now
@@ -137,7 +138,7 @@ usage_without_request NoAlphabet = ROWS_USAGE.now
 usage_without_request AlphabetAndForm = ROWS_USAGE.now
 usage_without_request NoSubcommand = BIDI_USAGE.now
 
--- what a user is told
+-- what is printed for the user
 abbrev pub no_request_text : NoRequest → List ℕ
 no_request_text why = concat (codes "error: " ∷ words_without_request why ∷ codes "\n\nUsage: " ∷ usage_without_request why
     ∷ codes "\n\nFor more information, try '--help'.\n" ∷ [])

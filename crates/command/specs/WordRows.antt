@@ -1,4 +1,4 @@
--- Worked command lines: the subcommand that the words name, and the values that they give it.
+-- Worked command lines: the subcommand that the arguments name, and the values that they give it.
 use Rattle.std.specs.Prelude.{◌≡◌, Bool, List, [], ◌∷◌, Option, None, Some, codes, false, option_map, refl, true}
 use Rattle.clap.proofs.OnLiterals.{clap_on_literals}
 use Rattle.clap.specs.Faults.{fault_of}
@@ -20,7 +20,7 @@ use Rattle.requests.specs.declared.fault.Detail.TheVariants.{Brief, Verbose}
 use Rattle.requests.specs.declared.request.FileKind.{FileKind}
 use Rattle.requests.specs.declared.request.FileKind.TheVariants.{Characters}
 
--- what is met where these words stand behind the program's name, what is wrong with them, and why they make no request
+-- for these arguments after the program's name: the subcommand, the errors, and why they make no request
 abbrev meets : Choices → List Text → Option (Text × List Row)
 meets c words = subcommand_of (bidi_app c) (codes "bidi" ∷ words)
 
@@ -30,8 +30,8 @@ faults c words = fault_of (bidi_app c) (codes "bidi" ∷ words)
 abbrev refusal : Choices → List Text → NoRequest
 refusal c words = refusal_without_request (meets c words)
 
--- a subcommand, with its folder, whether it takes the tables that are built in, and its classes, code points, direction,
--- text of columns, kind and file
+-- a subcommand with its folder, whether it takes the built-in tables, and its classes, code points, direction, text of
+-- columns, kind and file
 pub record Met : Type 0 where
   pub name : Text
   pub tables : Option Text
@@ -56,11 +56,11 @@ met p = record {
   file = first_of (codes "file") p.1;
 }
 
--- a subcommand that is given nothing
+-- a subcommand without arguments
 abbrev bare : Text → Met
 bare name = record { name = name; tables = None; built_in = false; classes = None; codes = None; direction = Auto; columns = None; kind = None; file = None }
 
--- the direction is auto where none is given
+-- the default direction is auto
 pub levels_words : (c : Choices) → option_map met (meets c (codes "levels" ∷ codes "--tables" ∷ codes "t" ∷ codes "FILE" ∷ []))
     ≡ Some (record (bare (codes "levels")) { tables = Some (codes "t"); file = Some (codes "FILE") })
 unfolding clap_on_literals
@@ -83,12 +83,12 @@ pub input_words : (c : Choices) → option_map met (meets c (codes "levels" ∷ 
 unfolding clap_on_literals
 input_words c = refl
 
--- the version is asked for
+-- the version is requested
 pub version_words : (c : Choices) → faults c (codes "--version" ∷ []) ≡ DisplayVersion ∷ []
 unfolding clap_on_literals
 version_words c = refl
 
--- options in any order, with values behind `=` too
+-- options in any order, and values after `=`
 pub reorder_words : (c : Choices) → option_map met (meets c
     (codes "reorder" ∷ codes "--columns=2" ∷ codes "FILE" ∷ codes "--direction" ∷ codes "rtl" ∷ codes "--tables=t" ∷ []))
     ≡ Some (record (bare (codes "reorder")) { tables = Some (codes "t"); direction = Rtl; columns = Some (codes "2"); file = Some (codes "FILE") })
@@ -102,14 +102,14 @@ pub judge_words : (c : Choices) → option_map met (meets c
 unfolding clap_on_literals
 judge_words c = refl
 
--- by the tables that are built in, of standard input
+-- with the built-in tables, for standard input
 pub judge_built_in_words : (c : Choices) → option_map met (meets c
     (codes "judge" ∷ codes "--kind" ∷ codes "characters" ∷ codes "--built-in" ∷ codes "-" ∷ []))
     ≡ Some (record (bare (codes "judge")) { built_in = true; kind = Some Characters; file = Some (codes "-") })
 unfolding clap_on_literals
 judge_built_in_words c = refl
 
--- both: no request, and the reason for that
+-- both: no request, and the reason
 pub judge_two_tables_words : (c : Choices) → refusal c
     (codes "judge" ∷ codes "--kind" ∷ codes "characters" ∷ codes "--tables" ∷ codes "t" ∷ codes "--built-in" ∷ codes "FILE" ∷ []) ≡ TwoTables Judge
 unfolding clap_on_literals
@@ -120,12 +120,12 @@ pub report_two_tables_words : (c : Choices) → refusal c
 unfolding clap_on_literals
 report_two_tables_words c = refl
 
--- it is a flag of the subcommands that take rows
+-- a flag of the subcommands that take rows
 pub levels_built_in_words : (c : Choices) → faults c (codes "levels" ∷ codes "--built-in" ∷ codes "FILE" ∷ []) ≡ UnknownArgument ∷ []
 unfolding clap_on_literals
 levels_built_in_words c = refl
 
--- to report on a file: how many wrong cases are printed stands in a word of its own, or is not said
+-- a report: the number of wrong cases that are printed is given as a separate argument, or not given
 abbrev report_met : Text × List Row → Text × Option Text × Option Text × Option Text
 report_met p = (p.0, first_of (codes "kind") p.1, one_of (codes "most") p.1, first_of (codes "file") p.1)
 
@@ -141,7 +141,7 @@ pub report_default_words : (c : Choices) → option_map report_met (meets c
 unfolding clap_on_literals
 report_default_words c = refl
 
--- what of each claim is compared: all of it where no flag is given, and with two flags the order of what is shown
+-- which expected results are compared: all if no flag is given, and with two flags the order of what is shown
 pub report_strict_words : (c : Choices) → option_map (λ p. leniency_in p.1) (meets c
     (codes "report" ∷ codes "--kind" ∷ codes "classes" ∷ codes "FILE" ∷ [])) ≡ Some strict
 unfolding clap_on_literals
@@ -159,38 +159,38 @@ pub report_flag_value_words : (c : Choices) → faults c
 unfolding clap_on_literals
 report_flag_value_words c = refl
 
--- what is explained of a text by tables of a folder
+-- the explanation of a text with tables of a folder
 pub explain_words : (c : Choices) → option_map met (meets c (codes "explain" ∷ codes "--tables" ∷ codes "t" ∷ codes "FILE" ∷ []))
     ≡ Some (record (bare (codes "explain")) { tables = Some (codes "t"); file = Some (codes "FILE") })
 unfolding clap_on_literals
 explain_words c = refl
 
--- by those that are built in
+-- with the built-in ones
 pub explain_standard_words : (c : Choices) → option_map met (meets c (codes "explain" ∷ codes "FILE" ∷ []))
     ≡ Some (record (bare (codes "explain")) { file = Some (codes "FILE") })
 unfolding clap_on_literals
 explain_standard_words c = refl
 
--- by these where a flag says so
+-- with the built-in ones, given as a flag
 pub explain_built_in_words : (c : Choices) → option_map met (meets c (codes "explain" ∷ codes "--built-in" ∷ codes "FILE" ∷ []))
     ≡ Some (record (bare (codes "explain")) { built_in = true; file = Some (codes "FILE") })
 unfolding clap_on_literals
 explain_built_in_words c = refl
 
--- and of classes, whose blanks stand within one word
+-- of classes; the blanks are in one argument
 pub explain_classes_words : (c : Choices) → option_map met (meets c
     (codes "explain" ∷ codes "--direction" ∷ codes "rtl" ∷ codes "--classes" ∷ codes "R ON L" ∷ []))
     ≡ Some (record (bare (codes "explain")) { classes = Some (codes "R ON L"); direction = Rtl })
 unfolding clap_on_literals
 explain_classes_words c = refl
 
--- of code points, likewise
+-- of code points, in the same way
 pub explain_codes_words : (c : Choices) → option_map met (meets c (codes "explain" ∷ codes "--codes" ∷ codes "05D0 0028" ∷ []))
     ≡ Some (record (bare (codes "explain")) { codes = Some (codes "05D0 0028") })
 unfolding clap_on_literals
 explain_codes_words c = refl
 
--- none of these, and two of them: no request, and the reason for that
+-- none of these, and two of them: no request, and the reason
 pub explain_nothing_words : (c : Choices) → refusal c (codes "explain" ∷ []) ≡ NoText
 unfolding clap_on_literals
 explain_nothing_words c = refl
@@ -230,7 +230,7 @@ pub explain_no_row_words : (c : Choices) → faults c
 unfolding clap_on_literals
 explain_no_row_words c = refl
 
--- a direction beside a row, a row without a kind or a file, and a kind without a row: no request, and the reason for that
+-- a direction with a row, a row without a kind or a file, and a kind without a row: no request, and the reason
 pub explain_row_and_direction_words : (c : Choices) → refusal c
     (codes "explain" ∷ codes "--row" ∷ codes "1" ∷ codes "--direction" ∷ codes "auto" ∷ codes "--kind" ∷ codes "classes" ∷ codes "FILE" ∷ [])
     ≡ RowAndText
@@ -252,7 +252,7 @@ pub explain_kind_without_row_words : (c : Choices) → refusal c (codes "explain
 unfolding clap_on_literals
 explain_kind_without_row_words c = refl
 
--- rows: their form, kind, alphabet, lengths and directions, which are three where none are given
+-- rows: their form, kind, alphabet, lengths and directions; the default is three directions
 abbrev rows_met : Text × List Row → Option Text × Option FileKind × Option Text × Option Text × Option Text
 rows_met p = (
   first_of (codes "form") p.1,
@@ -275,7 +275,7 @@ pub hard_rows_words : (c : Choices) → option_map rows_met (meets c
 unfolding clap_on_literals
 hard_rows_words c = refl
 
--- an alphabet that is missing, and one too many: no request, and the reason for that
+-- an alphabet that is missing, and one too many: no request, and the reason
 pub rows_without_alphabet_words : (c : Choices) → refusal c
     (codes "rows" ∷ codes "--form" ∷ codes "random" ∷ codes "--length" ∷ codes "1" ∷ []) ≡ NoAlphabet
 unfolding clap_on_literals
@@ -286,7 +286,7 @@ pub rows_with_two_letters_words : (c : Choices) → refusal c
 unfolding clap_on_literals
 rows_with_two_letters_words c = refl
 
--- rows of the lines of a text, and the kind that they are of where none is named
+-- rows of the lines of a text, and their default kind
 pub text_rows_words : (c : Choices) → option_map (λ p. first_of (codes "of") p.1) (meets c (codes "rows" ∷ codes "--of" ∷ codes "-" ∷ []))
     ≡ Some (Some (codes "-"))
 unfolding clap_on_literals
@@ -297,7 +297,7 @@ pub text_rows_kind : (c : Choices) → option_map (λ p. rows_kind Characters p.
 unfolding clap_on_literals
 text_rows_kind c = refl
 
--- a text beside a form, neither of them, and a form without lengths: no request, and the reason for that
+-- a text with a form, neither of them, and a form without lengths: no request, and the reason
 pub rows_of_text_and_form_words : (c : Choices) → refusal c (codes "rows" ∷ codes "--of" ∷ codes "t" ∷ codes "--seed" ∷ codes "1" ∷ [])
     ≡ TextAndForm
 unfolding clap_on_literals
@@ -311,13 +311,13 @@ pub rows_without_length_words : (c : Choices) → refusal c (codes "rows" ∷ co
 unfolding clap_on_literals
 rows_without_length_words c = refl
 
--- the tables that are built in, and those of a folder, for the lines of a text
+-- the built-in tables, and those of a folder, for the lines of a text
 pub rows_two_tables_words : (c : Choices) → refusal c
     (codes "rows" ∷ codes "--of" ∷ codes "-" ∷ codes "--tables" ∷ codes "t" ∷ codes "--built-in" ∷ []) ≡ TwoTables Rows
 unfolding clap_on_literals
 rows_two_tables_words c = refl
 
--- the reason of a fault is asked for, by either name of the flag and at any place after the subcommand, or it is not
+-- the reason of a fault is requested, with either name of the flag and at any place after the subcommand, or it is not
 pub verbose_words : (c : Choices) → option_map (λ p. detail_in p.1) (meets c
     (codes "judge" ∷ codes "--kind" ∷ codes "classes" ∷ codes "FILE" ∷ codes "--verbose" ∷ [])) ≡ Some Verbose
 unfolding clap_on_literals
@@ -332,7 +332,7 @@ pub brief_words : (c : Choices) → option_map (λ p. detail_in p.1) (meets c (c
 unfolding clap_on_literals
 brief_words c = refl
 
--- it is a flag of the subcommands, and not of the command alone
+-- a flag of the subcommands, and not of the command itself
 pub verbose_without_subcommand : (c : Choices) → faults c (codes "-v" ∷ codes "levels" ∷ codes "FILE" ∷ []) ≡ UnknownArgument ∷ []
 unfolding clap_on_literals
 verbose_without_subcommand c = refl

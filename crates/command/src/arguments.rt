@@ -10,13 +10,13 @@ use clap::builder::ValueParser;
 use clap::{Arg, ArgAction};
 use std::alloc::Global;
 
-/// The words that name directions.
+/// The names of directions.
 pub const DIRECTIONS: [&str; 4] = ["auto", "ltr", "rtl", "auto-rtl"];
 
-/// The words that name kinds of files.
+/// The names of kinds of files.
 pub const KINDS: [&str; 2] = ["classes", "characters"];
 
-/// The words that name forms of rows.
+/// The names of forms of rows.
 pub const FORMS: [&str; 8] = [
     "exhaustive",
     "random",
@@ -28,7 +28,7 @@ pub const FORMS: [&str; 8] = [
     "separators",
 ];
 
-/// FILE, which is required.
+/// Returns the required argument FILE.
 pub fn file_argument<'a>(alloc: Global) -> Arg<'a>
     ensures { rule_of result ≡ file_rule }
 {
@@ -38,7 +38,7 @@ pub fn file_argument<'a>(alloc: Global) -> Arg<'a>
         .help("The file to read, or `-` for standard input")
 }
 
-/// An option of this name with a value of that name, which may be left out, with this help.
+/// Returns an optional option with this name, name of its value, and help.
 pub fn option_argument<'a>(
     alloc: Global,
     name: &'a str,
@@ -53,7 +53,7 @@ pub fn option_argument<'a>(
         .help(help)
 }
 
-/// An option whose value is one of these words, and which may be left out.
+/// Returns an optional option whose value is one of these words.
 pub fn choice_argument<'a>(
     alloc: Global,
     name: &'a str,
@@ -66,21 +66,21 @@ pub fn choice_argument<'a>(
     option_argument(alloc, name, value_name, help).value_parser(words)
 }
 
-/// `--tables DIR`, which may be left out and is not empty, with this help.
+/// Returns the option `--tables DIR`, which is optional and must not be empty.
 pub fn tables_argument<'a>(alloc: Global, help: &'a str) -> Arg<'a>
     ensures { rule_of result ≡ tables_rule }
 {
     option_argument(alloc, "tables", "DIR", help).value_parser(ValueParser::NonEmptyString)
 }
 
-/// `--built-in`, a flag in the place of `--tables`, with this help.
+/// Returns the flag `--built-in`, an alternative to `--tables`.
 pub fn built_in_argument<'a>(alloc: Global, help: &'a str) -> Arg<'a>
     ensures { rule_of result ≡ built_in_rule }
 {
     flag_argument(alloc, "built-in", help)
 }
 
-/// `--direction`, which is `auto` where it is left out.
+/// Returns the option `--direction`. The default is `auto`.
 pub fn direction_argument<'a>(alloc: Global, words: &'a [&'a str]) -> Arg<'a>
     ensures { rule_of result ≡ direction_rule words.entry }
 {
@@ -89,7 +89,7 @@ pub fn direction_argument<'a>(alloc: Global, words: &'a [&'a str]) -> Arg<'a>
     )
 }
 
-/// `--row LINE`, which may be left out.
+/// Returns the option `--row LINE`, which is optional.
 pub fn row_argument<'a>(alloc: Global) -> Arg<'a>
     ensures { rule_of result ≡ row_rule }
 {
@@ -98,7 +98,7 @@ pub fn row_argument<'a>(alloc: Global) -> Arg<'a>
     ).range(1..))
 }
 
-/// `--columns N`, which may be left out.
+/// Returns the option `--columns N`, which is optional.
 pub fn columns_argument<'a>(alloc: Global) -> Arg<'a>
     ensures { rule_of result ≡ columns_rule }
 {
@@ -107,7 +107,7 @@ pub fn columns_argument<'a>(alloc: Global) -> Arg<'a>
     ).range(1..))
 }
 
-/// `--directions DIRECTIONS`, which is `auto ltr rtl` where it is left out.
+/// Returns the option `--directions DIRECTIONS`. The default is `auto ltr rtl`.
 pub fn directions_argument<'a>(alloc: Global) -> Arg<'a>
     ensures { rule_of result ≡ directions_rule }
 {
@@ -116,14 +116,14 @@ pub fn directions_argument<'a>(alloc: Global) -> Arg<'a>
     )
 }
 
-/// An option of this name with a number of 64 bits, which may be left out, with this help.
+/// Returns an optional option of this name, with a number of 64 bits as its value.
 pub fn number_argument<'a>(alloc: Global, name: &'a str, help: &'a str) -> Arg<'a>
     ensures { rule_of result ≡ number_rule name.now }
 {
     option_argument(alloc, name, "N", help).value_parser(clap::value_parser!(u64))
 }
 
-/// A flag of this name, with this help.
+/// Returns a flag of this name.
 pub fn flag_argument<'a>(alloc: Global, name: &'a str, help: &'a str) -> Arg<'a>
     ensures { rule_of result ≡ flag_rule name.now }
 {
@@ -133,14 +133,14 @@ pub fn flag_argument<'a>(alloc: Global, name: &'a str, help: &'a str) -> Arg<'a>
         .help(help)
 }
 
-/// `--verbose`, also as `-v`.
+/// Returns the flag `--verbose`, which also has the form `-v`.
 pub fn verbose_argument<'a>(alloc: Global) -> Arg<'a>
     ensures { rule_of result ≡ verbose_rule }
 {
     flag_argument(alloc, "verbose", help::VERBOSE_HELP).short('v')
 }
 
-/// `--kind`, which is required.
+/// Returns the option `--kind`, which is required.
 pub fn kind_argument<'a>(alloc: Global, words: &'a [&'a str]) -> Arg<'a>
     ensures { rule_of result ≡ kind_rule words.entry }
 {

@@ -1,4 +1,4 @@
-// What `rows` asks for.
+// The requests of `rows`.
 ghost use Rattle.std.specs.Prelude.{◌≡◌, ◌≢◌, codes, false, IfSome, IfNone, None, Some, option_map};
 ghost use Rattle.clap.specs.Matches.{found_of};
 ghost use Rattle.clap.specs.Walk.{first_of, rows_of};
@@ -16,7 +16,7 @@ use clap::ArgMatches;
 use requests::request::{AskedLines, AskedRows, FileKind, Request, RowLetters, RowsForm};
 use rows::form::Form;
 
-/// Returns which texts the rows have: all, or some that are drawn.
+/// Returns which texts the rows have: all, or some drawn texts.
 fn form_in(matches: &ArgMatches<'_>) -> RowsForm
     ensures { FormIs (rows_of (found_of matches.now)) result }
 {
@@ -29,7 +29,7 @@ fn form_in(matches: &ArgMatches<'_>) -> RowsForm
     }
 }
 
-/// Returns whether the form that is named takes an alphabet.
+/// Returns whether this form takes an alphabet.
 pub fn is_over_alphabet(form: Option<&str>) -> bool
     ensures { result ≡ is_over_alphabet (option_map (λ word. word.now) form.entry) }
 {
@@ -39,7 +39,7 @@ pub fn is_over_alphabet(form: Option<&str>) -> bool
     }
 }
 
-/// Returns the form of hard texts that a word names.
+/// Returns the form of hard texts with this name.
 fn hard_form(word: &str) -> Option<Form>
     ensures some { IfSome result (λ form. word.now ≡ form_word form) }
     ensures none { IfNone result ((form : HardForm) → word.now ≢ form_word form) }
@@ -55,7 +55,7 @@ fn hard_form(word: &str) -> Option<Form>
     }
 }
 
-/// Returns the letters of which the texts of the rows are made.
+/// Returns the letters of the rows' texts.
 fn letters_in<'a>(matches: &ArgMatches<'a>) -> Option<RowLetters<'a>>
     ensures some { IfSome result (LettersAre (rows_of (found_of matches.now))) }
     ensures none { IfNone result ((letters : LettersOf) → ¬ (LettersAre (rows_of (found_of matches.now)) letters)) }
@@ -68,14 +68,14 @@ fn letters_in<'a>(matches: &ArgMatches<'a>) -> Option<RowLetters<'a>>
     }
 }
 
-/// Returns the kind of the file that rows make: the one that is named, or else `default`.
+/// Returns the kind of the file that the rows form, or `default` if none is given.
 fn rows_kind_in(matches: &ArgMatches<'_>, default: FileKind) -> FileKind
     ensures { result ≡ rows_kind default (rows_of (found_of matches.now)) }
 {
     kind_in(matches).unwrap_or(default)
 }
 
-/// Returns the rows of a form that `rows` asks for.
+/// Returns the rows that `rows` is to print, if a form is given.
 fn form_rows_in<'a>(matches: &ArgMatches<'a>) -> Option<AskedRows<'a>>
     requires of { first_of (codes "of") (rows_of (found_of matches.now)) ≡ None }
     requires tables { has_two_tables (rows_of (found_of matches.now)) ≡ false }
@@ -92,7 +92,7 @@ fn form_rows_in<'a>(matches: &ArgMatches<'a>) -> Option<AskedRows<'a>>
     })
 }
 
-/// Returns whether `rows` is given something that says which texts of a form it is to print.
+/// Returns whether `rows` has an argument that determines the texts of a form.
 fn has_form_words(matches: &ArgMatches<'_>) -> bool
     ensures { result ≡ has_form_words (rows_of (found_of matches.now)) }
 {
@@ -103,7 +103,7 @@ fn has_form_words(matches: &ArgMatches<'_>) -> bool
         || has_value(matches, "count")
 }
 
-/// Returns the lines of a text that `rows` asks for.
+/// Returns the text whose lines `rows` is to print.
 fn text_rows_in<'a>(matches: &ArgMatches<'a>, file: &'a str) -> Option<AskedLines<'a>>
     requires of { first_of (codes "of") (rows_of (found_of matches.now)) ≡ Some file.now }
     requires tables { has_two_tables (rows_of (found_of matches.now)) ≡ false }
@@ -121,7 +121,7 @@ fn text_rows_in<'a>(matches: &ArgMatches<'a>, file: &'a str) -> Option<AskedLine
     })
 }
 
-/// Returns what `rows` asks for: the lines of a text, or rows of a form.
+/// Returns the request of `rows`: the lines of a text, or rows of a form.
 pub fn rows_in<'a>(matches: &ArgMatches<'a>) -> Option<Request<'a>>
     ensures some { IfSome result (AsksFor (codes "rows") (rows_of (found_of matches.now))) }
     ensures none { IfNone result ((request : RequestOf)

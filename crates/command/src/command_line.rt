@@ -40,8 +40,8 @@ fn reorder_command<'a>(alloc: Global, directions: &'a [&'a str]) -> Result<Comma
         .arg(verbose_argument(alloc))
 }
 
-/// The subcommand `explain`. By `clap` alone all of its arguments may be left out or stand together: which of them make
-/// a request is told by these.
+/// Returns the subcommand `explain`. `clap` accepts any combination of its arguments. `explain_in` decides which
+/// combinations form a request.
 fn explain_command<'a>(
     alloc: Global,
     kinds: &'a [&'a str],
@@ -104,8 +104,8 @@ fn report_command<'a>(alloc: Global, kinds: &'a [&'a str]) -> Result<Command<'a>
         .arg(verbose_argument(alloc))
 }
 
-/// The subcommand `rows`. By `clap` alone all of its arguments may be left out or stand together: which of them make a
-/// request is told by these.
+/// Returns the subcommand `rows`. `clap` accepts any combination of its arguments. `rows_in` decides which combinations
+/// form a request.
 fn rows_command<'a>(
     alloc: Global,
     forms: &'a [&'a str],
@@ -131,7 +131,7 @@ fn rows_command<'a>(
         .arg(verbose_argument(alloc))
 }
 
-/// The command `bidi` without its subcommands, of which one is needed.
+/// Returns the command `bidi` without its subcommands. One of them is required.
 fn bidi_alone<'a>(alloc: Global) -> Command<'a>
     ensures { app_of result ≡ bidi_top }
 {
@@ -143,7 +143,7 @@ fn bidi_alone<'a>(alloc: Global) -> Command<'a>
         .subcommand_required(true)
 }
 
-/// The command `bidi`, as `clap` reads its words.
+/// Returns the command `bidi` as `clap` reads it.
 pub fn bidi_command<'a>(alloc: Global) -> Result<Command<'a>, AllocError>
     ensures { IfOk result (λ command. IsBidi (app_of command)) }
 {

@@ -1,4 +1,4 @@
-// What `explain` asks for.
+// The requests of `explain`.
 ghost use Rattle.std.specs.Prelude.{◌≡◌, codes, false, IfSome, IfNone};
 ghost use Rattle.clap.specs.Matches.{found_of};
 ghost use Rattle.clap.specs.Walk.{rows_of};
@@ -14,21 +14,22 @@ use crate::values::{
 use clap::ArgMatches;
 use requests::request::{Print, Request, SoughtRow};
 
-/// Returns whether `explain` is given a row, or the kind of a file, which only a row has.
+/// Returns whether `explain` has the argument `--row` or `--kind`. Only a row has a kind.
 fn has_row_words(matches: &ArgMatches<'_>) -> bool
     ensures { result ≡ has_row_words (rows_of (found_of matches.now)) }
 {
     has_value(matches, "row") || has_value(matches, "kind")
 }
 
-/// Returns whether `explain` is given classes, code points or a direction, none of which a row takes.
+/// Returns whether `explain` has the argument `--classes`, `--codes` or `--direction`. None of them can be used with a
+/// row.
 pub fn has_text_words(matches: &ArgMatches<'_>) -> bool
     ensures { result ≡ has_text_words (rows_of (found_of matches.now)) }
 {
     has_value(matches, "classes") || has_value(matches, "codes") || has_value(matches, "direction")
 }
 
-/// Returns the row that `explain` asks for.
+/// Returns the row that `explain` is to explain.
 fn explain_row_in<'a>(matches: &ArgMatches<'a>) -> Option<SoughtRow<'a>>
     requires { has_two_tables (rows_of (found_of matches.now)) ≡ false }
     ensures some { IfSome result (AsksToExplainRow (rows_of (found_of matches.now))) }
@@ -46,7 +47,7 @@ fn explain_row_in<'a>(matches: &ArgMatches<'a>) -> Option<SoughtRow<'a>>
     })
 }
 
-/// Returns what `explain` asks for without a row: a text or code points, by tables that may be named, or classes.
+/// Returns the request of `explain` without a row: a text or code points, with tables if they are named, or classes.
 fn explain_text_in<'a>(matches: &ArgMatches<'a>) -> Option<Request<'a>>
     requires row { has_row_words (rows_of (found_of matches.now)) ≡ false }
     requires tables { has_two_tables (rows_of (found_of matches.now)) ≡ false }
@@ -77,7 +78,7 @@ fn explain_text_in<'a>(matches: &ArgMatches<'a>) -> Option<Request<'a>>
     }
 }
 
-/// Returns what `explain` asks for: a row, or what it asks for without one.
+/// Returns the request of `explain`: a row, a text, code points or classes.
 pub fn explain_in<'a>(matches: &ArgMatches<'a>) -> Option<Request<'a>>
     ensures some { IfSome result (AsksFor (codes "explain") (rows_of (found_of matches.now))) }
     ensures none { IfNone result ((request : RequestOf)

@@ -1,11 +1,11 @@
 // The texts of help and of the version.
 
-/// What `bidi` does, in a sentence.
+/// The short description of `bidi`.
 pub const BIDI_ABOUT: &str =
     "Lays out texts by the Unicode Bidirectional Algorithm (UAX #9), shows what each of its rules
 does to a text or a row, judges the conformance files and reports on them, and prints such files";
 
-/// What `bidi` does, and with which status it ends.
+/// The long description of `bidi`, with its exit statuses.
 pub const BIDI_LONG_ABOUT: &str =
     "Lays out texts by the Unicode Bidirectional Algorithm (UAX #9), shows what each of
 its rules does to a text or to a row of a file, judges the conformance files and reports
@@ -19,53 +19,53 @@ faulty, a text is not UTF-8, a write fails or memory is refused.
 A fault is one line on standard error. Each subcommand takes -v, which adds a second
 line with the reason; the first line and the status stay the same.";
 
-/// What stands behind the name in the text of the version: the version, the rules that are followed, the edition whose
-/// tables are built in, and the kit that all is proved with.
+/// The text of `--version` after the name: the version, the rules, the edition of the built-in tables, and the kit that
+/// the proofs use.
 pub const BIDI_VERSION: &str = "1.1.0 (rules P1 to L2 and L4 of UAX #9, Unicode 17.0)
 tables of Unicode 17.0.0 built in
 proved with rattle-kit-13f logic dac8208d650f15bf";
 
-/// How `bidi` is called.
+/// The usage of `bidi`.
 pub const BIDI_USAGE: &str = "bidi <COMMAND>";
 
-/// What stands at the end of the help of `bidi`.
+/// The end of the help of `bidi`.
 pub const BIDI_EXAMPLE: &str = "Example:\n  bidi levels text.txt";
 
-/// What `--tables` names, where the tables that are built in serve without it.
+/// The help of `--tables`, if the built-in tables are the default.
 pub const TABLES_HELP: &str =
     "The folder of DerivedBidiClass.txt, BidiBrackets.txt and BidiMirroring.txt; without it the tables of Unicode \
      17.0 that are built in are used";
 
-/// What `--tables` names, of `explain`.
+/// The help of `--tables` of `explain`.
 pub const EXPLAIN_TABLES_HELP: &str =
     "The folder of DerivedBidiClass.txt, BidiBrackets.txt and BidiMirroring.txt; without it the tables of Unicode \
      17.0 that are built in are used, but for --row, where --kind characters needs it or --built-in";
 
-/// What `--built-in` says, of `explain`.
+/// The help of `--built-in` of `explain`.
 pub const EXPLAIN_BUILT_IN_HELP: &str =
     "Takes the tables of Unicode 17.0 that are built in, in the place of --tables; a text takes them without it too";
 
-/// What `--built-in` says, where tables are needed for files of characters.
+/// The help of `--built-in`, if files of characters need tables.
 pub const JUDGE_BUILT_IN_HELP: &str =
     "Takes the tables of Unicode 17.0 that are built in, in the place of --tables; the test file is of that edition";
 
-/// What `--built-in` says, of `rows`.
+/// The help of `--built-in` of `rows`.
 pub const ROWS_BUILT_IN_HELP: &str =
     "Takes the tables of Unicode 17.0 that are built in, in the place of --tables; they are used without it too";
 
-/// What `--tables` names, where it is needed for files of characters.
+/// The help of `--tables`, if files of characters need it.
 pub const JUDGE_TABLES_HELP: &str =
     "The folder of DerivedBidiClass.txt, BidiBrackets.txt and BidiMirroring.txt, of the edition of the test file";
 
-/// What `--verbose` does.
+/// The help of `--verbose`.
 pub const VERBOSE_HELP: &str = "Prints a second line of a fault: the reason, as far as it is known";
 
-/// What `--direction` says.
+/// The help of `--direction`.
 pub const DIRECTION_HELP: &str =
     "The direction of each paragraph, which `auto` finds by rules P2 and P3; \
      `auto-rtl` takes right to left where they find none";
 
-/// What `levels` prints, and with which status it ends.
+/// The description of `levels`, with its exit statuses.
 pub const LEVELS_LONG_ABOUT: &str = "Prints the levels of a text, in UTF-8.
 
 For each paragraph prints a line `paragraph K level P`, K counted from 0, and for
@@ -78,11 +78,11 @@ Ends with status 0, 2 where the command line is refused, and 3 where a file can'
 read, a line of a table is faulty, the text is not UTF-8, a write fails or memory is
 refused.";
 
-/// What stands at the end of the help of `levels`.
+/// The end of the help of `levels`.
 pub const LEVELS_EXAMPLE: &str =
     "Examples:\n  bidi levels --direction rtl text.txt\n  bidi levels --tables ucd text.txt";
 
-/// What `reorder` prints, and with which status it ends.
+/// The description of `reorder`, with its exit statuses.
 pub const REORDER_LONG_ABOUT: &str = "Prints the lines of a text, in UTF-8, as they are shown.
 
 Each paragraph is a line, and with --columns each N characters of it are one. A line
@@ -94,14 +94,14 @@ Ends with status 0, 2 where the command line is refused, and 3 where a file can'
 read, a line of a table is faulty, the text is not UTF-8, a write fails or memory is
 refused.";
 
-/// What `--columns` says.
+/// The help of `--columns`.
 pub const COLUMNS_HELP: &str = "Breaks each paragraph's lines at every N characters, 1 to 65535";
 
-/// What stands at the end of the help of `reorder`.
+/// The end of the help of `reorder`.
 pub const REORDER_EXAMPLE: &str =
     "Examples:\n  bidi reorder --columns 80 text.txt\n  bidi reorder --tables ucd text.txt";
 
-/// What `explain` prints, and with which status it ends.
+/// The description of `explain`, with its exit statuses.
 pub const EXPLAIN_LONG_ABOUT: &str =
     "Prints what each rule does with a text, in UTF-8 or in code points, with a list of classes,
 or with a row of a conformance file.
@@ -124,42 +124,42 @@ class or --codes an item that is no code point, tables are needed or the line is
 and 3 where a file can't be read, a line of a table or one up to the row is faulty, the
 text is not UTF-8, a write fails or memory is refused.";
 
-/// How `explain` is called.
+/// The usage of `explain`.
 pub const EXPLAIN_USAGE: &str = "bidi explain [OPTIONS] <FILE>
        bidi explain [OPTIONS] --codes <CODES>
        bidi explain [OPTIONS] --classes <CLASSES>
        bidi explain [OPTIONS] --row <LINE> --kind <KIND> <FILE>";
 
-/// What `--kind` says, of `explain`.
+/// The help of `--kind` of `explain`.
 pub const EXPLAIN_KIND_HELP: &str =
     "The form of the file that has the row: that of BidiTest.txt, or that of BidiCharacterTest.txt, which needs \
      --tables or --built-in";
 
-/// What `--direction` says, of `explain`, where a row names its own.
+/// The help of `--direction` of `explain`. A row has its own directions.
 pub const EXPLAIN_DIRECTION_HELP: &str =
     "The direction of each paragraph, which `auto`, where it is left out, finds by rules P2 and P3; \
      `auto-rtl` takes right to left where they find none";
 
-/// What `--row` says.
+/// The help of `--row`.
 pub const ROW_HELP: &str =
     "Explains the row at this line of a conformance file, counted from 1, in the place of a text";
 
-/// What `--classes` says.
+/// The help of `--classes`.
 pub const CLASSES_HELP: &str =
     "Short names of classes, with blanks between them, in the place of a text";
 
-/// What `--codes` says.
+/// The help of `--codes`.
 pub const CODES_HELP: &str =
     "Code points in hex digits, with blanks between them, in the place of a text";
 
-/// What stands at the end of the help of `explain`.
+/// The end of the help of `explain`.
 pub const EXPLAIN_EXAMPLE: &str = "Examples:
   bidi explain text.txt
   bidi explain --codes '05D0 0028'
   bidi explain --classes 'R ON LRE L'
   bidi explain --row 1200 --kind characters --built-in BidiCharacterTest.txt";
 
-/// What `judge` prints, and with which status it ends.
+/// The description of `judge`, with its exit statuses.
 pub const JUDGE_LONG_ABOUT: &str = "Judges a conformance file.
 
 Prints `yes`, with the numbers of rows and cases, where the file is well formed
@@ -171,19 +171,19 @@ Ends with status 0 after a yes, 1 after a no, 2 where the command line is refuse
 or tables are needed, and 3 where a file can't be read, a line of a table is
 faulty, a write fails or memory is refused.";
 
-/// How `judge` is called.
+/// The usage of `judge`.
 pub const JUDGE_USAGE: &str = "bidi judge [OPTIONS] --kind <KIND> <FILE>";
 
-/// What `--kind` says, where it is required.
+/// The help of `--kind`, if it is required.
 pub const KIND_HELP: &str =
     "The file's form: that of BidiTest.txt, or that of BidiCharacterTest.txt, which needs --tables or --built-in";
 
-/// What stands at the end of the help of `judge`.
+/// The end of the help of `judge`.
 pub const JUDGE_EXAMPLE: &str = "Examples:
   bidi judge --kind characters --built-in BidiCharacterTest.txt
   bidi judge --kind characters --tables ucd BidiCharacterTest.txt";
 
-/// What `report` prints, and with which status it ends.
+/// The description of `report`, with its exit statuses.
 pub const REPORT_LONG_ABOUT: &str =
     "Reports on a conformance file: judges it, and goes on behind a wrong row.
 
@@ -199,27 +199,27 @@ Ends with status 0 where no line is malformed and no case wrong, as judge says y
 one is, 2 where the command line is refused or tables are needed, and 3 where a file
 can't be read, a line of a table is faulty, a write fails or memory is refused.";
 
-/// How `report` is called.
+/// The usage of `report`.
 pub const REPORT_USAGE: &str = "bidi report [OPTIONS] --kind <KIND> <FILE>";
 
-/// What `--most` says.
+/// The help of `--most`.
 pub const REPORT_MOST_HELP: &str =
     "How many wrong cases are printed at most, 20 where it is left out; all are counted";
 
-/// What `--order` says.
+/// The help of `--order`.
 pub const REPORT_ORDER_HELP: &str = "Compares the order alone: no paragraph level, and no levels";
 
-/// What `--shown` says.
+/// The help of `--shown`.
 pub const REPORT_SHOWN_HELP: &str =
     "Compares what is shown: levels and order without the positions that X9 removes";
 
-/// What stands at the end of the help of `report`.
+/// The end of the help of `report`.
 pub const REPORT_EXAMPLE: &str = "Examples:
   bidi report --kind classes --most 100 rows.txt
   bidi report --kind classes --shown --order rows.txt
   bidi report --kind characters --built-in BidiCharacterTest.txt";
 
-/// What `rows` prints, and with which status it ends.
+/// The description of `rows`, with its exit statuses.
 pub const ROWS_LONG_ABOUT: &str = "Prints a conformance file, in the form of BidiTest.txt or, with
 `--kind characters`, of BidiCharacterTest.txt, with right answers.
 
@@ -245,47 +245,47 @@ length or more, or texts are to be drawn and --length ends before it begins, and
 file can't be read, a line of a table is faulty, the text is not UTF-8 or has a line of more
 than 4095 characters, a write fails or memory is refused.";
 
-/// How `rows` is called.
+/// The usage of `rows`.
 pub const ROWS_USAGE: &str =
     "bidi rows [OPTIONS] --form exhaustive|random --alphabet <LETTERS> --length <LENGTHS>
        bidi rows [OPTIONS] --form <FORM> --length <LENGTHS>
        bidi rows [OPTIONS] --of <FILE>";
 
-/// What `--kind` says, of `rows`.
+/// The help of `--kind` of `rows`.
 pub const ROWS_KIND_HELP: &str =
     "The file's form: that of BidiTest.txt, or that of BidiCharacterTest.txt, which holds with --of where it is \
      left out";
 
-/// What `--form` says.
+/// The help of `--form`.
 pub const FORM_HELP: &str =
     "Which texts the rows have: with `exhaustive` all of these lengths over the alphabet, \
      with `random` as many as --count says, drawn from it by --seed; with each other form \
      as many, drawn from letters of its own";
 
-/// What `--alphabet` says.
+/// The help of `--alphabet`.
 pub const ALPHABET_HELP: &str =
     "The letters of `--form exhaustive` and `--form random`, with blanks between them: short names \
      of classes, or with `--kind characters` code points in hex digits";
 
-/// What `--length` says.
+/// The help of `--length`.
 pub const LENGTH_HELP: &str =
     "The lengths of the texts, 1 to 4095: `N`, or `A..B` for all from A up to B";
 
-/// What `--directions` says.
+/// The help of `--directions`.
 pub const DIRECTIONS_HELP: &str =
     "The directions under which each text stands, with blanks between them: auto, ltr, rtl or auto-rtl";
 
-/// What `--of` says.
+/// The help of `--of`.
 pub const OF_HELP: &str =
     "The text whose lines the rows have, or `-` for standard input, in the place of texts of a form";
 
-/// What `--seed` says, and of which rows.
+/// The help of `--seed`.
 pub const ROWS_SEED_HELP: &str = "The seed by which texts are drawn, 0 where it is left out";
 
-/// What `--count` says, and of which rows.
+/// The help of `--count`.
 pub const ROWS_COUNT_HELP: &str = "How many texts are drawn, 1000 where it is left out";
 
-/// What stands at the end of the help of `rows`.
+/// The end of the help of `rows`.
 pub const ROWS_EXAMPLE: &str = "Examples:
   bidi rows --form exhaustive --alphabet 'LRO RLE L PDF PDI RLO' --length 1..4
   bidi rows --form random --seed 1 --count 5000 --alphabet 'L R AL AN NSM' --length 1..40

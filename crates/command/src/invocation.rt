@@ -1,9 +1,9 @@
-// What the words of a command line come to.
+// What a command line asks for.
 
 use requests::fault::Detail;
 use requests::request::Request;
 
-/// A request, and how it is to be reported if it fails.
+/// A request, and the detail in which its fault is reported.
 #[derive(Clone, Copy, Debug, PartialEq, Eq)]
 pub struct Invocation<'a> {
     /// What is asked for.

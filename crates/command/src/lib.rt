@@ -1,5 +1,5 @@
-//! The command `bidi`: what the words of its command line ask for, by `clap`, is done over the files and writers that
-//! its caller hands it.
+//! The command `bidi`: reads its arguments with `clap`, and performs the request with the files and writers that the
+//! caller passes.
 #![tactic(auto)]
 
 mod arguments;

@@ -1,4 +1,4 @@
-// Why words are no request.
+// Why arguments make no request.
 ghost use Rattle.std.specs.Prelude.{◌≡◌, Some};
 ghost use Rattle.command.specs.Refusals.{no_request_text, usage_without_request, words_without_request};
 
@@ -6,7 +6,7 @@ use crate::help::{BIDI_USAGE, EXPLAIN_USAGE, JUDGE_USAGE, REPORT_USAGE, ROWS_USA
 use clap::Error;
 use std::fmt;
 
-/// The subcommands that take `--built-in` in the place of `--tables`.
+/// The subcommands that take `--built-in` as an alternative to `--tables`.
 #[derive(Clone, Copy, Debug, PartialEq, Eq)]
 pub enum TableCommand {
     Explain,
@@ -15,41 +15,41 @@ pub enum TableCommand {
     Rows,
 }
 
-/// Why words that `clap` lets pass make no request. Its text is what a user is told.
+/// Why arguments that `clap` accepts make no request. Its text is printed for the user.
 #[derive(Clone, Copy, Debug, PartialEq, Eq)]
 pub enum NoRequest {
-    /// This subcommand is given both `--tables` and `--built-in`.
+    /// This subcommand has both `--tables` and `--built-in`.
     TwoTables(TableCommand),
-    /// `explain` is given classes, and tables or a text beside them.
+    /// `explain` has classes, and also tables or a text.
     ClassesAndText,
-    /// `explain` is given code points, and classes or a text beside them.
+    /// `explain` has code points, and also classes or a text.
     CodesAndText,
-    /// `explain` is given neither a text nor code points nor classes.
+    /// `explain` has no text, code points or classes.
     NoText,
-    /// `explain` is given a row, and classes, code points or a direction beside it.
+    /// `explain` has a row, and also classes, code points or a direction.
     RowAndText,
-    /// `explain` is given a row, and no kind of its file.
+    /// `explain` has a row, but not the kind of its file.
     RowWithoutKind,
-    /// `explain` is given a row, and no file.
+    /// `explain` has a row, but no file.
     RowWithoutFile,
-    /// `explain` is given the kind of a file, and no row.
+    /// `explain` has the kind of a file, but no row.
     KindWithoutRow,
-    /// `rows` is given a text, and beside it what says texts of a form.
+    /// `rows` has a text, and also an argument that determines texts of a form.
     TextAndForm,
-    /// `rows` is given neither a form nor a text.
+    /// `rows` has neither a form nor a text.
     NoForm,
-    /// `rows` is given a form and no lengths.
+    /// `rows` has a form, but no lengths.
     NoLength,
-    /// `rows` is given no alphabet, and its form takes one.
+    /// `rows` has no alphabet, but its form needs one.
     NoAlphabet,
-    /// `rows` is given an alphabet, and its form has letters of its own.
+    /// `rows` has an alphabet, but its form has its own letters.
     AlphabetAndForm,
-    /// No subcommand makes one.
+    /// There is no subcommand.
     NoSubcommand,
 }
 
 impl NoRequest {
-    /// What is wrong, in words.
+    /// Returns in words what is wrong.
     fn words(self) -> &'static str
         ensures { result.now ≡ words_without_request self }
     {
@@ -94,7 +94,7 @@ impl NoRequest {
         }
     }
 
-    /// How to call what was called.
+    /// Returns the usage of the subcommand.
     fn usage(self) -> &'static str
         ensures { result.now ≡ usage_without_request self }
     {
@@ -128,12 +128,12 @@ impl fmt::Display for NoRequest {
     }
 }
 
-/// Why the words of a command line are no request.
+/// Why the arguments make no request.
 #[derive(Debug, Drop)]
 pub enum WordsFault {
-    /// `clap` refuses them, or they ask for help or the version, or memory was refused.
+    /// `clap` rejects them, they ask for help or the version, or an allocation failed.
     ByClap(Error),
-    /// They pass, and make no request.
+    /// `clap` accepts them, but they make no request.
     NoRequest(NoRequest),
 }
 

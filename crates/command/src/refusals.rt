@@ -13,21 +13,21 @@ use crate::refusal::{NoRequest, TableCommand};
 use crate::values::{has_table_words, has_two_tables, has_value, text_of};
 use clap::ArgMatches;
 
-/// Returns whether `explain` is given classes, and a text or tables beside them.
+/// Returns whether `explain` has classes, and also a text or tables.
 fn has_classes_and_text(matches: &ArgMatches<'_>) -> bool
     ensures { result ≡ has_classes_and_text (rows_of (found_of matches.now)) }
 {
     has_value(matches, "classes") && (has_table_words(matches) || has_value(matches, "file"))
 }
 
-/// Returns whether `explain` is given code points, and classes or a text beside them.
+/// Returns whether `explain` has code points, and also classes or a text.
 fn has_codes_and_text(matches: &ArgMatches<'_>) -> bool
     ensures { result ≡ has_codes_and_text (rows_of (found_of matches.now)) }
 {
     has_value(matches, "codes") && (has_value(matches, "classes") || has_value(matches, "file"))
 }
 
-/// Returns why `explain` makes no request of its arguments, with a row.
+/// Returns why the arguments of `explain`, with a row, make no request.
 fn row_refusal(matches: &ArgMatches<'_>) -> NoRequest
     ensures { result ≡ row_refusal (rows_of (found_of matches.now)) }
 {
@@ -40,7 +40,7 @@ fn row_refusal(matches: &ArgMatches<'_>) -> NoRequest
     }
 }
 
-/// Returns why `explain` makes no request of its arguments, without a row.
+/// Returns why the arguments of `explain`, without a row, make no request.
 fn text_refusal(matches: &ArgMatches<'_>) -> NoRequest
     ensures { result ≡ text_refusal (rows_of (found_of matches.now)) }
 {
@@ -53,7 +53,7 @@ fn text_refusal(matches: &ArgMatches<'_>) -> NoRequest
     }
 }
 
-/// Returns why `explain` makes no request of its arguments.
+/// Returns why the arguments of `explain` make no request.
 fn explain_refusal(matches: &ArgMatches<'_>) -> NoRequest
     ensures { result ≡ explain_refusal (rows_of (found_of matches.now)) }
 {
@@ -68,7 +68,7 @@ fn explain_refusal(matches: &ArgMatches<'_>) -> NoRequest
     }
 }
 
-/// Returns why `rows` makes no request of its arguments, with a form.
+/// Returns why the arguments of `rows`, with a form, make no request.
 fn form_refusal(matches: &ArgMatches<'_>) -> NoRequest
     ensures { result ≡ form_refusal (rows_of (found_of matches.now)) }
 {
@@ -81,7 +81,7 @@ fn form_refusal(matches: &ArgMatches<'_>) -> NoRequest
     }
 }
 
-/// Returns why `rows` makes no request of its arguments.
+/// Returns why the arguments of `rows` make no request.
 fn rows_refusal(matches: &ArgMatches<'_>) -> NoRequest
     ensures { result ≡ rows_refusal (rows_of (found_of matches.now)) }
 {
@@ -96,8 +96,8 @@ fn rows_refusal(matches: &ArgMatches<'_>) -> NoRequest
     }
 }
 
-/// Returns why the subcommand of this name makes no request of its arguments. `judge` and `report` make none only if
-/// two sources of tables are named, since `clap` requires the rest.
+/// Returns why the arguments of the subcommand of this name make no request. `judge` and `report` make none only if two
+/// sources of tables are named, since `clap` requires the rest.
 fn refusal_in_subcommand(name: &str, matches: &ArgMatches<'_>) -> NoRequest
     ensures { result ≡ refusal_in_subcommand name.now (rows_of (found_of matches.now)) }
 {
@@ -110,7 +110,7 @@ fn refusal_in_subcommand(name: &str, matches: &ArgMatches<'_>) -> NoRequest
     }
 }
 
-/// Returns why the subcommand that was met makes no request.
+/// Returns why the given subcommand makes no request.
 pub fn refusal_without_request(matches: &ArgMatches<'_>) -> NoRequest
     ensures { result ≡ refusal_without_request (subcommand_rows_of matches.now) }
 {

@@ -21,13 +21,12 @@ use std::alloc::Global;
 use std::io;
 use std::io::Write;
 
-/// Writes the text of help.
 fn print_help<W: Write>(out: &mut W, help: &Error) -> io::Result<()> {
     write!(out, "{help}")?;
     out.flush()
 }
 
-/// Writes the text of the version.
+/// Writes the version text.
 fn print_version<W: Write>(out: &mut W) -> io::Result<()>
     ensures { OnOk result (Appends (W.contents out.old) (W.contents out.new) version_text) }
 {
@@ -36,7 +35,8 @@ fn print_version<W: Write>(out: &mut W) -> io::Result<()>
     out.flush()
 }
 
-/// Ends a run that was to show help or the version: well if that was written, else by the fault of a write.
+/// Ends a run that shows help or the version: without a fault if that was written, and otherwise with the fault of a
+/// write.
 fn end_shown<E: Write>(shown: io::Result<()>, err: &mut E) -> Ended
     ensures well { OnOk shown (EndsWell 0 (E.contents err.old) (E.contents err.new) result) }
     ensures fault { OnErr shown
@@ -52,7 +52,8 @@ fn end_shown<E: Write>(shown: io::Result<()>, err: &mut E) -> Ended
     }
 }
 
-/// Says why words are refused, and answers how the run ends, with a status which stays where that can't be written.
+/// Reports why the arguments are rejected, and returns how the run ends. The status is the same if the report can't be
+/// written.
 fn refuse<E: Write>(refusal: &Error, err: &mut E) -> Ended
     ensures { result.status ≡ 2 }
 {
@@ -65,7 +66,7 @@ fn refuse<E: Write>(refusal: &Error, err: &mut E) -> Ended
     }
 }
 
-/// Says why words that pass make no request, and answers how the run ends.
+/// Reports why accepted arguments make no request, and returns how the run ends.
 fn say_no_request<E: Write>(why: NoRequest, err: &mut E) -> Ended
     ensures status { result.status ≡ 2 }
     ensures said { result.is_said ≡ true → Appends (E.contents err.old) (E.contents err.new) (no_request_text why) }
@@ -79,8 +80,7 @@ fn say_no_request<E: Write>(why: NoRequest, err: &mut E) -> Ended
     }
 }
 
-/// Ends a run whose words `clap` answers with an error: help or the version is printed, or it is said why they are
-/// refused.
+/// Ends a run for which `clap` returns an error: prints help or the version, or reports why the arguments are rejected.
 fn run_without_request<W: Write, E: Write>(error: &Error, out: &mut W, err: &mut E) -> Ended
     ensures { EndsWithout (W.contents out.old) (W.contents out.new)
         (E.contents err.old) (E.contents err.new) error.now result }
@@ -93,7 +93,7 @@ fn run_without_request<W: Write, E: Write>(error: &Error, out: &mut W, err: &mut
     }
 }
 
-/// Does what words ask for, as they were read, and answers how the run ends.
+/// Performs what the arguments ask for, as they were read, and returns how the run ends.
 fn run_as_read<F: Files, W: Write, E: Write>(
     alloc: Global,
     read: Result<Invocation<'_>, WordsFault>,
@@ -118,13 +118,17 @@ fn run_as_read<F: Files, W: Write, E: Write>(
     }
 }
 
-/// Does what the words of a command line ask for, the first word being the program's name, and answers how the run
-/// ends, with the exit status: 0 where a text was printed, a text or a row explained or rows printed, after a yes, a
-/// report that is right, help or the version, 1 after a no, or a report that is not right, that was written, 2 where
-/// the words are refused, name no tables though they are needed, name what is no class, no code point or no row or too
-/// much of it, or make no rows, 3 where a file or standard input can't be read, a table, the text or a line up to the
-/// row is faulty, a write fails or memory is refused. After 2 and 3 what says so is written to `err`, with the reason if
-/// the words ask for it, and whether it took that is returned too; after 0 and 1 nothing is written to it.
+/// Performs what the arguments ask for, and returns how the run ends. The first argument is the program's name. The
+/// exit status is:
+/// - 0 if a text, an explanation or rows were printed, and after a yes, a report on a right file, help or the version;
+/// - 1 after a no, or after a report on a file that is not right, if it was written;
+/// - 2 if the arguments are rejected, if tables are needed and none are named, if an option's value is not allowed or
+///   too long, if there are no such rows, or if the line that is to be explained is not a row;
+/// - 3 if a file or standard input can't be read, if a table, the text or a line up to the row is faulty, or if a write
+///   or an allocation fails.
+///
+/// With status 2 and 3, the fault is reported to `err`, with its reason if the arguments ask for it, and the result
+/// says whether `err` took the report. With status 0 and 1, nothing is written to `err`.
 pub fn run<F: Files, W: Write, E: Write>(
     alloc: Global,
     words: &[&str],
@@ -134,12 +138,12 @@ pub fn run<F: Files, W: Write, E: Write>(
 ) -> Ended
     ensures status { result.status ≤ 3 }
 
-    // The status is that of what the words, as they were read, came to, and what `err` grew by reports the fault.
+    // The status is that of what the arguments ask for, and the fault is reported in what `err` grew by.
     ensures outcome { HasRun (F.facts files.now) (W.contents out.old) (W.contents out.new)
         (E.contents err.old) (E.contents err.new) (texts words.now) result }
 
-    // 1 is answered only where the words ask for a judgement or a report, all bytes of the file come to a no, or to a
-    // report that is not right, and what says it was written.
+    // The status is 1 only if the arguments ask for a judgement or a report, the result for all bytes of the file is a
+    // no or a report on a file that is not right, and that result was written.
     ensures no { result.status ≡ 1
         → HasSaidNo (F.facts files.now) (W.contents out.old) (W.contents out.new) (texts words.now) }
     ensures silent { result.status ≤ 1 → E.contents err.new ≡ E.contents err.old }

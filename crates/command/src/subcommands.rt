@@ -1,4 +1,4 @@
-// What the subcommands ask for.
+// The requests of the subcommands.
 ghost use Rattle.std.specs.Prelude.{◌≡◌, codes, IfSome, IfNone};
 ghost use Rattle.clap.specs.Matches.{found_of};
 ghost use Rattle.clap.specs.Simple.{subcommand_rows_of};
@@ -16,7 +16,6 @@ use clap::ArgMatches;
 use report::terms::{Leniency, Parts, Positions};
 use requests::request::{Print, ReportOptions, Request};
 
-/// Returns what `levels` asks for.
 fn levels_in<'a>(matches: &ArgMatches<'a>) -> Option<Request<'a>>
     ensures some { IfSome result (AsksFor (codes "levels") (rows_of (found_of matches.now))) }
     ensures none { IfNone result ((request : RequestOf)
@@ -30,7 +29,6 @@ fn levels_in<'a>(matches: &ArgMatches<'a>) -> Option<Request<'a>>
     })
 }
 
-/// Returns what `reorder` asks for.
 fn reorder_in<'a>(matches: &ArgMatches<'a>) -> Option<Request<'a>>
     ensures some { IfSome result (AsksFor (codes "reorder") (rows_of (found_of matches.now))) }
     ensures none { IfNone result ((request : RequestOf)
@@ -45,7 +43,6 @@ fn reorder_in<'a>(matches: &ArgMatches<'a>) -> Option<Request<'a>>
     })
 }
 
-/// Returns what `judge` asks for.
 fn judge_in<'a>(matches: &ArgMatches<'a>) -> Option<Request<'a>>
     ensures some { IfSome result (AsksFor (codes "judge") (rows_of (found_of matches.now))) }
     ensures none { IfNone result ((request : RequestOf)
@@ -61,7 +58,7 @@ fn judge_in<'a>(matches: &ArgMatches<'a>) -> Option<Request<'a>>
     })
 }
 
-/// Returns what of a claim `report` compares.
+/// Returns which expected results `report` compares.
 fn leniency_in(matches: &ArgMatches<'_>) -> Leniency
     ensures { result ≡ leniency_in (rows_of (found_of matches.now)) }
 {
@@ -79,7 +76,6 @@ fn leniency_in(matches: &ArgMatches<'_>) -> Leniency
     }
 }
 
-/// Returns what `report` asks for.
 fn report_in<'a>(matches: &ArgMatches<'a>) -> Option<Request<'a>>
     ensures some { IfSome result (AsksFor (codes "report") (rows_of (found_of matches.now))) }
     ensures none { IfNone result ((request : RequestOf)
@@ -100,7 +96,7 @@ fn report_in<'a>(matches: &ArgMatches<'a>) -> Option<Request<'a>>
     })
 }
 
-/// Returns what a subcommand of this name asks for.
+/// Returns the request of the subcommand of this name.
 fn request_in<'a>(name: &str, matches: &ArgMatches<'a>) -> Option<Request<'a>>
     ensures some { IfSome result (AsksFor name.now (rows_of (found_of matches.now))) }
     ensures none { IfNone result ((request : RequestOf)
@@ -117,7 +113,7 @@ fn request_in<'a>(name: &str, matches: &ArgMatches<'a>) -> Option<Request<'a>>
     }
 }
 
-/// Returns what the subcommand that was met asks for.
+/// Returns the request of the given subcommand.
 pub fn request_by<'a>(matches: &ArgMatches<'a>) -> Option<Request<'a>>
     ensures some { IfSome result (IsAskedBy (subcommand_rows_of matches.now)) }
     ensures none { IfNone result ((request : RequestOf)

@@ -35,14 +35,14 @@ pub fn has_flag(matches: &ArgMatches<'_>, id: &str) -> bool
     }
 }
 
-/// Returns the number of 64 bits that an argument says, or `default` if the argument is left out.
+/// Returns the number of 64 bits in an argument, or `default` if the argument is not given.
 pub fn number_in(matches: &ArgMatches<'_>, id: &str, default: u64) -> u64
     ensures { NumberIs default (one_of id.now (rows_of (found_of matches.now))) result }
 {
     matches.get_one::<u64>(id).unwrap_or(default)
 }
 
-/// Returns the number of columns, if it is given.
+/// Returns the number of columns if it is given.
 pub fn columns_in(matches: &ArgMatches<'_>) -> Option<NonZeroU16>
     ensures { ColumnsAre (one_of (codes "columns") (rows_of (found_of matches.now))) result }
 {
@@ -70,7 +70,7 @@ pub fn direction_in(matches: &ArgMatches<'_>) -> Direction
     }
 }
 
-/// Returns the kind of the file, if it is given.
+/// Returns the kind of the file if it is given.
 pub fn kind_in(matches: &ArgMatches<'_>) -> Option<FileKind>
     ensures { result ≡ kind_named (first_of (codes "kind") (rows_of (found_of matches.now))) }
 {
@@ -81,7 +81,7 @@ pub fn kind_in(matches: &ArgMatches<'_>) -> Option<FileKind>
     }
 }
 
-/// Returns where the tables of a text come from: the folder that is named, or the facts that are built in.
+/// Returns the source of a text's tables: the folder if one is named, otherwise the built-in facts.
 pub fn tables_in<'a>(matches: &ArgMatches<'a>) -> TableSource<'a>
     ensures { folder_of result ≡ first_of (codes "tables") (rows_of (found_of matches.now)) }
 {
@@ -105,7 +105,7 @@ pub fn has_two_tables(matches: &ArgMatches<'_>) -> bool
     has_value(matches, "tables") && has_flag(matches, "built-in")
 }
 
-/// Returns the tables that `--tables` or `--built-in` names, if one of them is given.
+/// Returns the tables of `--tables` or `--built-in` if one of them is given.
 pub fn named_tables<'a>(matches: &ArgMatches<'a>) -> Option<TableSource<'a>>
     requires { has_two_tables (rows_of (found_of matches.now)) ≡ false }
     ensures { NamesTables (rows_of (found_of matches.now)) result }

@@ -1,4 +1,4 @@
-// How the words of a command line are read.
+// Reads the arguments of a command line.
 ghost use Rattle.std.specs.Prelude.{◌≡◌, IfOk, IfErr};
 ghost use Rattle.clap.specs.Matches.{found_of};
 ghost use Rattle.clap.specs.Simple.{subcommand_rows_of};
@@ -16,7 +16,7 @@ use clap::{ArgMatches, Error};
 use requests::fault::Detail;
 use std::alloc::Global;
 
-/// Returns what the words of a command line give to its arguments, or the error of `clap` that rejects them.
+/// Parses the arguments. Fails with the error of `clap` that rejects them.
 fn matches_of<'a>(alloc: Global, words: &'a [&'a str]) -> Result<ArgMatches<'a>, Error>
     ensures met { IfOk result (λ matches. HasMet (texts words.now) (subcommand_rows_of matches)) }
     ensures refused { IfErr result (IsRefusedByClap (texts words.now)) }
@@ -25,7 +25,7 @@ fn matches_of<'a>(alloc: Global, words: &'a [&'a str]) -> Result<ArgMatches<'a>,
     command.try_get_matches_from_mut(words)
 }
 
-/// Returns the detail in which a fault is reported, by the arguments of a subcommand.
+/// Returns the detail in which a fault is reported, from the arguments of a subcommand.
 fn detail_in(matches: &ArgMatches<'_>) -> Detail
     ensures { result ≡ detail_in (rows_of (found_of matches.now)) }
 {
@@ -36,7 +36,7 @@ fn detail_in(matches: &ArgMatches<'_>) -> Detail
     }
 }
 
-/// Returns the detail in which a fault is reported, by the subcommand that was met.
+/// Returns the detail in which a fault is reported, for the given subcommand.
 fn detail_by(matches: &ArgMatches<'_>) -> Detail
     ensures { result ≡ detail_by (subcommand_rows_of matches.now) }
 {
@@ -46,7 +46,7 @@ fn detail_by(matches: &ArgMatches<'_>) -> Detail
     }
 }
 
-/// Returns the request of the subcommand that was met and its detail, or why it makes no request.
+/// Returns the request of the given subcommand and its detail, or why it makes no request.
 fn invocation_or_refusal<'a>(matches: &ArgMatches<'a>) -> Result<Invocation<'a>, NoRequest>
     ensures invocation { IfOk result (IsInvokedBy (subcommand_rows_of matches.now)) }
     ensures refusal { IfErr result (MakesNone (subcommand_rows_of matches.now)) }
@@ -60,8 +60,8 @@ fn invocation_or_refusal<'a>(matches: &ArgMatches<'a>) -> Result<Invocation<'a>,
     }
 }
 
-/// Reads the words of a command line, of which the first is the program's name. Words that are rejected, or that ask
-/// for help or the version, are an error with the text for the user.
+/// Reads the arguments of a command line. The first is the program's name. Arguments that are rejected, or that ask for
+/// help or the version, are an error with the text for the user.
 pub fn invocation_of<'a>(alloc: Global, words: &'a [&'a str]) -> Result<Invocation<'a>, WordsFault>
     ensures { IsReadAs (texts words.now) result }
 {

@@ -7,7 +7,7 @@ use Rattle.clap.proofs.WalkLemmas.{one_text-rows}
 use Rattle.command.specs.CommandLine.{NumberIs, ReadsNumber}
 use Rattle.command.proofs.values.number_in.Goals as goal
 
--- what the kit says of a number that is read
+-- what the kit states about a number that is read
 abbrev GivesNumber : Text → Result ℕ ParseIntError → Type 0
 GivesNumber text r = ParsesUnsigned 64 10 text r × ExplainsUnsignedError 10 text r × HasUnsignedDigitsIfOk text r
 
