@@ -12,8 +12,8 @@ use std::env;
 use std::io::{self, BufWriter, ErrorKind, Write};
 use std::process::ExitCode;
 
-/// Runs with these words, over the files of the system, standard output (buffered) and standard error. Up to status 1
-/// nothing is written to standard error.
+/// Runs with these arguments, the files of the system, buffered standard output, and standard error. With status 0 and
+/// 1, nothing is written to standard error.
 fn run_over_system<E: Write>(rt: &HostRuntime, words: &[&str], err: &mut E) -> io::Result<Ended>
     ensures status { IfOk result (λ ended. ended.status ≤ 3) }
     ensures silent { IfOk result (λ ended. ended.status ≤ 1 → E.contents err.new ≡ E.contents err.old) }
@@ -24,8 +24,7 @@ fn run_over_system<E: Write>(rt: &HostRuntime, words: &[&str], err: &mut E) -> i
     Ok(run(alloc, words, &SystemFiles::new(rt), &mut out, err))
 }
 
-/// Runs with the words of the command line, over the files of the system, standard output (buffered) and standard
-/// error.
+/// Runs with the arguments of the command line, the files of the system, buffered standard output, and standard error.
 fn run_with_words<E: Write>(rt: &HostRuntime, err: &mut E) -> io::Result<Ended>
     ensures status { IfOk result (λ ended. ended.status ≤ 3) }
     ensures silent { IfOk result (λ ended. ended.status ≤ 1 → E.contents err.new ≡ E.contents err.old) }
@@ -36,7 +35,7 @@ fn run_with_words<E: Write>(rt: &HostRuntime, err: &mut E) -> io::Result<Ended>
     run_over_system(rt, &words, err)
 }
 
-/// Why there are no words to run with: memory was refused, or one of them is not UTF-8.
+/// Returns why the arguments can't be read: an allocation failed, or an argument is not UTF-8.
 fn fault_of_words(kind: ErrorKind) -> Fault<'static>
     ensures memory { kind ≡ ErrorKind.OutOfMemory → result ≡ Fault.OutOfMemory }
     ensures utf8 { kind ≢ ErrorKind.OutOfMemory → result ≡ Fault.WordNotUtf8 }
@@ -47,7 +46,7 @@ fn fault_of_words(kind: ErrorKind) -> Fault<'static>
     }
 }
 
-/// Runs, or says why there are no words to run with.
+/// Runs, or reports why the arguments can't be read.
 fn run_or_say<E: Write>(rt: &HostRuntime, err: &mut E) -> Ended
     ensures status { result.status ≤ 3 }
     ensures silent { result.status ≤ 1 → E.contents err.new ≡ E.contents err.old }

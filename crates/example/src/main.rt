@@ -11,7 +11,7 @@ use units::limits::Limits;
 
 const WORDS: &str = "ab (\u{5D2}\u{5D3}) 12";
 
-/// Prints each character that has a level, with it.
+/// Prints each character that has a level, and its level.
 fn print_levels(rt: &HostRuntime, text: &Text<'_>) -> anyhow::Result<()> {
     for (c, level) in text.chars().iter().zip(text.layout().levels()) {
         if let Some(level) = level {
