@@ -157,7 +157,7 @@ fn time_file(rt: &HostRuntime, folder: &str, file: &str, rounds: &str) -> io::Re
 }
 
 /// Returns the words after the program's own name.
-fn words_behind_name(rt: &HostRuntime) -> io::Result<Vec<String>> {
+fn words_after_name(rt: &HostRuntime) -> io::Result<Vec<String>> {
     let mut words = Vec::new(rt.alloc());
     for word in env::args(rt)?.skip(1) {
         words.push(word)?;
@@ -174,6 +174,6 @@ fn time(rt: &HostRuntime, words: &[String]) -> io::Result<()> {
 }
 
 fn main(rt: HostRuntime) -> io::Result<()> {
-    let words = words_behind_name(&rt)?;
+    let words = words_after_name(&rt)?;
     time(&rt, &words)
 }

@@ -75,12 +75,12 @@ impl<'a> Whole<'a> {
     /// batch, or 0 without a run.
     pub fn least_tenths(&mut self, rt: &HostRuntime, runs: usize) -> io::Result<u128> {
         let mut least = u128::MAX;
-        let mut left = runs;
+        let mut remaining = runs;
         for batch in 0..BATCHES {
-            let batch_runs = left / (BATCHES - batch);
+            let batch_runs = remaining / (BATCHES - batch);
             if batch_runs > 0 {
                 least = least.min(self.tenths(rt, batch_runs)?);
-                left -= batch_runs;
+                remaining -= batch_runs;
             }
         }
         Ok(if runs == 0 { 0 } else { least })

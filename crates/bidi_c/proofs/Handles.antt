@@ -33,8 +33,8 @@ use Rattle.std.proofs.alloc.Global.TheLaws as heap_laws
 use Rattle.std.specs.contracts.impls.GlobalAllocator.TheImpl.{ghosts, dict}
 use Rattle.std_alloc.specs.Box.Ownership.{box_owns}
 use Rattle.bidi_c.specs.Kept.{kept}
-use Rattle.bidi_c.specs.contracts.held.Held as inner
-use Rattle.bidi_c.proofs.held.Held.TheLaws as inner_laws
+use Rattle.bidi_c.specs.contracts.contents.Contents as inner
+use Rattle.bidi_c.proofs.contents.Contents.TheLaws as inner_lemmas
 use Rattle.bidi_c.specs.contracts.handle.Handle as outer
 use Rattle.bidi_c.specs.contracts.bidi_handle.BidiHandle as bidi
 
@@ -57,25 +57,25 @@ both v w = vstruct (vcons v (vcons w vnil))
 abbrev pub Rc : RattleType
 Rc = arg (bare (layout R)) no R
 
-abbrev pub Rc_laws : Laws Rc
-Rc_laws = arg_laws (bare (layout R)) no R inner_laws.the_row_laws refl
+abbrev pub Rc_lemmas : Laws Rc
+Rc_lemmas = arg_laws (bare (layout R)) no R inner_lemmas.the_row_laws refl
 
 abbrev pub Zc : RattleType
 Zc = arg (bare (layout Z)) no Z
 
-abbrev pub Zc_laws : Laws Zc
-Zc_laws = arg_laws (bare (layout Z)) no Z heap_laws.the_row_laws refl
+abbrev pub Zc_lemmas : Laws Zc
+Zc_lemmas = arg_laws (bare (layout Z)) no Z heap_laws.the_row_laws refl
 
 -- how the allocator and the contents are dropped
 abbrev pub none_drops : Dict
 none_drops = impl ("bidi_c::Destruct++none::drop" ∷ []) (tcons (layout Zc) tnil) dnil
 
-abbrev pub held_drops : Dict
-held_drops = impl ("bidi_c::bidi_c++held++Held+Destruct::drop" ∷ []) tnil dnil
+abbrev pub contents_drops : Dict
+contents_drops = impl ("bidi_c::bidi_c++contents++Contents+Destruct::drop" ∷ []) tnil dnil
 
 -- the box of the contents
 abbrev pub E : Bx
-E = record { row = R; laws = inner_laws.the_row_laws; al = record { row = Z; laws = heap_laws.the_row_laws; g = ghosts; d = dict; drops = none_drops } }
+E = record { row = R; laws = inner_lemmas.the_row_laws; al = record { row = Z; laws = heap_laws.the_row_laws; g = ghosts; d = dict; drops = none_drops } }
 
 pub by_some : {X : Type 0} {Y : Type 1} (o : Option X) → IsSome o → ((x : X) → o ≡ Some x → Y) → Y
 by_some None i k = absurd (true≢false (sym i))

@@ -7,9 +7,9 @@ use Rattle.for_c.specs.Directions.{direction_numbered}
 use Rattle.for_c.specs.Statuses.{Outcome}
 use Rattle.for_c.specs.declared.call_error.CallError.{CallError}
 use Rattle.for_c.specs.declared.call_error.CallError.TheVariants.{NoDirection, NoRoom, NoTables}
-use Rattle.bidi_c.specs.HeldIn.{room_for, tables_in}
-use Rattle.bidi_c.specs.declared.held.Held.{Held}
-use Rattle.bidi_c.specs.declared.held.Held.TheVariants.{Room}
+use Rattle.bidi_c.specs.ContentsIn.{room_for, tables_in}
+use Rattle.bidi_c.specs.declared.contents.Contents.{Contents}
+use Rattle.bidi_c.specs.declared.contents.Contents.TheVariants.{Room}
 
 -- a call fails with this error, and changes nothing
 abbrev pub Fails : {A : Type 0} → CallError → A → A → Outcome → Type 0
@@ -32,14 +32,14 @@ abbrev pub UnderDirection : {A : Type 0} → ℕ → (Direction → A → A → 
 UnderDirection number IsSo old new outcome = Needs NoDirection (direction_numbered number) IsSo old new outcome
 
 -- a call that needs a room of a kind, and changes it
-pub record AtRoom (encodes : Bool) (IsSo : RoomOf → RoomOf → Outcome → Type 0) (old new : Option Held) (outcome : Outcome) : Type 0 where
+pub record AtRoom (encodes : Bool) (IsSo : RoomOf → RoomOf → Outcome → Type 0) (old new : Option Contents) (outcome : Outcome) : Type 0 where
   pub so : MatchOption (room_for encodes old) (Fails NoRoom old new outcome)
       (λ room. (last : RoomOf) × (new ≡ Some (Room last)) × IsSo room last outcome)
 
 -- a call that needs a room of a kind, which it changes, and tables: if one of the handles is empty, it fails for that
 -- first
-abbrev pub AtBoth : Bool → Option Held → (TablesOf → RoomOf → RoomOf → Outcome → Type 0) → Option Held → Option Held → Outcome → Type 0
+abbrev pub AtBoth : Bool → Option Contents → (TablesOf → RoomOf → RoomOf → Outcome → Type 0) → Option Contents → Option Contents → Outcome → Type 0
 AtBoth encodes tables IsSo None new outcome = Fails NoRoom None new outcome
-AtBoth encodes None IsSo (Some held) new outcome = Fails NoTables (Some held) new outcome
-AtBoth encodes (Some tables) IsSo (Some held) new outcome =
-    AtRoom encodes (AtTables (tables_in (Some tables)) IsSo) (Some held) new outcome
+AtBoth encodes None IsSo (Some contents) new outcome = Fails NoTables (Some contents) new outcome
+AtBoth encodes (Some tables) IsSo (Some contents) new outcome =
+    AtRoom encodes (AtTables (tables_in (Some tables)) IsSo) (Some contents) new outcome

@@ -9,29 +9,29 @@ use Rattle.for_c.specs.VerdictNumbers.{verdict_for_c}
 use Rattle.for_c.specs.declared.call_error.CallError.TheVariants.{Memory, NoJudge}
 use Rattle.for_c.specs.declared.table_judge.TableJudge.{TableJudge}
 use Rattle.for_c.specs.declared.verdict.BidiVerdict.{BidiVerdict}
-use Rattle.bidi_c.specs.HeldIn.{judge_in, tables_in, with_judge}
+use Rattle.bidi_c.specs.ContentsIn.{judge_in, tables_in, with_judge}
 use Rattle.bidi_c.specs.Sharing.{RejectsSharing}
-use Rattle.bidi_c.specs.declared.held.Held.{Held}
+use Rattle.bidi_c.specs.declared.contents.Contents.{Contents}
 
 -- a judge is in the handle, and `IsSo` holds of it
-abbrev pub OfJudge : Option Held → (TableJudge → Type 0) → Type 0
-OfJudge held IsSo = MatchOption (judge_in held) ⊥ IsSo
+abbrev pub OfJudge : Option Contents → (TableJudge → Type 0) → Type 0
+OfJudge contents IsSo = MatchOption (judge_in contents) ⊥ IsSo
 
 -- the contents of a handle after a call that makes a judge with these tables, or without tables, and limits
-abbrev pub MakesJudge : Option TablesOf → LimitsOf → Option Held → Option Held → Outcome → Type 0
-MakesJudge tables limits old new outcome = Puts (λ held. OfJudge held (λ judge. HasTaken limits judge tables [])) (λ error. error ≡ Memory) old new outcome
+abbrev pub MakesJudge : Option TablesOf → LimitsOf → Option Contents → Option Contents → Outcome → Type 0
+MakesJudge tables limits old new outcome = Puts (λ contents. OfJudge contents (λ judge. HasTaken limits judge tables [])) (λ error. error ≡ Memory) old new outcome
 
 -- the contents of a handle after a call that makes a judge of a BidiCharacterTest.txt with these limits and the tables
 -- of another handle, if that has tables
-abbrev pub MakesTableJudge : Option Held → LimitsOf → Option Held → Option Held → Outcome → Type 0
+abbrev pub MakesTableJudge : Option Contents → LimitsOf → Option Contents → Option Contents → Outcome → Type 0
 MakesTableJudge tables limits old new outcome =
-    Puts (λ held. IsSome (tables_in tables) × OfJudge held (λ judge. HasTaken limits judge (tables_in tables) [])) (RejectsSharing tables) old new outcome
+    Puts (λ contents. IsSome (tables_in tables) × OfJudge contents (λ judge. HasTaken limits judge (tables_in tables) [])) (RejectsSharing tables) old new outcome
 
 -- a call on the judge of a handle: it succeeds, `IsSo` holds of the judge before and after, and only the judge changes;
 -- without a judge it fails, and the handle is unchanged
-pub record AtJudge (IsSo : TableJudge → TableJudge → Type 0) (old new : Option Held) (outcome : Outcome) : Type 0 where
+pub record AtJudge (IsSo : TableJudge → TableJudge → Type 0) (old new : Option Contents) (outcome : Outcome) : Type 0 where
   pub at : MatchOption (judge_in old) ((outcome ≡ Err NoJudge) × (new ≡ old))
-      (λ judge. (outcome ≡ Ok tt) × ((last : TableJudge) × (new ≡ option_map (λ held. with_judge held last) old) × IsSo judge last))
+      (λ judge. (outcome ≡ Ok tt) × ((last : TableJudge) × (new ≡ option_map (λ contents. with_judge contents last) old) × IsSo judge last))
 
 -- the numbers encode the verdict on all bytes that the judge has taken
 abbrev pub IsItsVerdict : TableJudge → BidiVerdict → Type 0
@@ -41,12 +41,12 @@ IsItsVerdict judge numbers =
 
 -- a call that ends the judge of a handle: it succeeds with the verdict, and the handle is empty; without a judge it
 -- fails, and all is unchanged
-pub record EndsJudge (old new : Option Held) (before after : BidiVerdict) (outcome : Outcome) : Type 0 where
+pub record EndsJudge (old new : Option Contents) (before after : BidiVerdict) (outcome : Outcome) : Type 0 where
   pub at : MatchOption (judge_in old) ((outcome ≡ Err NoJudge) × (new ≡ old) × (after ≡ before))
       (λ judge. (outcome ≡ Ok tt) × (new ≡ None) × IsItsVerdict judge after)
 
 -- a call that asks the judge of a handle for its verdict, and may change the judge: it succeeds; without a judge it
 -- fails, and all is unchanged
-pub record Finishes (old new : Option Held) (before after : BidiVerdict) (outcome : Outcome) : Type 0 where
+pub record Finishes (old new : Option Contents) (before after : BidiVerdict) (outcome : Outcome) : Type 0 where
   pub at : MatchOption (judge_in old) ((outcome ≡ Err NoJudge) × (new ≡ old) × (after ≡ before))
       (λ judge. (outcome ≡ Ok tt) × IsItsVerdict judge after)

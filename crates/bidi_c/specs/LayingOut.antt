@@ -8,7 +8,7 @@ use Rattle.for_c.specs.RoomCalls.{LaysOut, PutsLineOf}
 use Rattle.for_c.specs.Statuses.{Outcome}
 use Rattle.for_c.specs.declared.call_error.CallError.TheVariants.{NoRoom}
 use Rattle.bidi_c.specs.AtHandles.{AtBoth, AtRoom, Fails, UnderDirection}
-use Rattle.bidi_c.specs.declared.held.Held.{Held}
+use Rattle.bidi_c.specs.declared.contents.Contents.{Contents}
 
 -- a room needs offsets for the text
 abbrev pub needs_offsets : SourceOf → Bool
@@ -24,12 +24,12 @@ LaysOutUnder source limits number breaks tables =
     UnderDirection number (λ direction. LaysOut (record { source = source; direction = direction; breaks = breaks; limits = limits }) tables)
 
 -- P1 to L2: the contents of the handle of a room before and after a call that lays out a text
-abbrev pub LaysOutText : SourceOf → LimitsOf → ℕ → List ℕ → Option Held → Option Held → Option Held → Outcome → Type 0
+abbrev pub LaysOutText : SourceOf → LimitsOf → ℕ → List ℕ → Option Contents → Option Contents → Option Contents → Outcome → Type 0
 LaysOutText source limits number breaks tables old new outcome =
     AtBoth (needs_offsets source) tables (LaysOutUnder source limits number breaks) old new outcome
 
 -- P1 to L2: of a call that lays out a text of classes, given as numbers; it needs no tables
-abbrev pub LaysOutClasses : List ℕ → LimitsOf → ℕ → List ℕ → Option Held → Option Held → Outcome → Type 0
+abbrev pub LaysOutClasses : List ℕ → LimitsOf → ℕ → List ℕ → Option Contents → Option Contents → Outcome → Type 0
 LaysOutClasses numbers limits number breaks old new outcome =
     AtRoom false (λ room last outcome. (tables : TablesOf) → LaysOutUnder (Classes numbers) limits number breaks tables room last outcome)
     old new outcome

@@ -1,8 +1,8 @@
 -- What handles own, contain and let callers borrow, and what calls on them do.
 pub mod Kept
-pub mod Lent
-pub mod HeldIn
-pub mod HeldAt
+pub mod BorrowedContents
+pub mod ContentsIn
+pub mod ContentsAt
 pub mod AtHandles
 pub mod LayingOut
 pub mod Sharing

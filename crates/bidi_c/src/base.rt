@@ -1,11 +1,11 @@
 //! The direction of a text, without a layout.
 ghost use Rattle.std.specs.Prelude.{◌≡◌};
-ghost use Rattle.decoding.specs.declared.fault.Faults.TheVariants.{Refused};
+ghost use Rattle.decoding.specs.declared.fault.Faults.TheVariants.{Rejected};
 ghost use Rattle.sources.specs.Seen.{source_seen};
 ghost use Rattle.sources.specs.Sources.{Codes, Utf16, Utf8};
-ghost use Rattle.for_c.specs.Statuses.{AnswersNaming, place_named};
+ghost use Rattle.for_c.specs.Statuses.{ReturnsStatusNaming, place_named};
 ghost use Rattle.bidi_c.specs.BaseAt.{PutsBaseLevelAt, PutsBaseLevelsAt, PutsLeftToRightAt};
-ghost use Rattle.bidi_c.specs.HeldAt.{held_at, tables_at};
+ghost use Rattle.bidi_c.specs.ContentsAt.{contents_at, tables_at};
 
 use crate::bidi_handle::BidiHandle;
 use crate::putting::put;
@@ -14,14 +14,14 @@ use for_c::base::{base_level_of, left_to_right, write_base_levels};
 use for_c::call_error::{CallError, status_and_place};
 use sources::source::Source;
 
-#[tactic(auto, using(crate::proofs::Needed::not_found))]
+#[tactic(auto, using(crate::proofs::Needed::not_contained))]
 fn base_level(
     tables: &mut BidiHandle,
     source: Source<'_>,
     direction: u32,
     level: &mut u8,
 ) -> Result<(), CallError>
-    ensures tables { held_at tables.new ≡ held_at tables.old }
+    ensures tables { contents_at tables.new ≡ contents_at tables.old }
     ensures level { PutsBaseLevelAt (tables_at tables.old) (source_seen source.entry) direction level.old level.new
         result }
 {
@@ -39,7 +39,7 @@ fn base_levels(
     levels: &mut [u8],
     count: &mut usize,
 ) -> Result<(), CallError>
-    ensures tables { held_at tables.new ≡ held_at tables.old }
+    ensures tables { contents_at tables.new ≡ contents_at tables.old }
     ensures levels { PutsBaseLevelsAt (tables_at tables.old) (source_seen source.entry) direction levels.old levels.new
         count.old count.new result }
 {
@@ -49,13 +49,13 @@ fn base_levels(
     }
 }
 
-#[tactic(auto, using(crate::proofs::Needed::not_found))]
+#[tactic(auto, using(crate::proofs::Needed::not_contained))]
 fn is_left_to_right(
     tables: &mut BidiHandle,
     source: Source<'_>,
     stays: &mut u8,
 ) -> Result<(), CallError>
-    ensures tables { held_at tables.new ≡ held_at tables.old }
+    ensures tables { contents_at tables.new ≡ contents_at tables.old }
     ensures stays { PutsLeftToRightAt (tables_at tables.old) (source_seen source.entry) stays.old stays.new result }
 {
     match tables.tables() {
@@ -74,8 +74,8 @@ pub extern "C" fn bidi_base_level(
     level: &mut u8,
     place: &mut u64,
 ) -> u32
-    ensures tables { held_at tables.new ≡ held_at tables.old }
-    ensures level { AnswersNaming place_named (PutsBaseLevelAt (tables_at tables.old) (Codes codes.now) direction
+    ensures tables { contents_at tables.new ≡ contents_at tables.old }
+    ensures level { ReturnsStatusNaming place_named (PutsBaseLevelAt (tables_at tables.old) (Codes codes.now) direction
         level.old level.new) result place.old place.new }
 {
     let source = Source::Codes(codes);
@@ -94,8 +94,8 @@ pub extern "C" fn bidi_base_levels(
     count: &mut usize,
     place: &mut u64,
 ) -> u32
-    ensures tables { held_at tables.new ≡ held_at tables.old }
-    ensures levels { AnswersNaming place_named (PutsBaseLevelsAt (tables_at tables.old) (Codes codes.now) direction
+    ensures tables { contents_at tables.new ≡ contents_at tables.old }
+    ensures levels { ReturnsStatusNaming place_named (PutsBaseLevelsAt (tables_at tables.old) (Codes codes.now) direction
         levels.old levels.new count.old count.new) result place.old place.new }
 {
     let source = Source::Codes(codes);
@@ -112,8 +112,8 @@ pub extern "C" fn bidi_is_left_to_right(
     stays: &mut u8,
     place: &mut u64,
 ) -> u32
-    ensures tables { held_at tables.new ≡ held_at tables.old }
-    ensures stays { AnswersNaming place_named (PutsLeftToRightAt (tables_at tables.old) (Codes codes.now)
+    ensures tables { contents_at tables.new ≡ contents_at tables.old }
+    ensures stays { ReturnsStatusNaming place_named (PutsLeftToRightAt (tables_at tables.old) (Codes codes.now)
         stays.old stays.new) result place.old place.new }
 {
     let source = Source::Codes(codes);
@@ -130,11 +130,11 @@ pub extern "C" fn bidi_base_level_utf8(
     level: &mut u8,
     place: &mut u64,
 ) -> u32
-    ensures tables { held_at tables.new ≡ held_at tables.old }
-    ensures level { AnswersNaming place_named (PutsBaseLevelAt (tables_at tables.old) (Utf8 text.now Refused) direction
+    ensures tables { contents_at tables.new ≡ contents_at tables.old }
+    ensures level { ReturnsStatusNaming place_named (PutsBaseLevelAt (tables_at tables.old) (Utf8 text.now Rejected) direction
         level.old level.new) result place.old place.new }
 {
-    let source = Source::Utf8(text, Faults::Refused);
+    let source = Source::Utf8(text, Faults::Rejected);
     status_and_place(base_level(tables, source, direction, level), place)
 }
 
@@ -150,11 +150,11 @@ pub extern "C" fn bidi_base_levels_utf8(
     count: &mut usize,
     place: &mut u64,
 ) -> u32
-    ensures tables { held_at tables.new ≡ held_at tables.old }
-    ensures levels { AnswersNaming place_named (PutsBaseLevelsAt (tables_at tables.old) (Utf8 text.now Refused)
+    ensures tables { contents_at tables.new ≡ contents_at tables.old }
+    ensures levels { ReturnsStatusNaming place_named (PutsBaseLevelsAt (tables_at tables.old) (Utf8 text.now Rejected)
         direction levels.old levels.new count.old count.new) result place.old place.new }
 {
-    let source = Source::Utf8(text, Faults::Refused);
+    let source = Source::Utf8(text, Faults::Rejected);
     status_and_place(base_levels(tables, source, direction, levels, count), place)
 }
 
@@ -168,11 +168,11 @@ pub extern "C" fn bidi_is_left_to_right_utf8(
     stays: &mut u8,
     place: &mut u64,
 ) -> u32
-    ensures tables { held_at tables.new ≡ held_at tables.old }
-    ensures stays { AnswersNaming place_named (PutsLeftToRightAt (tables_at tables.old) (Utf8 text.now Refused)
+    ensures tables { contents_at tables.new ≡ contents_at tables.old }
+    ensures stays { ReturnsStatusNaming place_named (PutsLeftToRightAt (tables_at tables.old) (Utf8 text.now Rejected)
         stays.old stays.new) result place.old place.new }
 {
-    let source = Source::Utf8(text, Faults::Refused);
+    let source = Source::Utf8(text, Faults::Rejected);
     status_and_place(is_left_to_right(tables, source, stays), place)
 }
 
@@ -186,11 +186,11 @@ pub extern "C" fn bidi_base_level_utf16(
     level: &mut u8,
     place: &mut u64,
 ) -> u32
-    ensures tables { held_at tables.new ≡ held_at tables.old }
-    ensures level { AnswersNaming place_named (PutsBaseLevelAt (tables_at tables.old) (Utf16 text.now Refused) direction
+    ensures tables { contents_at tables.new ≡ contents_at tables.old }
+    ensures level { ReturnsStatusNaming place_named (PutsBaseLevelAt (tables_at tables.old) (Utf16 text.now Rejected) direction
         level.old level.new) result place.old place.new }
 {
-    let source = Source::Utf16(text, Faults::Refused);
+    let source = Source::Utf16(text, Faults::Rejected);
     status_and_place(base_level(tables, source, direction, level), place)
 }
 
@@ -206,11 +206,11 @@ pub extern "C" fn bidi_base_levels_utf16(
     count: &mut usize,
     place: &mut u64,
 ) -> u32
-    ensures tables { held_at tables.new ≡ held_at tables.old }
-    ensures levels { AnswersNaming place_named (PutsBaseLevelsAt (tables_at tables.old) (Utf16 text.now Refused)
+    ensures tables { contents_at tables.new ≡ contents_at tables.old }
+    ensures levels { ReturnsStatusNaming place_named (PutsBaseLevelsAt (tables_at tables.old) (Utf16 text.now Rejected)
         direction levels.old levels.new count.old count.new) result place.old place.new }
 {
-    let source = Source::Utf16(text, Faults::Refused);
+    let source = Source::Utf16(text, Faults::Rejected);
     status_and_place(base_levels(tables, source, direction, levels, count), place)
 }
 
@@ -224,10 +224,10 @@ pub extern "C" fn bidi_is_left_to_right_utf16(
     stays: &mut u8,
     place: &mut u64,
 ) -> u32
-    ensures tables { held_at tables.new ≡ held_at tables.old }
-    ensures stays { AnswersNaming place_named (PutsLeftToRightAt (tables_at tables.old) (Utf16 text.now Refused)
+    ensures tables { contents_at tables.new ≡ contents_at tables.old }
+    ensures stays { ReturnsStatusNaming place_named (PutsLeftToRightAt (tables_at tables.old) (Utf16 text.now Rejected)
         stays.old stays.new) result place.old place.new }
 {
-    let source = Source::Utf16(text, Faults::Refused);
+    let source = Source::Utf16(text, Faults::Rejected);
     status_and_place(is_left_to_right(tables, source, stays), place)
 }

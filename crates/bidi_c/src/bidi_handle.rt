@@ -5,7 +5,7 @@ ghost use Rattle.for_c.specs.Statuses.{Puts};
 ghost use Rattle.for_c.specs.declared.call_error.CallError.TheVariants.{Memory};
 
 use crate::handle::Handle;
-use crate::held::Held;
+use crate::contents::Contents;
 use for_c::call_error::CallError;
 use std::alloc::Global;
 use ucdfiles::tables::Tables;
@@ -15,12 +15,12 @@ use ucdfiles::tables::Tables;
 pub struct BidiHandle {
     pub handle: Handle,
     made: bool,
-    ghost tells: { (made ≡ true) ↔ IsSome handle.value },
+    ghost made_iff_some: { (made ≡ true) ↔ IsSome handle.value },
 }
 
 impl BidiHandle {
-    ghost use Rattle.bidi_c.specs.HeldIn.{tables_in};
-    ghost use Rattle.bidi_c.specs.Lent.{LendsHeldIf, LendsNothing};
+    ghost use Rattle.bidi_c.specs.ContentsIn.{tables_in};
+    ghost use Rattle.bidi_c.specs.BorrowedContents.{BorrowsContentsIf, EndsUnchanged};
 
     fn none(alloc: Global) -> BidiHandle
         ensures { result.handle.value ≡ None }
@@ -31,23 +31,23 @@ impl BidiHandle {
         }
     }
 
-    fn of(held: Box<Held>) -> BidiHandle
-        ensures { result.handle.value ≡ Some held.value }
+    fn of(contents: Box<Contents>) -> BidiHandle
+        ensures { result.handle.value ≡ Some contents.value }
     {
         BidiHandle {
-            handle: Handle::of(held),
+            handle: Handle::of(contents),
             made: true,
         }
     }
 
     /// Borrows its contents, unless it is empty.
-    pub(crate) fn held(&mut self) -> Option<&mut Held>
-        ensures* writes_back { sem 𝓛 (LendsHeldIf self.entry result) }
+    pub(crate) fn contents(&mut self) -> Option<&mut Contents>
+        ensures* writes_back { sem 𝓛 (BorrowsContentsIf self.entry result) }
         ensures value { MatchOption result (self.old.handle.value ≡ None)
-            (λ held. self.old.handle.value ≡ Some held.now) }
+            (λ contents. self.old.handle.value ≡ Some contents.now) }
     {
         if self.made {
-            Some(unsafe { &mut *(self.handle.at as *mut Held) })
+            Some(unsafe { &mut *(self.handle.at as *mut Contents) })
         } else {
             None
         }
@@ -55,14 +55,14 @@ impl BidiHandle {
 
     /// Borrows the tables, if it contains tables.
     pub(crate) fn tables(&mut self) -> Option<&Tables>
-        ensures* unchanged { sem 𝓛 (LendsNothing self.entry) }
+        ensures* unchanged { sem 𝓛 (EndsUnchanged self.entry) }
         ensures value { MatchOption result (tables_in self.old.handle.value ≡ None)
             (λ tables. tables_in self.old.handle.value ≡ Some tables.now) }
     {
-        let Some(held) = self.held() else {
+        let Some(contents) = self.contents() else {
             return None;
         };
-        held.tables()
+        contents.tables()
     }
 
     /// Frees its contents.
@@ -72,14 +72,14 @@ impl BidiHandle {
         *self = BidiHandle::none(alloc);
     }
 
-    /// Replaces its contents by `held`, and frees what it contained before. Fails with `Memory`; then it is unchanged.
-    pub(crate) fn hold(&mut self, alloc: Global, held: Held) -> Result<(), CallError>
-        ensures { Puts (λ new. new ≡ Some held) (λ error. error ≡ Memory) self.old.handle.value
+    /// Replaces its contents by `contents`, and frees what it contained before. Fails with `Memory`; then it is unchanged.
+    pub(crate) fn hold(&mut self, alloc: Global, contents: Contents) -> Result<(), CallError>
+        ensures { Puts (λ new. new ≡ Some contents) (λ error. error ≡ Memory) self.old.handle.value
             self.new.handle.value result }
     {
-        match Box::new(alloc, held) {
-            Ok(held) => {
-                *self = BidiHandle::of(held);
+        match Box::new(alloc, contents) {
+            Ok(contents) => {
+                *self = BidiHandle::of(contents);
                 Ok(())
             }
             Err(_) => Err(CallError::Memory),

@@ -10,9 +10,9 @@ ghost use Rattle.for_c.specs.LineRuns.{WritesRuns};
 ghost use Rattle.for_c.specs.Positions.{RejectsLine};
 ghost use Rattle.for_c.specs.Runs.{RejectsRun};
 ghost use Rattle.for_c.specs.Shown.{WritesNothing};
-ghost use Rattle.for_c.specs.Statuses.{Answers, Puts};
+ghost use Rattle.for_c.specs.Statuses.{ReturnsStatus, Puts};
 ghost use Rattle.bidi_c.specs.AtHandles.{AtARoom};
-ghost use Rattle.bidi_c.specs.HeldAt.{encoded_at, held_at, tables_at};
+ghost use Rattle.bidi_c.specs.ContentsAt.{encoded_at, contents_at, tables_at};
 ghost use Rattle.bidi_c.specs.ShownAt.{WritesUnitsAt};
 
 use crate::bidi_handle::BidiHandle;
@@ -31,13 +31,13 @@ use for_c::shown::{write_shown_utf8, write_shown_utf16};
 /// number of characters. Returns 0 without a room for code units.
 #[unsafe(no_mangle)]
 pub extern "C" fn bidi_index_of(room: &mut BidiHandle, at: usize) -> usize
-    ensures room { held_at room.new ≡ held_at room.old }
+    ensures room { contents_at room.new ≡ contents_at room.old }
     ensures index { MatchOption (encoded_at room.old) (result ≡ 0) (λ room. IsIndexAt room at result) }
 {
-    let Some(held) = room.held() else {
+    let Some(contents) = room.contents() else {
         return 0;
     };
-    match held.room_for(true) {
+    match contents.room_for(true) {
         Some(room) => index_at(room, at),
         None => 0,
     }
@@ -47,14 +47,14 @@ pub extern "C" fn bidi_index_of(room: &mut BidiHandle, at: usize) -> usize
 /// text's end. Returns 0 without a room for code units.
 #[unsafe(no_mangle)]
 pub extern "C" fn bidi_offset_of(room: &mut BidiHandle, index: usize) -> usize
-    ensures room { held_at room.new ≡ held_at room.old }
+    ensures room { contents_at room.new ≡ contents_at room.old }
     ensures offset { MatchOption (encoded_at room.old) (result ≡ 0)
         (λ room. result ≡ offset_in room (min index (characters_in room))) }
 {
-    let Some(held) = room.held() else {
+    let Some(contents) = room.contents() else {
         return 0;
     };
-    match held.room_for(true) {
+    match contents.room_for(true) {
         Some(room) => offset_at(room, index),
         None => 0,
     }
@@ -64,13 +64,13 @@ pub extern "C" fn bidi_offset_of(room: &mut BidiHandle, index: usize) -> usize
 /// (X9), from the text's end on, and without a room for code units.
 #[unsafe(no_mangle)]
 pub extern "C" fn bidi_level_at(room: &mut BidiHandle, at: usize) -> u8
-    ensures room { held_at room.new ≡ held_at room.old }
+    ensures room { contents_at room.new ≡ contents_at room.old }
     ensures level { MatchOption (encoded_at room.old) (result ≡ 255) (λ room. IsLevelByteAt room at result) }
 {
-    let Some(held) = room.held() else {
+    let Some(contents) = room.contents() else {
         return 255;
     };
-    match held.room_for(true) {
+    match contents.room_for(true) {
         Some(room) => level_byte_at(room, at),
         None => 255,
     }
@@ -79,16 +79,16 @@ pub extern "C" fn bidi_level_at(room: &mut BidiHandle, at: usize) -> u8
 /// Writes the line with the number `k`, counted from 0, to `line`: the offsets at which it begins and ends, and how
 /// many of its characters are shown. If there is none, `line` is unchanged.
 #[unsafe(no_mangle)]
-#[tactic(auto, using(crate::proofs::Needed::no_room, crate::proofs::Needed::not_found))]
+#[tactic(auto, using(crate::proofs::Needed::no_room, crate::proofs::Needed::not_contained))]
 pub extern "C" fn bidi_encoded_line(room: &mut BidiHandle, k: usize, line: &mut BidiLine) -> u32
-    ensures room { held_at room.new ≡ held_at room.old }
-    ensures line { Answers (AtARoom (encoded_at room.old)
+    ensures room { contents_at room.new ≡ contents_at room.old }
+    ensures line { ReturnsStatus (AtARoom (encoded_at room.old)
         (λ room. Puts (IsUnitLine room k) (RejectsLine room.layout k)) line.old line.new) result }
 {
-    let Some(held) = room.held() else {
+    let Some(contents) = room.contents() else {
         return status(Err(CallError::NoRoom));
     };
-    match held.room_for(true) {
+    match contents.room_for(true) {
         Some(room) => status(put(unit_line_at(room, k), line)),
         None => status(Err(CallError::NoRoom)),
     }
@@ -98,14 +98,14 @@ pub extern "C" fn bidi_encoded_line(room: &mut BidiHandle, k: usize, line: &mut 
 /// if the character was removed (X9). Returns how many there are, 0 without a room for code units.
 #[unsafe(no_mangle)]
 pub extern "C" fn bidi_encoded_levels(room: &mut BidiHandle, levels: &mut [u8]) -> usize
-    ensures room { held_at room.new ≡ held_at room.old }
+    ensures room { contents_at room.new ≡ contents_at room.old }
     ensures levels { MatchOption (encoded_at room.old) (WritesNothing result levels.old levels.new)
         (λ room. WritesLevelBytes room result levels.old levels.new) }
 {
-    let Some(held) = room.held() else {
+    let Some(contents) = room.contents() else {
         return 0;
     };
-    match held.room_for(true) {
+    match contents.room_for(true) {
         Some(room) => write_level_bytes(room, levels),
         None => 0,
     }
@@ -115,14 +115,14 @@ pub extern "C" fn bidi_encoded_levels(room: &mut BidiHandle, levels: &mut [u8]) 
 /// `order`, if all fit there. Returns how many there are, 0 without such a line or a room for code units.
 #[unsafe(no_mangle)]
 pub extern "C" fn bidi_encoded_order(room: &mut BidiHandle, k: usize, order: &mut [usize]) -> usize
-    ensures room { held_at room.new ≡ held_at room.old }
+    ensures room { contents_at room.new ≡ contents_at room.old }
     ensures order { MatchOption (encoded_at room.old) (WritesNothing result order.old order.new)
         (λ room. WritesWhole (line_in room k).order result order.old order.new) }
 {
-    let Some(held) = room.held() else {
+    let Some(contents) = room.contents() else {
         return 0;
     };
-    match held.room_for(true) {
+    match contents.room_for(true) {
         Some(room) => write_unit_order(room, k, order),
         None => 0,
     }
@@ -131,21 +131,21 @@ pub extern "C" fn bidi_encoded_order(room: &mut BidiHandle, k: usize, order: &mu
 /// Writes the run of the line with the number `k` that begins at the place `from` to `run`, as `bidi_run` does, but
 /// with its beginning and its length in code units.
 #[unsafe(no_mangle)]
-#[tactic(auto, using(crate::proofs::Needed::no_room, crate::proofs::Needed::not_found))]
+#[tactic(auto, using(crate::proofs::Needed::no_room, crate::proofs::Needed::not_contained))]
 pub extern "C" fn bidi_encoded_run(
     room: &mut BidiHandle,
     k: usize,
     from: usize,
     run: &mut BidiRun,
 ) -> u32
-    ensures room { held_at room.new ≡ held_at room.old }
-    ensures run { Answers (AtARoom (encoded_at room.old)
+    ensures room { contents_at room.new ≡ contents_at room.old }
+    ensures run { ReturnsStatus (AtARoom (encoded_at room.old)
         (λ room. Puts (IsUnitRun room k from) (RejectsRun room.layout k from)) run.old run.new) result }
 {
-    let Some(held) = room.held() else {
+    let Some(contents) = room.contents() else {
         return status(Err(CallError::NoRoom));
     };
-    match held.room_for(true) {
+    match contents.room_for(true) {
         Some(room) => status(put(unit_run_of(room, k, from), run)),
         None => status(Err(CallError::NoRoom)),
     }
@@ -155,14 +155,14 @@ pub extern "C" fn bidi_encoded_run(
 /// lengths in code units. Returns how many there are, 0 without such a line or a room for code units.
 #[unsafe(no_mangle)]
 pub extern "C" fn bidi_encoded_runs(room: &mut BidiHandle, k: usize, runs: &mut [BidiRun]) -> usize
-    ensures room { held_at room.new ≡ held_at room.old }
+    ensures room { contents_at room.new ≡ contents_at room.old }
     ensures runs { MatchOption (encoded_at room.old) (WritesNothing result runs.old runs.new)
         (λ room. WritesRuns room true k result runs.old runs.new) }
 {
-    let Some(held) = room.held() else {
+    let Some(contents) = room.contents() else {
         return 0;
     };
-    match held.room_for(true) {
+    match contents.room_for(true) {
         Some(room) => write_runs(room, k, true, runs),
         None => 0,
     }
@@ -177,14 +177,14 @@ pub extern "C" fn bidi_encoded_places(
     k: usize,
     places: &mut [usize],
 ) -> usize
-    ensures room { held_at room.new ≡ held_at room.old }
+    ensures room { contents_at room.new ≡ contents_at room.old }
     ensures places { MatchOption (encoded_at room.old) (WritesNothing result places.old places.new)
         (λ room. WritesUnitPlaces room k result places.old places.new) }
 {
-    let Some(held) = room.held() else {
+    let Some(contents) = room.contents() else {
         return 0;
     };
-    match held.room_for(true) {
+    match contents.room_for(true) {
         Some(room) => write_unit_places(room, k, places),
         None => 0,
     }
@@ -194,13 +194,13 @@ pub extern "C" fn bidi_encoded_places(
 /// and without a room for code units.
 #[unsafe(no_mangle)]
 pub extern "C" fn bidi_encoded_para_level_at(room: &mut BidiHandle, at: usize) -> u8
-    ensures room { held_at room.new ≡ held_at room.old }
+    ensures room { contents_at room.new ≡ contents_at room.old }
     ensures level { MatchOption (encoded_at room.old) (result ≡ 255) (λ room. IsParaByteAt room at result) }
 {
-    let Some(held) = room.held() else {
+    let Some(contents) = room.contents() else {
         return 255;
     };
-    match held.room_for(true) {
+    match contents.room_for(true) {
         Some(room) => para_byte_at(room, at),
         None => 255,
     }
@@ -217,15 +217,15 @@ pub extern "C" fn bidi_encoded_shown_utf8(
     k: usize,
     shown: &mut [u8],
 ) -> usize
-    ensures room { held_at room.new ≡ held_at room.old }
-    ensures tables { held_at tables.new ≡ held_at tables.old }
+    ensures room { contents_at room.new ≡ contents_at room.old }
+    ensures tables { contents_at tables.new ≡ contents_at tables.old }
     ensures shown { WritesUnitsAt shown_utf8 (encoded_at room.old) (tables_at tables.old) text.now k
         result shown.old shown.new }
 {
-    let Some(held) = room.held() else {
+    let Some(contents) = room.contents() else {
         return 0;
     };
-    let Some(room) = held.room_for(true) else {
+    let Some(room) = contents.room_for(true) else {
         return 0;
     };
     match tables.tables() {
@@ -245,15 +245,15 @@ pub extern "C" fn bidi_encoded_shown_utf16(
     k: usize,
     shown: &mut [u16],
 ) -> usize
-    ensures room { held_at room.new ≡ held_at room.old }
-    ensures tables { held_at tables.new ≡ held_at tables.old }
+    ensures room { contents_at room.new ≡ contents_at room.old }
+    ensures tables { contents_at tables.new ≡ contents_at tables.old }
     ensures shown { WritesUnitsAt shown_utf16 (encoded_at room.old) (tables_at tables.old) text.now k
         result shown.old shown.new }
 {
-    let Some(held) = room.held() else {
+    let Some(contents) = room.contents() else {
         return 0;
     };
-    let Some(room) = held.room_for(true) else {
+    let Some(room) = contents.room_for(true) else {
         return 0;
     };
     match tables.tables() {

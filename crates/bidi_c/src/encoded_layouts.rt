@@ -1,14 +1,14 @@
 //! Texts in code units laid out, and broken into lines again.
 ghost use Rattle.std.specs.Prelude.{◌≡◌, true};
 ghost use Rattle.units.specs.Limits.{standard};
-ghost use Rattle.decoding.specs.declared.fault.Faults.TheVariants.{Refused, Replaced};
+ghost use Rattle.decoding.specs.declared.fault.Faults.TheVariants.{Rejected, Replaced};
 ghost use Rattle.sources.specs.Seen.{source_seen};
 ghost use Rattle.sources.specs.Sources.{Utf16, Utf8};
 ghost use Rattle.for_c.specs.LimitsGiven.{ByLimits};
 ghost use Rattle.for_c.specs.RoomCalls.{SetsLines};
-ghost use Rattle.for_c.specs.Statuses.{Answers, AnswersNaming, place_named};
+ghost use Rattle.for_c.specs.Statuses.{ReturnsStatus, ReturnsStatusNaming, place_named};
 ghost use Rattle.bidi_c.specs.AtHandles.{AtRoom};
-ghost use Rattle.bidi_c.specs.HeldAt.{encoded_at, held_at};
+ghost use Rattle.bidi_c.specs.ContentsAt.{encoded_at, contents_at};
 ghost use Rattle.bidi_c.specs.LayingOut.{AtLineOf, LaysOutText};
 
 use crate::bidi_handle::BidiHandle;
@@ -29,9 +29,9 @@ fn lay_out_text(
     breaks: &[usize],
     limits: Limits,
 ) -> Result<(), CallError>
-    ensures tables { held_at tables.new ≡ held_at tables.old }
-    ensures room { LaysOutText (source_seen source.entry) limits direction breaks.now (held_at tables.old)
-        (held_at room.old) (held_at room.new) result }
+    ensures tables { contents_at tables.new ≡ contents_at tables.old }
+    ensures room { LaysOutText (source_seen source.entry) limits direction breaks.now (contents_at tables.old)
+        (contents_at room.old) (contents_at room.new) result }
 {
     lay_out(room, tables, source, direction, breaks, limits)
 }
@@ -44,9 +44,9 @@ fn lay_out_text_with(
     breaks: &[usize],
     limits: BidiLimits,
 ) -> Result<(), CallError>
-    ensures tables { held_at tables.new ≡ held_at tables.old }
+    ensures tables { contents_at tables.new ≡ contents_at tables.old }
     ensures room { ByLimits limits (λ limits. LaysOutText (source_seen source.entry) limits direction breaks.now
-        (held_at tables.old)) (held_at room.old) (held_at room.new) result }
+        (contents_at tables.old)) (contents_at room.old) (contents_at room.new) result }
 {
     let allowed = limits.allowed()?;
     lay_out_text(room, tables, source, direction, breaks, allowed)
@@ -64,11 +64,11 @@ pub extern "C" fn bidi_lay_out_utf8(
     breaks: &[usize],
     place: &mut u64,
 ) -> u32
-    ensures tables { held_at tables.new ≡ held_at tables.old }
-    ensures room { AnswersNaming place_named (LaysOutText (Utf8 text.now Refused) standard direction breaks.now
-        (held_at tables.old) (held_at room.old) (held_at room.new)) result place.old place.new }
+    ensures tables { contents_at tables.new ≡ contents_at tables.old }
+    ensures room { ReturnsStatusNaming place_named (LaysOutText (Utf8 text.now Rejected) standard direction breaks.now
+        (contents_at tables.old) (contents_at room.old) (contents_at room.new)) result place.old place.new }
 {
-    let source = Source::Utf8(text, Faults::Refused);
+    let source = Source::Utf8(text, Faults::Rejected);
     let done = lay_out_text(room, tables, source, direction, breaks, Limits::standard());
     status_and_place(done, place)
 }
@@ -84,12 +84,12 @@ pub extern "C" fn bidi_lay_out_utf8_with(
     limits: BidiLimits,
     place: &mut u64,
 ) -> u32
-    ensures tables { held_at tables.new ≡ held_at tables.old }
-    ensures room { AnswersNaming place_named (ByLimits limits (λ limits. LaysOutText (Utf8 text.now Refused)
-        limits direction breaks.now (held_at tables.old)) (held_at room.old) (held_at room.new))
+    ensures tables { contents_at tables.new ≡ contents_at tables.old }
+    ensures room { ReturnsStatusNaming place_named (ByLimits limits (λ limits. LaysOutText (Utf8 text.now Rejected)
+        limits direction breaks.now (contents_at tables.old)) (contents_at room.old) (contents_at room.new))
         result place.old place.new }
 {
-    let source = Source::Utf8(text, Faults::Refused);
+    let source = Source::Utf8(text, Faults::Rejected);
     let done = lay_out_text_with(room, tables, source, direction, breaks, limits);
     status_and_place(done, place)
 }
@@ -105,9 +105,9 @@ pub extern "C" fn bidi_lay_out_utf8_lossy(
     breaks: &[usize],
     place: &mut u64,
 ) -> u32
-    ensures tables { held_at tables.new ≡ held_at tables.old }
-    ensures room { AnswersNaming place_named (LaysOutText (Utf8 text.now Replaced) standard direction breaks.now
-        (held_at tables.old) (held_at room.old) (held_at room.new)) result place.old place.new }
+    ensures tables { contents_at tables.new ≡ contents_at tables.old }
+    ensures room { ReturnsStatusNaming place_named (LaysOutText (Utf8 text.now Replaced) standard direction breaks.now
+        (contents_at tables.old) (contents_at room.old) (contents_at room.new)) result place.old place.new }
 {
     let source = Source::Utf8(text, Faults::Replaced);
     let done = lay_out_text(room, tables, source, direction, breaks, Limits::standard());
@@ -125,9 +125,9 @@ pub extern "C" fn bidi_lay_out_utf8_lossy_with(
     limits: BidiLimits,
     place: &mut u64,
 ) -> u32
-    ensures tables { held_at tables.new ≡ held_at tables.old }
-    ensures room { AnswersNaming place_named (ByLimits limits (λ limits. LaysOutText (Utf8 text.now Replaced)
-        limits direction breaks.now (held_at tables.old)) (held_at room.old) (held_at room.new))
+    ensures tables { contents_at tables.new ≡ contents_at tables.old }
+    ensures room { ReturnsStatusNaming place_named (ByLimits limits (λ limits. LaysOutText (Utf8 text.now Replaced)
+        limits direction breaks.now (contents_at tables.old)) (contents_at room.old) (contents_at room.new))
         result place.old place.new }
 {
     let source = Source::Utf8(text, Faults::Replaced);
@@ -146,11 +146,11 @@ pub extern "C" fn bidi_lay_out_utf16(
     breaks: &[usize],
     place: &mut u64,
 ) -> u32
-    ensures tables { held_at tables.new ≡ held_at tables.old }
-    ensures room { AnswersNaming place_named (LaysOutText (Utf16 text.now Refused) standard direction breaks.now
-        (held_at tables.old) (held_at room.old) (held_at room.new)) result place.old place.new }
+    ensures tables { contents_at tables.new ≡ contents_at tables.old }
+    ensures room { ReturnsStatusNaming place_named (LaysOutText (Utf16 text.now Rejected) standard direction breaks.now
+        (contents_at tables.old) (contents_at room.old) (contents_at room.new)) result place.old place.new }
 {
-    let source = Source::Utf16(text, Faults::Refused);
+    let source = Source::Utf16(text, Faults::Rejected);
     let done = lay_out_text(room, tables, source, direction, breaks, Limits::standard());
     status_and_place(done, place)
 }
@@ -166,12 +166,12 @@ pub extern "C" fn bidi_lay_out_utf16_with(
     limits: BidiLimits,
     place: &mut u64,
 ) -> u32
-    ensures tables { held_at tables.new ≡ held_at tables.old }
-    ensures room { AnswersNaming place_named (ByLimits limits (λ limits. LaysOutText (Utf16 text.now Refused)
-        limits direction breaks.now (held_at tables.old)) (held_at room.old) (held_at room.new))
+    ensures tables { contents_at tables.new ≡ contents_at tables.old }
+    ensures room { ReturnsStatusNaming place_named (ByLimits limits (λ limits. LaysOutText (Utf16 text.now Rejected)
+        limits direction breaks.now (contents_at tables.old)) (contents_at room.old) (contents_at room.new))
         result place.old place.new }
 {
-    let source = Source::Utf16(text, Faults::Refused);
+    let source = Source::Utf16(text, Faults::Rejected);
     let done = lay_out_text_with(room, tables, source, direction, breaks, limits);
     status_and_place(done, place)
 }
@@ -186,9 +186,9 @@ pub extern "C" fn bidi_lay_out_utf16_lossy(
     breaks: &[usize],
     place: &mut u64,
 ) -> u32
-    ensures tables { held_at tables.new ≡ held_at tables.old }
-    ensures room { AnswersNaming place_named (LaysOutText (Utf16 text.now Replaced) standard direction breaks.now
-        (held_at tables.old) (held_at room.old) (held_at room.new)) result place.old place.new }
+    ensures tables { contents_at tables.new ≡ contents_at tables.old }
+    ensures room { ReturnsStatusNaming place_named (LaysOutText (Utf16 text.now Replaced) standard direction breaks.now
+        (contents_at tables.old) (contents_at room.old) (contents_at room.new)) result place.old place.new }
 {
     let source = Source::Utf16(text, Faults::Replaced);
     let done = lay_out_text(room, tables, source, direction, breaks, Limits::standard());
@@ -206,9 +206,9 @@ pub extern "C" fn bidi_lay_out_utf16_lossy_with(
     limits: BidiLimits,
     place: &mut u64,
 ) -> u32
-    ensures tables { held_at tables.new ≡ held_at tables.old }
-    ensures room { AnswersNaming place_named (ByLimits limits (λ limits. LaysOutText (Utf16 text.now Replaced)
-        limits direction breaks.now (held_at tables.old)) (held_at room.old) (held_at room.new))
+    ensures tables { contents_at tables.new ≡ contents_at tables.old }
+    ensures room { ReturnsStatusNaming place_named (ByLimits limits (λ limits. LaysOutText (Utf16 text.now Replaced)
+        limits direction breaks.now (contents_at tables.old)) (contents_at room.old) (contents_at room.new))
         result place.old place.new }
 {
     let source = Source::Utf16(text, Faults::Replaced);
@@ -224,7 +224,7 @@ pub extern "C" fn bidi_encoded_set_lines(
     breaks: &[usize],
     place: &mut u64,
 ) -> u32
-    ensures { AnswersNaming place_named (AtRoom true (SetsLines breaks.now) (held_at room.old) (held_at room.new))
+    ensures { ReturnsStatusNaming place_named (AtRoom true (SetsLines breaks.now) (contents_at room.old) (contents_at room.new))
         result place.old place.new }
 {
     status_and_place(set_lines(room, true, breaks), place)
@@ -243,8 +243,8 @@ pub extern "C" fn bidi_encoded_line_of(
     order: &mut [usize],
     shown: &mut usize,
 ) -> u32
-    ensures room { held_at room.new ≡ held_at room.old }
-    ensures line { Answers (AtLineOf (encoded_at room.old) start end levels.old levels.new order.old order.new
+    ensures room { contents_at room.new ≡ contents_at room.old }
+    ensures line { ReturnsStatus (AtLineOf (encoded_at room.old) start end levels.old levels.new order.old order.new
         shown.old shown.new) result }
 {
     status(line_of(room, true, start..end, levels, order, shown))

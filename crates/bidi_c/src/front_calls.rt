@@ -5,11 +5,11 @@ ghost use Rattle.sources.specs.Sources.{Classes};
 ghost use Rattle.ucdfiles.specs.Tables.{TablesOf};
 ghost use Rattle.for_c.specs.Base.{IsBaseLevel, RejectsBase};
 ghost use Rattle.for_c.specs.Fronts.{RejectsLevels, RejectsLine, Reorders, ResetsLine};
-ghost use Rattle.for_c.specs.Statuses.{AnswersNaming, Puts, place_named};
+ghost use Rattle.for_c.specs.Statuses.{ReturnsStatusNaming, Puts, place_named};
 ghost use Rattle.for_c.specs.LevelBytes.{level_byte};
 ghost use Rattle.room.specs.Written.{WritesWhole};
 ghost use Rattle.bidi_c.specs.Fronts.{LaysOutUnits, PairsAt, PutsPropertiesAt, WritesWholeLevelsAt, resolved_at};
-ghost use Rattle.bidi_c.specs.HeldAt.{held_at, room_at, tables_at};
+ghost use Rattle.bidi_c.specs.ContentsAt.{contents_at, room_at, tables_at};
 
 use crate::bidi_handle::BidiHandle;
 use crate::putting::put;
@@ -34,8 +34,8 @@ pub extern "C" fn bidi_classes(
     brackets: &mut [u8],
     place: &mut u64,
 ) -> u32
-    ensures tables { held_at tables.new ≡ held_at tables.old }
-    ensures properties { AnswersNaming place_named (PutsPropertiesAt (tables_at tables.old) codes.now
+    ensures tables { contents_at tables.new ≡ contents_at tables.old }
+    ensures properties { ReturnsStatusNaming place_named (PutsPropertiesAt (tables_at tables.old) codes.now
         classes.old classes.new brackets.old brackets.new) result place.old place.new }
 {
     match tables.tables() {
@@ -48,7 +48,7 @@ pub extern "C" fn bidi_classes(
 /// if it is no bracket or pairs with none, and without tables.
 #[unsafe(no_mangle)]
 pub extern "C" fn bidi_paired_bracket(tables: &mut BidiHandle, code: u32) -> u32
-    ensures tables { held_at tables.new ≡ held_at tables.old }
+    ensures tables { contents_at tables.new ≡ contents_at tables.old }
     ensures paired { PairsAt (tables_at tables.old) code result }
 {
     match tables.tables() {
@@ -66,7 +66,7 @@ pub extern "C" fn bidi_base_level_classes(
     level: &mut u8,
     place: &mut u64,
 ) -> u32
-    ensures { (tables : TablesOf) → AnswersNaming place_named (Puts (IsBaseLevel tables (Classes classes.now) direction)
+    ensures { (tables : TablesOf) → ReturnsStatusNaming place_named (Puts (IsBaseLevel tables (Classes classes.now) direction)
         (RejectsBase (Classes classes.now) direction) level.old level.new) result place.old place.new }
 {
     let unused = standard::tables();
@@ -85,7 +85,7 @@ pub extern "C" fn bidi_reset_levels(
     levels: &mut [u8],
     place: &mut u64,
 ) -> u32
-    ensures { AnswersNaming place_named (Puts (ResetsLine classes.now para_level levels.old)
+    ensures { ReturnsStatusNaming place_named (Puts (ResetsLine classes.now para_level levels.old)
         (RejectsLine classes.now para_level levels.old) levels.old levels.new) result place.old place.new }
 {
     status_and_place(reset_levels(classes, para_level, levels), place)
@@ -95,7 +95,7 @@ pub extern "C" fn bidi_reset_levels(
 /// has fewer items than there are levels, or a number is no level, it is unchanged.
 #[unsafe(no_mangle)]
 pub extern "C" fn bidi_reorder(levels: &[u8], order: &mut [usize], place: &mut u64) -> u32
-    ensures { AnswersNaming place_named (Puts (Reorders levels.now order.old) (RejectsLevels levels.now order.old)
+    ensures { ReturnsStatusNaming place_named (Puts (Reorders levels.now order.old) (RejectsLevels levels.now order.old)
         order.old order.new) result place.old place.new }
 {
     status_and_place(reorder(levels, order), place)
@@ -105,13 +105,13 @@ pub extern "C" fn bidi_reorder(levels: &[u8], order: &mut [usize], place: &mut u
 /// removed (X9). Returns how many there are, 0 without a room.
 #[unsafe(no_mangle)]
 pub extern "C" fn bidi_resolved_levels(room: &mut BidiHandle, levels: &mut [u8]) -> usize
-    ensures room { held_at room.new ≡ held_at room.old }
+    ensures room { contents_at room.new ≡ contents_at room.old }
     ensures levels { WritesWhole (map level_byte (resolved_at (room_at room.old))) result levels.old levels.new }
 {
-    let Some(held) = room.held() else {
+    let Some(contents) = room.contents() else {
         return 0;
     };
-    match held.room() {
+    match contents.room() {
         Some(room) => write_levels(room.resolved_levels(), levels),
         None => 0,
     }
@@ -122,13 +122,13 @@ pub extern "C" fn bidi_resolved_levels(room: &mut BidiHandle, levels: &mut [u8])
 /// the paragraph. Returns how many there are, 0 without a room.
 #[unsafe(no_mangle)]
 pub extern "C" fn bidi_whole_levels(room: &mut BidiHandle, levels: &mut [u8]) -> usize
-    ensures room { held_at room.new ≡ held_at room.old }
+    ensures room { contents_at room.new ≡ contents_at room.old }
     ensures levels { WritesWholeLevelsAt (room_at room.old) result levels.old levels.new }
 {
-    let Some(held) = room.held() else {
+    let Some(contents) = room.contents() else {
         return 0;
     };
-    match held.room() {
+    match contents.room() {
         Some(room) => room.whole_levels(levels),
         None => 0,
     }
@@ -142,10 +142,10 @@ fn lay_out_units(
     direction: u32,
     breaks: &[usize],
 ) -> Result<(), CallError>
-    ensures { LaysOutUnits units.now standard direction breaks.now (held_at room.old) (held_at room.new) result }
+    ensures { LaysOutUnits units.now standard direction breaks.now (contents_at room.old) (contents_at room.new) result }
 {
-    match room.held() {
-        Some(held) => held.lay_out_numbered(units, direction, breaks, Limits::standard()),
+    match room.contents() {
+        Some(contents) => contents.lay_out_numbered(units, direction, breaks, Limits::standard()),
         None => Err(CallError::NoRoom),
     }
 }
@@ -160,8 +160,8 @@ pub extern "C" fn bidi_lay_out_units(
     breaks: &[usize],
     place: &mut u64,
 ) -> u32
-    ensures { AnswersNaming place_named (LaysOutUnits units.now standard direction breaks.now
-        (held_at room.old) (held_at room.new)) result place.old place.new }
+    ensures { ReturnsStatusNaming place_named (LaysOutUnits units.now standard direction breaks.now
+        (contents_at room.old) (contents_at room.new)) result place.old place.new }
 {
     let done = lay_out_units(room, units, direction, breaks);
     status_and_place(done, place)

@@ -1,8 +1,8 @@
 //! The pointer of a handle, in a form that C can have.
 ghost use Rattle.std.specs.Prelude.{◌≡◌, Option, IsSome, Some, None};
-ghost use Rattle.bidi_c.specs.declared.held.Held.{Held as HeldOf};
+ghost use Rattle.bidi_c.specs.declared.contents.Contents.{Contents as ContentsOf};
 
-use crate::held::Held;
+use crate::contents::Contents;
 use std::alloc::Global;
 use std::marker::Model;
 use std::ptr::null_mut;
@@ -12,12 +12,12 @@ use std::ptr::null_mut;
 pub struct Handle {
     pub(crate) at: *mut u8,
     alloc: Global,
-    pub ghost value: { Option HeldOf },
+    pub ghost value: { Option ContentsOf },
 }
 
 impl Model for Handle {
     ghost use Rattle.bidi_c.specs.Kept.{kept};
-    ghost use Rattle.bidi_c.specs.contracts.held.Held.{the_row};
+    ghost use Rattle.bidi_c.specs.contracts.contents.Contents.{the_row};
 
     ghost also_owns = { λ h. kept the_row h.alloc h.at h.value };
 }
@@ -33,10 +33,10 @@ impl Handle {
     }
 
     /// Returns a handle that owns the contents of the box.
-    pub(crate) fn of(held: Box<Held>) -> Handle
-        ensures { result.value ≡ Some held.value }
+    pub(crate) fn of(contents: Box<Contents>) -> Handle
+        ensures { result.value ≡ Some contents.value }
     {
-        let (at, alloc) = Box::into_raw_with_allocator(held);
+        let (at, alloc) = Box::into_raw_with_allocator(contents);
         Handle {
             at: at as *mut u8,
             alloc,
@@ -44,12 +44,12 @@ impl Handle {
     }
 
     /// Returns the box of what the handle owns.
-    pub(crate) fn into_box(self) -> Box<Held>
+    pub(crate) fn into_box(self) -> Box<Contents>
         requires { IsSome self.value }
         ensures { self.value ≡ Some result.value }
     {
         let Handle { at, alloc } = self;
-        unsafe { Box::from_raw(alloc, at as *mut Held) }
+        unsafe { Box::from_raw(alloc, at as *mut Contents) }
     }
 
     pub(crate) fn end(self)

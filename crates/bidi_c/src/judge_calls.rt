@@ -4,13 +4,13 @@ ghost use Rattle.std.specs.Option.{option_map};
 ghost use Rattle.std.specs.Arc.{arc_value};
 ghost use Rattle.units.specs.Limits.{standard};
 ghost use Rattle.for_c.specs.LimitsGiven.{ByLimits};
-ghost use Rattle.for_c.specs.Statuses.{Answers};
+ghost use Rattle.for_c.specs.Statuses.{ReturnsStatus};
 ghost use Rattle.for_c.specs.TableJudges.{TakesPiece};
-ghost use Rattle.bidi_c.specs.HeldAt.{held_at};
+ghost use Rattle.bidi_c.specs.ContentsAt.{contents_at};
 ghost use Rattle.bidi_c.specs.JudgesAt.{AtJudge, EndsJudge, Finishes, MakesJudge, MakesTableJudge};
 
 use crate::bidi_handle::BidiHandle;
-use crate::held::Held;
+use crate::contents::Contents;
 use for_c::call_error::{CallError, status};
 use for_c::limits::BidiLimits;
 use for_c::table_judge::TableJudge;
@@ -27,17 +27,17 @@ fn make_judge(
     tables: Option<Arc<Tables, Global>>,
     limits: Limits,
 ) -> Result<(), CallError>
-    ensures { MakesJudge (option_map arc_value tables) limits (held_at judge.old) (held_at judge.new) result }
+    ensures { MakesJudge (option_map arc_value tables) limits (contents_at judge.old) (contents_at judge.new) result }
 {
     let made = TableJudge::new(alloc, tables, limits)?;
-    judge.hold(alloc, Held::Judge(made))
+    judge.hold(alloc, Contents::Judge(made))
 }
 
 /// Makes a judge of a BidiTest.txt with the standard limits, before its first byte. Once it is made, what the handle
 /// contained before is freed. Fails with `Memory`; then the handle is unchanged.
 #[unsafe(no_mangle)]
 pub extern "C" fn bidi_judge_new_classes(alloc: Global, judge: &mut BidiHandle) -> u32
-    ensures { Answers (MakesJudge None standard (held_at judge.old) (held_at judge.new)) result }
+    ensures { ReturnsStatus (MakesJudge None standard (contents_at judge.old) (contents_at judge.new)) result }
 {
     status(make_judge(alloc, judge, None, Limits::standard()))
 }
@@ -50,7 +50,7 @@ pub extern "C" fn bidi_judge_new_classes_with(
     judge: &mut BidiHandle,
     limits: BidiLimits,
 ) -> u32
-    ensures { Answers (ByLimits limits (MakesJudge None) (held_at judge.old) (held_at judge.new)) result }
+    ensures { ReturnsStatus (ByLimits limits (MakesJudge None) (contents_at judge.old) (contents_at judge.new)) result }
 {
     match limits.allowed() {
         Ok(limits) => status(make_judge(alloc, judge, None, limits)),
@@ -65,13 +65,13 @@ fn make_characters_judge(
     judge: &mut BidiHandle,
     limits: Limits,
 ) -> Result<(), CallError>
-    ensures tables { held_at tables.new ≡ held_at tables.old }
-    ensures judge { MakesTableJudge (held_at tables.old) limits (held_at judge.old) (held_at judge.new) result }
+    ensures tables { contents_at tables.new ≡ contents_at tables.old }
+    ensures judge { MakesTableJudge (contents_at tables.old) limits (contents_at judge.old) (contents_at judge.new) result }
 {
-    let Some(held) = tables.held() else {
+    let Some(contents) = tables.contents() else {
         return Err(CallError::NoTables);
     };
-    let shared = held.share_tables()?;
+    let shared = contents.share_tables()?;
     make_judge(alloc, judge, Some(shared), limits)
 }
 
@@ -84,9 +84,9 @@ pub extern "C" fn bidi_judge_new_characters(
     tables: &mut BidiHandle,
     judge: &mut BidiHandle,
 ) -> u32
-    ensures tables { held_at tables.new ≡ held_at tables.old }
-    ensures judge { Answers (MakesTableJudge (held_at tables.old) standard (held_at judge.old)
-        (held_at judge.new)) result }
+    ensures tables { contents_at tables.new ≡ contents_at tables.old }
+    ensures judge { ReturnsStatus (MakesTableJudge (contents_at tables.old) standard (contents_at judge.old)
+        (contents_at judge.new)) result }
 {
     status(make_characters_judge(alloc, tables, judge, Limits::standard()))
 }
@@ -101,9 +101,9 @@ pub extern "C" fn bidi_judge_new_characters_with(
     judge: &mut BidiHandle,
     limits: BidiLimits,
 ) -> u32
-    ensures tables { held_at tables.new ≡ held_at tables.old }
-    ensures judge { Answers (ByLimits limits (MakesTableJudge (held_at tables.old)) (held_at judge.old)
-        (held_at judge.new)) result }
+    ensures tables { contents_at tables.new ≡ contents_at tables.old }
+    ensures judge { ReturnsStatus (ByLimits limits (MakesTableJudge (contents_at tables.old)) (contents_at judge.old)
+        (contents_at judge.new)) result }
 {
     match limits.allowed() {
         Ok(limits) => status(make_characters_judge(alloc, tables, judge, limits)),
@@ -114,17 +114,17 @@ pub extern "C" fn bidi_judge_new_characters_with(
 /// Frees a judge, and its tables if they have no other owner. The handle is all zero then, as it may be before.
 #[unsafe(no_mangle)]
 pub extern "C" fn bidi_judge_free(alloc: Global, judge: &mut BidiHandle)
-    ensures { held_at judge.new ≡ None }
+    ensures { contents_at judge.new ≡ None }
 {
     judge.empty(alloc);
 }
 
 /// Passes the next bytes of the file to the judge, if it is one.
-fn feed_judge(held: &mut Held, piece: &[u8]) -> Result<(), CallError>
-    ensures { AtJudge (λ old new. TakesPiece old new piece.now) (Some held.old) (Some held.new) result }
+fn feed_judge(contents: &mut Contents, piece: &[u8]) -> Result<(), CallError>
+    ensures { AtJudge (λ old new. TakesPiece old new piece.now) (Some contents.old) (Some contents.new) result }
 {
-    match held {
-        Held::Judge(judge) => {
+    match contents {
+        Contents::Judge(judge) => {
             judge.feed(piece);
             Ok(())
         }
@@ -133,11 +133,11 @@ fn feed_judge(held: &mut Held, piece: &[u8]) -> Result<(), CallError>
 }
 
 /// Writes the verdict of the judge, if it is one.
-fn finish_judge(held: &mut Held, verdict: &mut BidiVerdict) -> Result<(), CallError>
-    ensures { Finishes (Some held.old) (Some held.new) verdict.old verdict.new result }
+fn finish_judge(contents: &mut Contents, verdict: &mut BidiVerdict) -> Result<(), CallError>
+    ensures { Finishes (Some contents.old) (Some contents.new) verdict.old verdict.new result }
 {
-    match held {
-        Held::Judge(judge) => {
+    match contents {
+        Contents::Judge(judge) => {
             *verdict = verdict_for_c(judge.finish());
             Ok(())
         }
@@ -149,11 +149,11 @@ fn finish_judge(held: &mut Held, verdict: &mut BidiVerdict) -> Result<(), CallEr
 #[unsafe(no_mangle)]
 #[tactic(auto, using(crate::proofs::AtJudges::no_judge))]
 pub extern "C" fn bidi_judge_feed(judge: &mut BidiHandle, piece: &[u8]) -> u32
-    ensures { Answers (AtJudge (λ old new. TakesPiece old new piece.now) (held_at judge.old) (held_at judge.new))
+    ensures { ReturnsStatus (AtJudge (λ old new. TakesPiece old new piece.now) (contents_at judge.old) (contents_at judge.new))
         result }
 {
-    match judge.held() {
-        Some(held) => status(feed_judge(held, piece)),
+    match judge.contents() {
+        Some(contents) => status(feed_judge(contents, piece)),
         None => status(Err(CallError::NoJudge)),
     }
 }
@@ -167,12 +167,12 @@ pub extern "C" fn bidi_judge_finish(
     judge: &mut BidiHandle,
     verdict: &mut BidiVerdict,
 ) -> u32
-    ensures { Answers (EndsJudge (held_at judge.old) (held_at judge.new) verdict.old verdict.new) result }
+    ensures { ReturnsStatus (EndsJudge (contents_at judge.old) (contents_at judge.new) verdict.old verdict.new) result }
 {
-    let Some(held) = judge.held() else {
+    let Some(contents) = judge.contents() else {
         return status(Err(CallError::NoJudge));
     };
-    let done = finish_judge(held, verdict);
+    let done = finish_judge(contents, verdict);
     if done.is_ok() {
         judge.empty(alloc);
     }

@@ -5,10 +5,10 @@ ghost use Rattle.sources.specs.Seen.{source_seen};
 ghost use Rattle.sources.specs.Sources.{Codes};
 ghost use Rattle.for_c.specs.LimitsGiven.{ByLimits};
 ghost use Rattle.for_c.specs.RoomCalls.{SetsLines};
-ghost use Rattle.for_c.specs.Statuses.{Answers, AnswersNaming, place_named};
+ghost use Rattle.for_c.specs.Statuses.{ReturnsStatus, ReturnsStatusNaming, place_named};
 ghost use Rattle.bidi_c.specs.AtHandles.{AtRoom};
-ghost use Rattle.bidi_c.specs.HeldAt.{held_at};
-ghost use Rattle.bidi_c.specs.HeldIn.{room_for};
+ghost use Rattle.bidi_c.specs.ContentsAt.{contents_at};
+ghost use Rattle.bidi_c.specs.ContentsIn.{room_for};
 ghost use Rattle.bidi_c.specs.LayingOut.{AtLineOf, LaysOutClasses, LaysOutText};
 
 use crate::bidi_handle::BidiHandle;
@@ -28,17 +28,17 @@ pub(crate) fn lay_out(
     breaks: &[usize],
     limits: Limits,
 ) -> Result<(), CallError>
-    ensures tables { held_at tables.new ≡ held_at tables.old }
-    ensures room { LaysOutText (source_seen source.entry) limits direction breaks.now (held_at tables.old)
-        (held_at room.old) (held_at room.new) result }
+    ensures tables { contents_at tables.new ≡ contents_at tables.old }
+    ensures room { LaysOutText (source_seen source.entry) limits direction breaks.now (contents_at tables.old)
+        (contents_at room.old) (contents_at room.new) result }
 {
-    let Some(held) = room.held() else {
+    let Some(contents) = room.contents() else {
         return Err(CallError::NoRoom);
     };
-    let Some(by) = tables.held() else {
+    let Some(by) = tables.contents() else {
         return Err(CallError::NoTables);
     };
-    held.lay_out(by, source, direction, breaks, limits)
+    contents.lay_out(by, source, direction, breaks, limits)
 }
 
 /// Lays out a text of code points in the room, with the tables and the standard limits, under the direction with this
@@ -53,9 +53,9 @@ pub extern "C" fn bidi_lay_out(
     breaks: &[usize],
     place: &mut u64,
 ) -> u32
-    ensures tables { held_at tables.new ≡ held_at tables.old }
-    ensures room { AnswersNaming place_named (LaysOutText (Codes codes.now) standard direction breaks.now
-        (held_at tables.old) (held_at room.old) (held_at room.new)) result place.old place.new }
+    ensures tables { contents_at tables.new ≡ contents_at tables.old }
+    ensures room { ReturnsStatusNaming place_named (LaysOutText (Codes codes.now) standard direction breaks.now
+        (contents_at tables.old) (contents_at room.old) (contents_at room.new)) result place.old place.new }
 {
     let source = Source::Codes(codes);
     let done = lay_out(room, tables, source, direction, breaks, Limits::standard());
@@ -75,9 +75,9 @@ pub extern "C" fn bidi_lay_out_with(
     limits: BidiLimits,
     place: &mut u64,
 ) -> u32
-    ensures tables { held_at tables.new ≡ held_at tables.old }
-    ensures room { AnswersNaming place_named (ByLimits limits (λ limits. LaysOutText (Codes codes.now)
-        limits direction breaks.now (held_at tables.old)) (held_at room.old) (held_at room.new))
+    ensures tables { contents_at tables.new ≡ contents_at tables.old }
+    ensures room { ReturnsStatusNaming place_named (ByLimits limits (λ limits. LaysOutText (Codes codes.now)
+        limits direction breaks.now (contents_at tables.old)) (contents_at room.old) (contents_at room.new))
         result place.old place.new }
 {
     let source = Source::Codes(codes);
@@ -98,11 +98,11 @@ fn lay_out_classes(
     breaks: &[usize],
     limits: Limits,
 ) -> Result<(), CallError>
-    ensures { LaysOutClasses numbers.now limits direction breaks.now (held_at room.old)
-        (held_at room.new) result }
+    ensures { LaysOutClasses numbers.now limits direction breaks.now (contents_at room.old)
+        (contents_at room.new) result }
 {
-    match room.held() {
-        Some(held) => held.lay_out_classes(numbers, direction, breaks, limits),
+    match room.contents() {
+        Some(contents) => contents.lay_out_classes(numbers, direction, breaks, limits),
         None => Err(CallError::NoRoom),
     }
 }
@@ -117,8 +117,8 @@ pub extern "C" fn bidi_lay_out_classes(
     breaks: &[usize],
     place: &mut u64,
 ) -> u32
-    ensures { AnswersNaming place_named (LaysOutClasses numbers.now standard direction breaks.now
-        (held_at room.old) (held_at room.new)) result place.old place.new }
+    ensures { ReturnsStatusNaming place_named (LaysOutClasses numbers.now standard direction breaks.now
+        (contents_at room.old) (contents_at room.new)) result place.old place.new }
 {
     let done = lay_out_classes(room, numbers, direction, breaks, Limits::standard());
     status_and_place(done, place)
@@ -135,8 +135,8 @@ pub extern "C" fn bidi_lay_out_classes_with(
     limits: BidiLimits,
     place: &mut u64,
 ) -> u32
-    ensures { AnswersNaming place_named (ByLimits limits (λ limits. LaysOutClasses numbers.now limits
-        direction breaks.now) (held_at room.old) (held_at room.new)) result place.old place.new }
+    ensures { ReturnsStatusNaming place_named (ByLimits limits (λ limits. LaysOutClasses numbers.now limits
+        direction breaks.now) (contents_at room.old) (contents_at room.new)) result place.old place.new }
 {
     match limits.allowed() {
         Ok(limits) => {
@@ -153,10 +153,10 @@ pub(crate) fn set_lines(
     encodes: bool,
     breaks: &[usize],
 ) -> Result<(), CallError>
-    ensures { AtRoom encodes (SetsLines breaks.now) (held_at room.old) (held_at room.new) result }
+    ensures { AtRoom encodes (SetsLines breaks.now) (contents_at room.old) (contents_at room.new) result }
 {
-    match room.held() {
-        Some(held) => held.set_lines(encodes, breaks),
+    match room.contents() {
+        Some(contents) => contents.set_lines(encodes, breaks),
         None => Err(CallError::NoRoom),
     }
 }
@@ -165,7 +165,7 @@ pub(crate) fn set_lines(
 /// unchanged. If it fails, the room is unchanged, and `place` names the break.
 #[unsafe(no_mangle)]
 pub extern "C" fn bidi_set_lines(room: &mut BidiHandle, breaks: &[usize], place: &mut u64) -> u32
-    ensures { AnswersNaming place_named (AtRoom false (SetsLines breaks.now) (held_at room.old) (held_at room.new))
+    ensures { ReturnsStatusNaming place_named (AtRoom false (SetsLines breaks.now) (contents_at room.old) (contents_at room.new))
         result place.old place.new }
 {
     status_and_place(set_lines(room, false, breaks), place)
@@ -180,12 +180,12 @@ pub(crate) fn line_of(
     order: &mut [usize],
     shown: &mut usize,
 ) -> Result<(), CallError>
-    ensures room { held_at room.new ≡ held_at room.old }
-    ensures line { AtLineOf (room_for encodes (held_at room.old)) span.start span.end levels.old levels.new
+    ensures room { contents_at room.new ≡ contents_at room.old }
+    ensures line { AtLineOf (room_for encodes (contents_at room.old)) span.start span.end levels.old levels.new
         order.old order.new shown.old shown.new result }
 {
-    match room.held() {
-        Some(held) => held.line_of(encodes, span, levels, order, shown),
+    match room.contents() {
+        Some(contents) => contents.line_of(encodes, span, levels, order, shown),
         None => Err(CallError::NoRoom),
     }
 }
@@ -202,8 +202,8 @@ pub extern "C" fn bidi_line_of(
     order: &mut [usize],
     shown: &mut usize,
 ) -> u32
-    ensures room { held_at room.new ≡ held_at room.old }
-    ensures line { Answers (AtLineOf (room_for false (held_at room.old)) start end levels.old levels.new order.old
+    ensures room { contents_at room.new ≡ contents_at room.old }
+    ensures line { ReturnsStatus (AtLineOf (room_for false (contents_at room.old)) start end levels.old levels.new order.old
         order.new shown.old shown.new) result }
 {
     status(line_of(room, false, start..end, levels, order, shown))

@@ -10,7 +10,7 @@ pub mod encoded_calls;
 pub mod encoded_layouts;
 pub mod front_calls;
 pub mod handle;
-pub mod held;
+pub mod contents;
 pub mod judge_calls;
 pub mod laying_out;
 pub mod looking_up;

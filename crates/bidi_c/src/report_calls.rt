@@ -5,12 +5,12 @@ ghost use Rattle.std.specs.Arc.{arc_value};
 ghost use Rattle.units.specs.Limits.{standard};
 ghost use Rattle.for_c.specs.LimitsGiven.{ByLimits};
 ghost use Rattle.for_c.specs.ReportCalls.{EndsReport, ReturnsNext, TakesBytes};
-ghost use Rattle.for_c.specs.Statuses.{Answers};
-ghost use Rattle.bidi_c.specs.HeldAt.{held_at};
+ghost use Rattle.for_c.specs.Statuses.{ReturnsStatus};
+ghost use Rattle.bidi_c.specs.ContentsAt.{contents_at};
 ghost use Rattle.bidi_c.specs.ReportsAt.{AtReport, MakesReport, MakesTableReport};
 
 use crate::bidi_handle::BidiHandle;
-use crate::held::Held;
+use crate::contents::Contents;
 use crate::putting::put;
 use for_c::call_error::{CallError, status};
 use for_c::counts::BidiCounts;
@@ -29,17 +29,17 @@ fn make_report(
     tables: Option<Arc<Tables, Global>>,
     limits: Limits,
 ) -> Result<(), CallError>
-    ensures { MakesReport (option_map arc_value tables) limits (held_at report.old) (held_at report.new) result }
+    ensures { MakesReport (option_map arc_value tables) limits (contents_at report.old) (contents_at report.new) result }
 {
     let made = TableReport::new(alloc, tables, limits)?;
-    report.hold(alloc, Held::Report(made))
+    report.hold(alloc, Contents::Report(made))
 }
 
 /// Makes a report on a BidiTest.txt with the standard limits, before its first byte. Once it is made, what the handle
 /// contained before is freed. Fails with `Memory`; then the handle is unchanged.
 #[unsafe(no_mangle)]
 pub extern "C" fn bidi_report_new_classes(alloc: Global, report: &mut BidiHandle) -> u32
-    ensures { Answers (MakesReport None standard (held_at report.old) (held_at report.new)) result }
+    ensures { ReturnsStatus (MakesReport None standard (contents_at report.old) (contents_at report.new)) result }
 {
     status(make_report(alloc, report, None, Limits::standard()))
 }
@@ -52,7 +52,7 @@ pub extern "C" fn bidi_report_new_classes_with(
     report: &mut BidiHandle,
     limits: BidiLimits,
 ) -> u32
-    ensures { Answers (ByLimits limits (MakesReport None) (held_at report.old) (held_at report.new)) result }
+    ensures { ReturnsStatus (ByLimits limits (MakesReport None) (contents_at report.old) (contents_at report.new)) result }
 {
     match limits.allowed() {
         Ok(limits) => status(make_report(alloc, report, None, limits)),
@@ -67,13 +67,13 @@ fn make_characters_report(
     report: &mut BidiHandle,
     limits: Limits,
 ) -> Result<(), CallError>
-    ensures tables { held_at tables.new ≡ held_at tables.old }
-    ensures report { MakesTableReport (held_at tables.old) limits (held_at report.old) (held_at report.new) result }
+    ensures tables { contents_at tables.new ≡ contents_at tables.old }
+    ensures report { MakesTableReport (contents_at tables.old) limits (contents_at report.old) (contents_at report.new) result }
 {
-    let Some(held) = tables.held() else {
+    let Some(contents) = tables.contents() else {
         return Err(CallError::NoTables);
     };
-    let shared = held.share_tables()?;
+    let shared = contents.share_tables()?;
     make_report(alloc, report, Some(shared), limits)
 }
 
@@ -86,9 +86,9 @@ pub extern "C" fn bidi_report_new_characters(
     tables: &mut BidiHandle,
     report: &mut BidiHandle,
 ) -> u32
-    ensures tables { held_at tables.new ≡ held_at tables.old }
-    ensures report { Answers (MakesTableReport (held_at tables.old) standard (held_at report.old)
-        (held_at report.new)) result }
+    ensures tables { contents_at tables.new ≡ contents_at tables.old }
+    ensures report { ReturnsStatus (MakesTableReport (contents_at tables.old) standard (contents_at report.old)
+        (contents_at report.new)) result }
 {
     status(make_characters_report(alloc, tables, report, Limits::standard()))
 }
@@ -103,9 +103,9 @@ pub extern "C" fn bidi_report_new_characters_with(
     report: &mut BidiHandle,
     limits: BidiLimits,
 ) -> u32
-    ensures tables { held_at tables.new ≡ held_at tables.old }
-    ensures report { Answers (ByLimits limits (MakesTableReport (held_at tables.old)) (held_at report.old)
-        (held_at report.new)) result }
+    ensures tables { contents_at tables.new ≡ contents_at tables.old }
+    ensures report { ReturnsStatus (ByLimits limits (MakesTableReport (contents_at tables.old)) (contents_at report.old)
+        (contents_at report.new)) result }
 {
     match limits.allowed() {
         Ok(limits) => status(make_characters_report(alloc, tables, report, limits)),
@@ -116,37 +116,37 @@ pub extern "C" fn bidi_report_new_characters_with(
 /// Frees a report, and its tables if they have no other owner. The handle is all zero then, as it may be before.
 #[unsafe(no_mangle)]
 pub extern "C" fn bidi_report_free(alloc: Global, report: &mut BidiHandle)
-    ensures { held_at report.new ≡ None }
+    ensures { contents_at report.new ≡ None }
 {
     report.empty(alloc);
 }
 
 /// Passes the next bytes of the file to the report, if it is one.
-fn feed_report(held: &mut Held, piece: &[u8], used: &mut usize) -> Result<(), CallError>
-    ensures { AtReport (TakesBytes piece.now) (Some held.old) (Some held.new) used.old used.new result }
+fn feed_report(contents: &mut Contents, piece: &[u8], used: &mut usize) -> Result<(), CallError>
+    ensures { AtReport (TakesBytes piece.now) (Some contents.old) (Some contents.new) used.old used.new result }
 {
-    match held {
-        Held::Report(report) => put(report.feed(piece), used),
+    match contents {
+        Contents::Report(report) => put(report.feed(piece), used),
         _ => Err(CallError::NoReport),
     }
 }
 
 /// Writes the next wrong case of the report, if it is one.
-fn next_of_report(held: &mut Held, case: &mut BidiWrongCase) -> Result<(), CallError>
-    ensures { AtReport ReturnsNext (Some held.old) (Some held.new) case.old case.new result }
+fn next_of_report(contents: &mut Contents, case: &mut BidiWrongCase) -> Result<(), CallError>
+    ensures { AtReport ReturnsNext (Some contents.old) (Some contents.new) case.old case.new result }
 {
-    match held {
-        Held::Report(report) => put(report.next(), case),
+    match contents {
+        Contents::Report(report) => put(report.next(), case),
         _ => Err(CallError::NoReport),
     }
 }
 
 /// Writes the counts of the report at the end of its file, if it is one.
-fn finish_report(held: &mut Held, counts: &mut BidiCounts) -> Result<(), CallError>
-    ensures { AtReport EndsReport (Some held.old) (Some held.new) counts.old counts.new result }
+fn finish_report(contents: &mut Contents, counts: &mut BidiCounts) -> Result<(), CallError>
+    ensures { AtReport EndsReport (Some contents.old) (Some contents.new) counts.old counts.new result }
 {
-    match held {
-        Held::Report(report) => put(report.finish(), counts),
+    match contents {
+        Contents::Report(report) => put(report.finish(), counts),
         _ => Err(CallError::NoReport),
     }
 }
@@ -157,11 +157,11 @@ fn finish_report(held: &mut Held, counts: &mut BidiCounts) -> Result<(), CallErr
 #[unsafe(no_mangle)]
 #[tactic(auto, using(crate::proofs::AtReports::no_report))]
 pub extern "C" fn bidi_report_feed(report: &mut BidiHandle, piece: &[u8], used: &mut usize) -> u32
-    ensures { Answers (AtReport (TakesBytes piece.now) (held_at report.old) (held_at report.new) used.old used.new)
+    ensures { ReturnsStatus (AtReport (TakesBytes piece.now) (contents_at report.old) (contents_at report.new) used.old used.new)
         result }
 {
-    match report.held() {
-        Some(held) => status(feed_report(held, piece, used)),
+    match report.contents() {
+        Some(contents) => status(feed_report(contents, piece, used)),
         None => status(Err(CallError::NoReport)),
     }
 }
@@ -171,10 +171,10 @@ pub extern "C" fn bidi_report_feed(report: &mut BidiHandle, piece: &[u8], used: 
 #[unsafe(no_mangle)]
 #[tactic(auto, using(crate::proofs::AtReports::no_report))]
 pub extern "C" fn bidi_report_next(report: &mut BidiHandle, case: &mut BidiWrongCase) -> u32
-    ensures { Answers (AtReport ReturnsNext (held_at report.old) (held_at report.new) case.old case.new) result }
+    ensures { ReturnsStatus (AtReport ReturnsNext (contents_at report.old) (contents_at report.new) case.old case.new) result }
 {
-    match report.held() {
-        Some(held) => status(next_of_report(held, case)),
+    match report.contents() {
+        Some(contents) => status(next_of_report(contents, case)),
         None => status(Err(CallError::NoReport)),
     }
 }
@@ -185,10 +185,10 @@ pub extern "C" fn bidi_report_next(report: &mut BidiHandle, case: &mut BidiWrong
 #[unsafe(no_mangle)]
 #[tactic(auto, using(crate::proofs::AtReports::no_report))]
 pub extern "C" fn bidi_report_finish(report: &mut BidiHandle, counts: &mut BidiCounts) -> u32
-    ensures { Answers (AtReport EndsReport (held_at report.old) (held_at report.new) counts.old counts.new) result }
+    ensures { ReturnsStatus (AtReport EndsReport (contents_at report.old) (contents_at report.new) counts.old counts.new) result }
 {
-    match report.held() {
-        Some(held) => status(finish_report(held, counts)),
+    match report.contents() {
+        Some(contents) => status(finish_report(contents, counts)),
         None => status(Err(CallError::NoReport)),
     }
 }

@@ -4,15 +4,15 @@ ghost use Rattle.std.specs.Char.{IsScalar};
 ghost use Rattle.standard.specs.declared.facts.TheConstants.{BRACKETS, CLASSES, EDITION, MIRRORS};
 ghost use Rattle.room.specs.Written.{WritesWhole};
 ghost use Rattle.for_c.specs.ReadTables.{fault_named};
-ghost use Rattle.for_c.specs.Statuses.{Answers, AnswersNaming, Puts};
+ghost use Rattle.for_c.specs.Statuses.{ReturnsStatus, ReturnsStatusNaming, Puts};
 ghost use Rattle.for_c.specs.declared.version.TheConstants.{VERSION};
-ghost use Rattle.bidi_c.specs.HeldAt.{held_at, tables_at};
-ghost use Rattle.bidi_c.specs.HeldIn.{tables_in};
+ghost use Rattle.bidi_c.specs.ContentsAt.{contents_at, tables_at};
+ghost use Rattle.bidi_c.specs.ContentsIn.{tables_in};
 ghost use Rattle.bidi_c.specs.MadeTables.{HaveTables, MakesTables, image_by};
 ghost use Rattle.bidi_c.specs.Sharing.{SharesTables};
 
 use crate::bidi_handle::BidiHandle;
-use crate::held::Held;
+use crate::contents::Contents;
 use for_c::call_error::{CallError, status};
 use for_c::columns::write_items;
 use for_c::properties::mirror_image;
@@ -24,11 +24,11 @@ use std::sync::Arc;
 use ucdfiles::tables::Tables;
 
 fn hold_tables(alloc: Global, made: Tables, tables: &mut BidiHandle) -> Result<(), CallError>
-    ensures { Puts (λ held. tables_in held ≡ Some made) (λ error. error ≡ CallError.Memory)
-        (held_at tables.old) (held_at tables.new) result }
+    ensures { Puts (λ contents. tables_in contents ≡ Some made) (λ error. error ≡ CallError.Memory)
+        (contents_at tables.old) (contents_at tables.new) result }
 {
     match Arc::new(alloc, made) {
-        Ok(made) => tables.hold(alloc, Held::Tables(made)),
+        Ok(made) => tables.hold(alloc, Contents::Tables(made)),
         Err(_) => Err(CallError::Memory),
     }
 }
@@ -40,8 +40,8 @@ fn make_tables(
     mirrors: &[u8],
     tables: &mut BidiHandle,
 ) -> Result<(), CallError>
-    ensures { MakesTables classes.now brackets.now mirrors.now (held_at tables.old)
-        (held_at tables.new) result }
+    ensures { MakesTables classes.now brackets.now mirrors.now (contents_at tables.old)
+        (contents_at tables.new) result }
 {
     let made = read_tables(alloc, classes, brackets, mirrors)?;
     hold_tables(alloc, made, tables)
@@ -59,8 +59,8 @@ pub extern "C" fn bidi_tables_new(
     tables: &mut BidiHandle,
     fault: &mut BidiFault,
 ) -> u32
-    ensures { AnswersNaming fault_named (MakesTables classes.now brackets.now mirrors.now
-        (held_at tables.old) (held_at tables.new)) result fault.old fault.new }
+    ensures { ReturnsStatusNaming fault_named (MakesTables classes.now brackets.now mirrors.now
+        (contents_at tables.old) (contents_at tables.new)) result fault.old fault.new }
 {
     let done = make_tables(alloc, classes, brackets, mirrors, tables);
     if let Err(error) = done {
@@ -77,8 +77,8 @@ pub extern "C" fn bidi_tables_new(
 /// the handle is unchanged.
 #[unsafe(no_mangle)]
 pub extern "C" fn bidi_tables_standard(alloc: Global, tables: &mut BidiHandle) -> u32
-    ensures { Answers (Puts (λ held. HaveTables held CLASSES BRACKETS MIRRORS) (λ error. error ≡ CallError.Memory)
-        (held_at tables.old) (held_at tables.new)) result }
+    ensures { ReturnsStatus (Puts (λ contents. HaveTables contents CLASSES BRACKETS MIRRORS) (λ error. error ≡ CallError.Memory)
+        (contents_at tables.old) (contents_at tables.new)) result }
 {
     status(hold_tables(alloc, standard::tables(), tables))
 }
@@ -105,14 +105,14 @@ fn share_tables(
     tables: &mut BidiHandle,
     shared: &mut BidiHandle,
 ) -> Result<(), CallError>
-    ensures tables { held_at tables.new ≡ held_at tables.old }
-    ensures shared { SharesTables (held_at tables.old) (held_at shared.old) (held_at shared.new) result }
+    ensures tables { contents_at tables.new ≡ contents_at tables.old }
+    ensures shared { SharesTables (contents_at tables.old) (contents_at shared.old) (contents_at shared.new) result }
 {
-    let Some(held) = tables.held() else {
+    let Some(contents) = tables.contents() else {
         return Err(CallError::NoTables);
     };
-    let by = held.share_tables()?;
-    shared.hold(alloc, Held::Tables(by))
+    let by = contents.share_tables()?;
+    shared.hold(alloc, Contents::Tables(by))
 }
 
 /// Makes `shared` a handle of its own on the same tables, which another thread may use while this one uses `tables`.
@@ -124,9 +124,9 @@ pub extern "C" fn bidi_tables_share(
     tables: &mut BidiHandle,
     shared: &mut BidiHandle,
 ) -> u32
-    ensures tables { held_at tables.new ≡ held_at tables.old }
-    ensures shared { Answers (SharesTables (held_at tables.old) (held_at shared.old)
-        (held_at shared.new)) result }
+    ensures tables { contents_at tables.new ≡ contents_at tables.old }
+    ensures shared { ReturnsStatus (SharesTables (contents_at tables.old) (contents_at shared.old)
+        (contents_at shared.new)) result }
 {
     status(share_tables(alloc, tables, shared))
 }
@@ -134,7 +134,7 @@ pub extern "C" fn bidi_tables_share(
 /// Frees tables, unless something else owns them too. The handle is all zero after that, as it may be before.
 #[unsafe(no_mangle)]
 pub extern "C" fn bidi_tables_free(alloc: Global, tables: &mut BidiHandle)
-    ensures { held_at tables.new ≡ None }
+    ensures { contents_at tables.new ≡ None }
 {
     tables.empty(alloc);
 }
@@ -142,7 +142,7 @@ pub extern "C" fn bidi_tables_free(alloc: Global, tables: &mut BidiHandle)
 /// Returns the mirrored character of a code point (L4), or the code point if it has none or there are no tables.
 #[unsafe(no_mangle)]
 pub extern "C" fn bidi_mirror(tables: &mut BidiHandle, code: u32) -> u32
-    ensures tables { held_at tables.new ≡ held_at tables.old }
+    ensures tables { contents_at tables.new ≡ contents_at tables.old }
     ensures other { (IsScalar code → ⊥) → result ≡ code }
     ensures image { IsScalar code → result ≡ image_by (tables_at tables.old) code }
 {

@@ -1,5 +1,5 @@
 //! The lines that state verdicts.
-ghost use Rattle.for_c.specs.Statuses.{Answers};
+ghost use Rattle.for_c.specs.Statuses.{ReturnsStatus};
 ghost use Rattle.for_c.specs.VerdictLines.{WritesVerdictLine};
 
 use for_c::call_error::status;
@@ -17,7 +17,7 @@ pub extern "C" fn bidi_verdict_text(
     text: &mut [u8],
     line_length: &mut usize,
 ) -> u32
-    ensures { Answers (WritesVerdictLine verdict.now text.old text.new line_length.old line_length.new)
+    ensures { ReturnsStatus (WritesVerdictLine verdict.now text.old text.new line_length.old line_length.new)
         result }
 {
     status(write_verdict_line(alloc, verdict, text, line_length))

@@ -4,10 +4,10 @@ ghost use Rattle.for_c.specs.LineRuns.{WritesRuns};
 ghost use Rattle.for_c.specs.Positions.{WritesPlaces};
 ghost use Rattle.for_c.specs.Runs.{IsVisualRun, RejectsRun};
 ghost use Rattle.for_c.specs.Shown.{WritesNothing};
-ghost use Rattle.for_c.specs.Statuses.{Answers, Puts};
+ghost use Rattle.for_c.specs.Statuses.{ReturnsStatus, Puts};
 ghost use Rattle.lines.specs.Layouts.{line_at};
 ghost use Rattle.bidi_c.specs.AtHandles.{AtARoom};
-ghost use Rattle.bidi_c.specs.HeldAt.{held_at, line_of_room, room_at, tables_at};
+ghost use Rattle.bidi_c.specs.ContentsAt.{contents_at, line_of_room, room_at, tables_at};
 ghost use Rattle.bidi_c.specs.ShownAt.{WritesShownAt};
 
 use crate::bidi_handle::BidiHandle;
@@ -23,13 +23,13 @@ use for_c::shown::write_shown;
 /// Returns how many positions the line has, 0 if there is no such line.
 #[unsafe(no_mangle)]
 pub extern "C" fn bidi_places(room: &mut BidiHandle, k: usize, places: &mut [usize]) -> usize
-    ensures room { held_at room.new ≡ held_at room.old }
+    ensures room { contents_at room.new ≡ contents_at room.old }
     ensures places { WritesPlaces (line_of_room room.old k) result places.old places.new }
 {
-    let Some(held) = room.held() else {
+    let Some(contents) = room.contents() else {
         return 0;
     };
-    match held.room() {
+    match contents.room() {
         Some(room) => write_places(&room.layout(), k, places),
         None => 0,
     }
@@ -38,17 +38,17 @@ pub extern "C" fn bidi_places(room: &mut BidiHandle, k: usize, places: &mut [usi
 /// Writes the run of the line with the number `k` that begins at the place `from` to `run`: all places from there on up
 /// to the next whose position has another level. The runs of a line are those from 0, and from the end of each one.
 #[unsafe(no_mangle)]
-#[tactic(auto, using(crate::proofs::Needed::no_room, crate::proofs::Needed::not_found))]
+#[tactic(auto, using(crate::proofs::Needed::no_room, crate::proofs::Needed::not_contained))]
 pub extern "C" fn bidi_run(room: &mut BidiHandle, k: usize, from: usize, run: &mut BidiRun) -> u32
-    ensures room { held_at room.new ≡ held_at room.old }
-    ensures run { Answers (AtARoom (room_at room.old) (λ room. Puts
+    ensures room { contents_at room.new ≡ contents_at room.old }
+    ensures run { ReturnsStatus (AtARoom (room_at room.old) (λ room. Puts
         (IsVisualRun room.layout.levels (line_at room.layout k).order from) (RejectsRun room.layout k from))
         run.old run.new) result }
 {
-    let Some(held) = room.held() else {
+    let Some(contents) = room.contents() else {
         return status(Err(CallError::NoRoom));
     };
-    match held.room() {
+    match contents.room() {
         Some(room) => status(put(run_of(&room.layout(), k, from), run)),
         None => status(Err(CallError::NoRoom)),
     }
@@ -59,14 +59,14 @@ pub extern "C" fn bidi_run(room: &mut BidiHandle, k: usize, from: usize, run: &m
 /// a room.
 #[unsafe(no_mangle)]
 pub extern "C" fn bidi_runs(room: &mut BidiHandle, k: usize, runs: &mut [BidiRun]) -> usize
-    ensures room { held_at room.new ≡ held_at room.old }
+    ensures room { contents_at room.new ≡ contents_at room.old }
     ensures runs { MatchOption (room_at room.old) (WritesNothing result runs.old runs.new)
         (λ room. WritesRuns room false k result runs.old runs.new) }
 {
-    let Some(held) = room.held() else {
+    let Some(contents) = room.contents() else {
         return 0;
     };
-    match held.room() {
+    match contents.room() {
         Some(room) => write_runs(room, k, false, runs),
         None => 0,
     }
@@ -84,14 +84,14 @@ pub extern "C" fn bidi_shown(
     k: usize,
     shown: &mut [u32],
 ) -> usize
-    ensures room { held_at room.new ≡ held_at room.old }
-    ensures tables { held_at tables.new ≡ held_at tables.old }
+    ensures room { contents_at room.new ≡ contents_at room.old }
+    ensures tables { contents_at tables.new ≡ contents_at tables.old }
     ensures shown { WritesShownAt (room_at room.old) (tables_at tables.old) codes.now k result shown.old shown.new }
 {
-    let Some(held) = room.held() else {
+    let Some(contents) = room.contents() else {
         return 0;
     };
-    let Some(room) = held.room() else {
+    let Some(room) = contents.room() else {
         return 0;
     };
     match tables.tables() {

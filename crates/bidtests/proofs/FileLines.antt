@@ -12,7 +12,7 @@ use Rattle.bidtests.specs.declared.kind.Kind.{Kind}
 use Rattle.bidtests.specs.declared.kind.Kind.TheVariants.{Classes, Characters}
 use Rattle.bidtests.specs.declared.verdict.Cause.TheVariants.{LineTooLong}
 use Rattle.bidtests.specs.Verdicts.{Finding, Faulty}
-use Rattle.bidtests.specs.ClassesFile.{ClassesLine, classes_line, comes_to, findings_behind, levels_in_force, order_in_force}
+use Rattle.bidtests.specs.ClassesFile.{ClassesLine, classes_line, comes_to, findings_after, levels_in_force, order_in_force}
 use Rattle.bidtests.specs.CharactersFile.{direction_field, characters_row_as_read, characters_row_of_items, characters_row, characters_content, characters_line}
 use Rattle.bidtests.specs.FileKinds.{findings_by}
 use Rattle.ucdfiles.specs.Tables.{unit_by}
@@ -26,33 +26,33 @@ earlier-lines line lines earlier =
     sym (ap (λ (l : List ClassesLine). l ++ earlier) (reverse-append (line ∷ []) lines) ∙ append_assoc (reverse lines) (line ∷ []) earlier)
 
 -- the finding of a line of a classes file after those before it, the nearest first
-abbrev behind : List ClassesLine → List ℕ → Finding
-behind earlier line = comes_to (levels_in_force earlier) (order_in_force earlier) (classes_line line)
+abbrev following : List ClassesLine → List ℕ → Finding
+following earlier line = comes_to (levels_in_force earlier) (order_in_force earlier) (classes_line line)
 
-found-behind : (earlier : List ClassesLine) (lines : List (List ℕ)) (k : ℕ) → k < length lines
-    → slice_get (findings_behind earlier (map classes_line lines)) k ≡ Some (behind (reverse (map classes_line (take k lines)) ++ earlier) (slice_index_or lines k []))
-found-behind earlier [] k lt = absurd (omega arith)
-found-behind earlier (line ∷ lines) zero lt = refl
-found-behind earlier (line ∷ lines) (suc k) lt =
-    grind (arith, earlier-lines, found-behind (classes_line line ∷ earlier) lines k)
+finding-at : (earlier : List ClassesLine) (lines : List (List ℕ)) (k : ℕ) → k < length lines
+    → slice_get (findings_after earlier (map classes_line lines)) k ≡ Some (following (reverse (map classes_line (take k lines)) ++ earlier) (slice_index_or lines k []))
+finding-at earlier [] k lt = absurd (omega arith)
+finding-at earlier (line ∷ lines) zero lt = refl
+finding-at earlier (line ∷ lines) (suc k) lt =
+    grind (arith, earlier-lines, finding-at (classes_line line ∷ earlier) lines k)
 
-pub line-found : (kind : Kind) (lines : List (List ℕ)) (k : ℕ) → k < length lines → slice_get (findings_by kind lines) k ≡ Some (line_comes_to kind lines k)
-line-found Classes lines k lt = grind (arith, found-behind, append-nil)
-line-found (Characters tables) lines k lt = grind (arith, slice_get-map, slice_get-get_or)
+pub line-finding : (kind : Kind) (lines : List (List ℕ)) (k : ℕ) → k < length lines → slice_get (findings_by kind lines) k ≡ Some (line_comes_to kind lines k)
+line-finding Classes lines k lt = grind (arith, finding-at, append-nil)
+line-finding (Characters tables) lines k lt = grind (arith, slice_get-map, slice_get-get_or)
 
 module _ (unit_of : ℕ → BidiUnit) where
-  claims-ordered : (text : Option (List BidiUnit)) (direction : Option Direction) (para_level : Option ParaLevel) (levels : Option (List (Option ℕ))) (order : Option (List ℕ))
+  expected-ordered : (text : Option (List BidiUnit)) (direction : Option Direction) (para_level : Option ParaLevel) (levels : Option (List (Option ℕ))) (order : Option (List ℕ))
       → IsOrdered (characters_row_as_read text direction para_level levels order)
-  claims-ordered None direction para_level levels order = tt
-  claims-ordered (Some text) None para_level levels order = tt
-  claims-ordered (Some text) (Some direction) None levels order = tt
-  claims-ordered (Some text) (Some direction) (Some para_level) None order = tt
-  claims-ordered (Some text) (Some direction) (Some para_level) (Some levels) None = tt
-  claims-ordered (Some text) (Some direction) (Some para_level) (Some levels) (Some order) = one-direction direction
+  expected-ordered None direction para_level levels order = tt
+  expected-ordered (Some text) None para_level levels order = tt
+  expected-ordered (Some text) (Some direction) None levels order = tt
+  expected-ordered (Some text) (Some direction) (Some para_level) None order = tt
+  expected-ordered (Some text) (Some direction) (Some para_level) (Some levels) None = tt
+  expected-ordered (Some text) (Some direction) (Some para_level) (Some levels) (Some order) = one-direction direction
 
   items-ordered : (items : List (List ℕ)) (direction para_level levels order : List ℕ) → IsOrdered (characters_row_of_items direction_field unit_of items direction para_level levels order)
   items-ordered [] direction para_level levels order = tt
-  items-ordered (item ∷ items) direction para_level levels order = grind (arith, claims-ordered)
+  items-ordered (item ∷ items) direction para_level levels order = grind (arith, expected-ordered)
 
   fields-ordered : (fields : List (List ℕ)) → IsOrdered (characters_row unit_of fields)
   fields-ordered [] = tt
@@ -79,4 +79,4 @@ line-ordered (Characters tables) lines k = characters-ordered (unit_by tables.no
 -- each row of a file names its directions in order
 pub findings-ordered : (kind : Kind) (lines : List (List ℕ)) (k : ℕ) (f : Finding) → slice_get (findings_by kind lines) k ≡ Some f → IsOrdered f
 findings-ordered kind lines k f e =
-    grind (arith, slice_get_within, length-findings, same_Some, line-found, line-ordered)
+    grind (arith, slice_get_within, length-findings, same_Some, line-finding, line-ordered)

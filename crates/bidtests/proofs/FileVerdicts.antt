@@ -6,12 +6,12 @@ use Rattle.bidtests.specs.declared.kind.Kind.{Kind}
 use Rattle.bidtests.specs.declared.verdict.Verdict.{Verdict}
 use Rattle.bidtests.specs.FileKinds.{findings_by, verdict_of}
 use Rattle.bidtests.specs.Headline.{Says}
-use Rattle.bidtests.proofs.CutterSteps.{verdict-of}
+use Rattle.bidtests.proofs.SplitterSteps.{verdict-of}
 use Rattle.bidtests.proofs.FileLines.{findings-ordered}
-use Rattle.bidtests.proofs.VerdictsSay.{verdict-law}
+use Rattle.bidtests.proofs.VerdictsSay.{verdict-exact}
 
-pub file-law : (limits : LimitsOf) (kind : Kind) (bytes : List ℕ) (v : Verdict) → (verdict_of limits kind bytes ≡ v) ↔ Says limits (findings_by kind (lines_of bytes)) v
-file-law limits kind bytes v = grind (arith, verdict-law, findings-ordered, verdict-of)
+pub file-verdict : (limits : LimitsOf) (kind : Kind) (bytes : List ℕ) (v : Verdict) → (verdict_of limits kind bytes ≡ v) ↔ Says limits (findings_by kind (lines_of bytes)) v
+file-verdict limits kind bytes v = grind (arith, verdict-exact, findings-ordered, verdict-of)
 
 pub file-says : (limits : LimitsOf) (kind : Kind) (bytes : List ℕ) (v : Verdict) → v ≡ verdict_of limits kind bytes → Says limits (findings_by kind (lines_of bytes)) v
-file-says limits kind bytes v e = (file-law limits kind bytes v).0 (sym e)
+file-says limits kind bytes v e = (file-verdict limits kind bytes v).0 (sym e)

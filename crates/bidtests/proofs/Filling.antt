@@ -3,13 +3,13 @@ use Rattle.std.proofs.Common.{◌≡◌, ℕ, ◌+◌, ◌*◌, ◌<◌, ◌≤�
 use Rattle.units.specs.Text.{items_of, each_read}
 
 -- these items, and then what is read
-abbrev pub read_behind : {A : Type 0} → List A → Option (List A) → Option (List A)
-read_behind xs None = None
-read_behind xs (Some ys) = Some (xs ++ ys)
+abbrev pub read_after : {A : Type 0} → List A → Option (List A) → Option (List A)
+read_after xs None = None
+read_after xs (Some ys) = Some (xs ++ ys)
 
 module _ {A : Type 0} (reading : List ℕ → Option A) where
   -- these items were read, and this is the rest of the field
-  pub record Fills (field left : List ℕ) (items : List A) : Type 0 where
-    pub read : read_behind items (each_read reading (items_of left)) ≡ each_read reading (items_of field)
+  pub record Fills (field remaining : List ℕ) (items : List A) : Type 0 where
+    pub read : read_after items (each_read reading (items_of remaining)) ≡ each_read reading (items_of field)
     pub room : 2 * length items ≤ length field + 1
-    pub more : 0 < length left → 2 * length items + length left ≤ length field
+    pub more : 0 < length remaining → 2 * length items + length remaining ≤ length field

@@ -12,7 +12,7 @@ use Rattle.bidtests.specs.declared.kind.Kind.TheVariants.{Classes, Characters}
 use Rattle.bidtests.specs.declared.verdict.Cause.TheVariants.{BitSet, DirectionField}
 use Rattle.bidtests.specs.declared.verdict.Verdict.TheVariants.{Malformed}
 use Rattle.bidtests.specs.Verdicts.{Finding, Faulty}
-use Rattle.bidtests.specs.ClassesFile.{ClassesLine, Broken, bit_set, unit_item, classes_row_as_read, classes_row_of_items, classes_row_by, classes_content, classes_line, findings_behind, classes_verdict}
+use Rattle.bidtests.specs.ClassesFile.{ClassesLine, Broken, bit_set, unit_item, classes_row_as_read, classes_row_of_items, classes_row_by, classes_content, classes_line, findings_after, classes_verdict}
 use Rattle.bidtests.specs.CharactersFile.{direction_field, characters_row_as_read, characters_row_by, characters_line, characters_verdict, characters_content, characters_row_of_items}
 use Rattle.bidtests.specs.FileKinds.{verdict_of}
 use Rattle.ucdfiles.specs.Tables.{unit_by}
@@ -81,7 +81,7 @@ line-alike : (line : List ℕ) → IsLineAlike (three_classes_line line) (classe
 unfolding three_classes_line classes_line
 line-alike line = grind (arith, content-alike)
 
-lines-alike : (earlier : List ClassesLine) (lines : List (List ℕ)) → AreSameUpTo BitSet (findings_behind earlier (map three_classes_line lines)) (findings_behind earlier (map classes_line lines))
+lines-alike : (earlier : List ClassesLine) (lines : List (List ℕ)) → AreSameUpTo BitSet (findings_after earlier (map three_classes_line lines)) (findings_after earlier (map classes_line lines))
 lines-alike earlier [] = tt
 lines-alike earlier (line ∷ lines) = grind (arith, line-alike, lines-alike (three_classes_line line ∷ earlier) lines)
 
@@ -90,17 +90,17 @@ lines-alike earlier (line ∷ lines) = grind (arith, line-alike, lines-alike (th
 abbrev IsRowAlike : Finding → Finding → Type 0
 IsRowAlike few all = (few ≡ Faulty DirectionField) ⊎ (few ≡ all)
 
-claims-alike : (text : Option (List BidiUnit)) (few all : Option Direction) (para_level : Option ParaLevel) (levels : Option (List (Option ℕ))) (order : Option (List ℕ)) → IsSameOrNone few all
+expected-alike : (text : Option (List BidiUnit)) (few all : Option Direction) (para_level : Option ParaLevel) (levels : Option (List (Option ℕ))) (order : Option (List ℕ)) → IsSameOrNone few all
     → IsRowAlike (characters_row_as_read text few para_level levels order) (characters_row_as_read text all para_level levels order)
-claims-alike None few all para_level levels order h = inr refl
-claims-alike (Some text) few all para_level levels order (inl none) = inl (rw none refl)
-claims-alike (Some text) few all para_level levels order (inr same) = inr (rw same refl)
+expected-alike None few all para_level levels order h = inr refl
+expected-alike (Some text) few all para_level levels order (inl none) = inl (rw none refl)
+expected-alike (Some text) few all para_level levels order (inr same) = inr (rw same refl)
 
 module _ (unit_of : ℕ → BidiUnit) where
   characters-alike : (items : List (List ℕ)) (direction para_level levels order : List ℕ)
       → IsRowAlike (characters_row_of_items zero_to_two unit_of items direction para_level levels order) (characters_row_of_items direction_field unit_of items direction para_level levels order)
   characters-alike [] direction para_level levels order = inr refl
-  characters-alike (item ∷ items) direction para_level levels order = grind (arith, claims-alike, direction_fields)
+  characters-alike (item ∷ items) direction para_level levels order = grind (arith, expected-alike, direction_fields)
 
   fields-alike : (fields : List (List ℕ)) → IsRowAlike (characters_row_by zero_to_two unit_of fields) (characters_row_by direction_field unit_of fields)
   fields-alike [] = inr refl

@@ -28,8 +28,8 @@ turn-at (suc (suc (suc zero))) d e = ap turn (same_Some _ _ e)
 turn-at (suc (suc (suc (suc i)))) d e = absurd (cc)
 
 -- no direction comes before itself, and no two come before each other
-pub never-behind : (d e : Direction) → ComesBefore d e → ComesBefore e d → ⊥
-never-behind d e b c = absurd (omega (arith, b.2, c.2, turn-at b.0 d b.3, turn-at b.1 e b.4, turn-at c.0 e c.3, turn-at c.1 d c.4))
+pub never-after : (d e : Direction) → ComesBefore d e → ComesBefore e d → ⊥
+never-after d e b c = absurd (omega (arith, b.2, c.2, turn-at b.0 d b.3, turn-at b.1 e b.4, turn-at c.0 e c.3, turn-at c.1 d c.4))
 
 in_order : AllPairs ComesBefore directions_in_order
 in_order i j d lt within = (i, j, lt, slice_get-get_or directions_in_order i d (omega arith), slice_get-get_or directions_in_order j d within)
@@ -54,7 +54,7 @@ at-contained ds i d e = (i, slice_get_within ds i d e, get_or_from_slice_get ds 
 abbrev pub IsOrdered : Finding → Type 0
 IsOrdered Silent = ⊤
 IsOrdered (Faulty cause) = ⊤
-IsOrdered (Row claim) = AllPairs ComesBefore claim.directions
+IsOrdered (Row expected) = AllPairs ComesBefore expected.directions
 
 abbrev RowOrdered : ClassesLine → Type 0
 RowOrdered (RowOf text directions) = AllPairs ComesBefore directions
@@ -120,12 +120,12 @@ row_under-ordered text directions None order h = tt
 row_under-ordered text directions (Some levels) None h = tt
 row_under-ordered text directions (Some levels) (Some order) h = h
 
-found-ordered : (levels : Option (List (Option ℕ))) (order : Option (List ℕ)) (said : ClassesLine) → RowOrdered said → IsOrdered (comes_to levels order said)
-found-ordered levels order Nothing h = tt
-found-ordered levels order (LevelsAre _) h = tt
-found-ordered levels order (OrderIs _) h = tt
-found-ordered levels order (Broken cause) h = tt
-found-ordered levels order (RowOf text directions) h = row_under-ordered text directions levels order h
+finding-ordered : (levels : Option (List (Option ℕ))) (order : Option (List ℕ)) (noted : ClassesLine) → RowOrdered noted → IsOrdered (comes_to levels order noted)
+finding-ordered levels order Nothing h = tt
+finding-ordered levels order (LevelsAre _) h = tt
+finding-ordered levels order (OrderIs _) h = tt
+finding-ordered levels order (Broken cause) h = tt
+finding-ordered levels order (RowOf text directions) h = row_under-ordered text directions levels order h
 
 pub classes-ordered : (levels : Option (List (Option ℕ))) (order : Option (List ℕ)) (line : List ℕ) → IsOrdered (comes_to levels order (classes_line line))
-classes-ordered levels order line = found-ordered levels order (classes_line line) (line-ordered line)
+classes-ordered levels order line = finding-ordered levels order (classes_line line) (line-ordered line)

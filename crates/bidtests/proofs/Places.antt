@@ -11,12 +11,12 @@ use Rattle.units.specs.Limits.{LimitsOf}
 use Rattle.units.specs.declared.level.Direction.{Direction}
 use Rattle.bidtests.specs.declared.verdict.Place.{Place}
 use Rattle.bidtests.specs.declared.verdict.Place.TheVariants.{ParaLevel, Levels, Order}
-use Rattle.bidtests.specs.Verdicts.{Claim, Row, first_difference, first_of, agrees, placed_in, wrong_place_under}
+use Rattle.bidtests.specs.Verdicts.{Expected, Row, first_difference, first_of, agrees, placed_in, wrong_place_under}
 use Rattle.std.specs.Option.{option_or}
 use Rattle.bidtests.specs.Headline.{layout_under, IsParaRight, IsCaseRight, IsFirstDifference, IsWrongAt}
 
-pub same-claim : (a b : Claim) → Row a ≡ Row b → a ≡ b
-same-claim a b e = cc
+pub same-expected : (a b : Expected) → Row a ≡ Row b → a ≡ b
+same-expected a b e = cc
 
 -- the lists are equal, or n is their first difference, counted from `at`
 abbrev Compared : {A : Type 0} → List A → List A → ℕ → Option ℕ → Type 0
@@ -67,53 +67,53 @@ first_is [] = refl
 first_is (x ∷ xs) = refl
 
 -- the case is right, or wrong at this place
-abbrev pub CaseIs : LimitsOf → Claim → Direction → Option Place → Type 0
-CaseIs limits claim d None = IsCaseRight limits claim d
-CaseIs limits claim d (Some place) = IsWrongAt limits claim d place
+abbrev pub CaseIs : LimitsOf → Expected → Direction → Option Place → Type 0
+CaseIs limits expected d None = IsCaseRight limits expected d
+CaseIs limits expected d (Some place) = IsWrongAt limits expected d place
 
 para_level-is : (para_level first : Option ℕ) → MatchBool (agrees para_level first) (IfSome para_level (λ level. first ≡ Some level)) (¬ IfSome para_level (λ level. first ≡ Some level))
 para_level-is None first = tt
 para_level-is (Some level) None = none-some level
 para_level-is (Some level) (Some first) = grind (arith, eqb-true, eqb-false, same_Some)
 
-module _ (limits : LimitsOf) (claim : Claim) (d : Direction) where
+module _ (limits : LimitsOf) (expected : Expected) (d : Direction) where
   from-start : {A : Type 0} (xs ys : List A) (i n : ℕ) → n ≡ 0 + i → IsFirstDifference xs ys i → IsFirstDifference xs ys n
   from-start xs ys i n e w = grind arith
 
-  chosen : (right : Bool) (l o : Option ℕ) → MatchBool right (IsParaRight limits claim d) (¬ IsParaRight limits claim d)
-      → Compared claim.levels (layout_under limits claim d).levels 0 l → Compared claim.order (all_orders (layout_under limits claim d)) 0 o
-      → CaseIs limits claim d (if right then option_or (placed_in Levels l) (placed_in Order o) else Some ParaLevel)
+  chosen : (right : Bool) (l o : Option ℕ) → MatchBool right (IsParaRight limits expected d) (¬ IsParaRight limits expected d)
+      → Compared expected.levels (layout_under limits expected d).levels 0 l → Compared expected.order (all_orders (layout_under limits expected d)) 0 o
+      → CaseIs limits expected d (if right then option_or (placed_in Levels l) (placed_in Order o) else Some ParaLevel)
   chosen false l o p c e = p
   chosen true None None p c e = record { para_level = p; levels = c; order = e }
-  chosen true (Some n) o p c e = (p, from-start claim.levels (layout_under limits claim d).levels c.0 n c.1 c.2)
-  chosen true None (Some n) p c e = (p, c, from-start claim.order (all_orders (layout_under limits claim d)) e.0 n e.1 e.2)
+  chosen true (Some n) o p c e = (p, from-start expected.levels (layout_under limits expected d).levels c.0 n c.1 c.2)
+  chosen true None (Some n) p c e = (p, c, from-start expected.order (all_orders (layout_under limits expected d)) e.0 n e.1 e.2)
 
-  para_level-right : MatchBool (agrees claim.para_level (first_of (layout_under limits claim d).paras)) (IsParaRight limits claim d) (¬ IsParaRight limits claim d)
+  para_level-right : MatchBool (agrees expected.para_level (first_of (layout_under limits expected d).paras)) (IsParaRight limits expected d) (¬ IsParaRight limits expected d)
   para_level-right = grind (arith, first_is, para_level-is)
 
   -- the result of the search
-  pub case-is : CaseIs limits claim d (wrong_place_under limits claim d)
+  pub case-is : CaseIs limits expected d (wrong_place_under limits expected d)
   case-is =
-      let layout = layout_under limits claim d in
-      chosen (agrees claim.para_level (first_of layout.paras)) (first_difference same_position claim.levels layout.levels 0) (first_difference nat_eq claim.order (all_orders layout) 0)
+      let layout = layout_under limits expected d in
+      chosen (agrees expected.para_level (first_of layout.paras)) (first_difference same_position expected.levels layout.levels 0) (first_difference nat_eq expected.order (all_orders layout) 0)
       para_level-right
-      (compared same_position same_position_true other_levels claim.levels layout.levels 0)
-      (compared nat_eq (λ x y e. eqb-true x y e) (λ x y e. eqb-false x y e) claim.order (all_orders layout) 0)
+      (compared same_position same_position_true other_levels expected.levels layout.levels 0)
+      (compared nat_eq (λ x y e. eqb-true x y e) (λ x y e. eqb-false x y e) expected.order (all_orders layout) 0)
 
   -- no case is both right and wrong
-  pub right-wrong : (place : Place) → IsCaseRight limits claim d → IsWrongAt limits claim d place → ⊥
+  pub right-wrong : (place : Place) → IsCaseRight limits expected d → IsWrongAt limits expected d place → ⊥
   right-wrong ParaLevel r w = w r.para_level
-  right-wrong (Levels i) r w = no_difference claim.levels (layout_under limits claim d).levels i r.levels w.1
-  right-wrong (Order i) r w = no_difference claim.order (all_orders (layout_under limits claim d)) i r.order w.2
+  right-wrong (Levels i) r w = no_difference expected.levels (layout_under limits expected d).levels i r.levels w.1
+  right-wrong (Order i) r w = no_difference expected.order (all_orders (layout_under limits expected d)) i r.order w.2
 
   -- only one place is the first wrong one
-  pub place-unique : (p q : Place) → IsWrongAt limits claim d p → IsWrongAt limits claim d q → p ≡ q
+  pub place-unique : (p q : Place) → IsWrongAt limits expected d p → IsWrongAt limits expected d q → p ≡ q
   place-unique ParaLevel ParaLevel w v = refl
   place-unique ParaLevel (Levels j) w v = absurd (w v.0)
   place-unique ParaLevel (Order j) w v = absurd (w v.0)
   place-unique (Levels i) ParaLevel w v = absurd (v w.0)
-  place-unique (Levels i) (Levels j) w v = ap (λ n. Levels n) (difference_unique claim.levels (layout_under limits claim d).levels i j w.1 v.1)
-  place-unique (Levels i) (Order j) w v = absurd (no_difference claim.levels (layout_under limits claim d).levels i v.1 w.1)
+  place-unique (Levels i) (Levels j) w v = ap (λ n. Levels n) (difference_unique expected.levels (layout_under limits expected d).levels i j w.1 v.1)
+  place-unique (Levels i) (Order j) w v = absurd (no_difference expected.levels (layout_under limits expected d).levels i v.1 w.1)
   place-unique (Order i) ParaLevel w v = absurd (v w.0)
-  place-unique (Order i) (Levels j) w v = absurd (no_difference claim.levels (layout_under limits claim d).levels j w.1 v.1)
-  place-unique (Order i) (Order j) w v = ap (λ n. Order n) (difference_unique claim.order (all_orders (layout_under limits claim d)) i j w.2 v.2)
+  place-unique (Order i) (Levels j) w v = absurd (no_difference expected.levels (layout_under limits expected d).levels j w.1 v.1)
+  place-unique (Order i) (Order j) w v = ap (λ n. Order n) (difference_unique expected.order (all_orders (layout_under limits expected d)) i j w.2 v.2)

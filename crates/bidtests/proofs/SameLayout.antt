@@ -11,7 +11,7 @@ use Rattle.units.specs.Layout.{layout_of, para_levels_of, resolved_levels}
 use Rattle.units.specs.Limits.{LimitsOf}
 use Rattle.lines.specs.declared.scratch.Scratch.{Scratch}
 use Rattle.bidtests.specs.LaidOut.{IsLaidOut}
-use Rattle.bidtests.specs.Verdicts.{Claim, wrong_case}
+use Rattle.bidtests.specs.Verdicts.{Expected, wrong_case}
 use Rattle.bidtests.specs.Comparisons.{HasNoWrongPlace}
 
 -- paragraphs with the same levels are resolved alike
@@ -49,11 +49,11 @@ alike-by-level limits text d e levels are same =
     one-laid-out-alike limits text d e [] (para_level_of [] e) one all
 
 -- if a row is right under one direction, it is right under another that gives its text's only paragraph the same level
-pub also-right : (limits : LimitsOf) (claim : Claim) (d : Direction) (found : Option Direction) (levels : List ℕ) → levels ≡ para_levels_of claim.text d
-    → IfSome found (λ e. (classes : List Class) → levels ≡ para_level_of classes e ∷ []) → HasNoWrongPlace limits claim d → IfSome found (HasNoWrongPlace limits claim)
-also-right limits claim d None levels are same right = tt
-also-right limits claim d (Some e) levels are same right =
-    let alike = alike-by-level limits claim.text d e levels are same in
+pub also-right : (limits : LimitsOf) (expected : Expected) (d : Direction) (found : Option Direction) (levels : List ℕ) → levels ≡ para_levels_of expected.text d
+    → IfSome found (λ e. (classes : List Class) → levels ≡ para_level_of classes e ∷ []) → HasNoWrongPlace limits expected d → IfSome found (HasNoWrongPlace limits expected)
+also-right limits expected d None levels are same right = tt
+also-right limits expected d (Some e) levels are same right =
+    let alike = alike-by-level limits expected.text d e levels are same in
     rw (← alike) right
 
 -- the layout in a scratch is also the one under such a direction, if there is one
@@ -63,6 +63,6 @@ also-laid-out limits text scratch d None levels are same laid = tt
 also-laid-out limits text scratch d (Some e) levels are same laid = record { filled = laid.filled; layout = laid.layout ∙ alike-by-level limits text d e levels are same }
 
 -- a direction under which the row is right is skipped
-pub passed-over : (limits : LimitsOf) (claim : Claim) (ds : List Direction) (i : ℕ) (d : Direction) → i < length ds → HasNoWrongPlace limits claim (get_or ds i d) → wrong_case limits claim (drop i ds) ≡ wrong_case limits claim (drop (i + 1) ds)
-passed-over limits claim ds i d lt right =
+pub passed-over : (limits : LimitsOf) (expected : Expected) (ds : List Direction) (i : ℕ) (d : Direction) → i < length ds → HasNoWrongPlace limits expected (get_or ds i d) → wrong_case limits expected (drop i ds) ≡ wrong_case limits expected (drop (i + 1) ds)
+passed-over limits expected ds i d lt right =
     rw (add-one, drop-cons ds i d lt) (rw right refl)

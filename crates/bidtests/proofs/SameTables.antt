@@ -10,7 +10,7 @@ use Rattle.bidtests.specs.Verdicts.{Finding}
 use Rattle.bidtests.specs.ClassesFile.{classes_findings, classes_verdict}
 use Rattle.bidtests.specs.CharactersFile.{characters_line, characters_verdict}
 use Rattle.bidtests.specs.FileKinds.{findings_by, verdict_of}
-use Rattle.bidtests.specs.Carried.{Carried, AreInForce, IsBehind}
+use Rattle.bidtests.specs.Carried.{Carried, AreInForce, IsAfter}
 use Rattle.bidtests.specs.JudgedSoFar.{StateOf, JudgesBy, Judges, HoldsFor, judging, tables_of}
 
 abbrev findings_with : Option TablesOf → List (List ℕ) → List Finding
@@ -40,12 +40,12 @@ module _ (limits : LimitsOf) (kind other : Kind) (same : tables_of other ≡ tab
   pub findings-as : (lines : List (List ℕ)) → findings_by kind lines ≡ findings_by other lines
   findings-as lines = findings-with kind lines ∙ ap (λ t. findings_with t lines) (sym same) ∙ sym (findings-with other lines)
 
-  behind-as : (s : Carried) (lines : List (List ℕ)) → IsBehind limits kind s lines → IsBehind limits other s lines
-  behind-as s lines h = grind (arith, findings-as, in-force-as)
+  following-as : (s : Carried) (lines : List (List ℕ)) → IsAfter limits kind s lines → IsAfter limits other s lines
+  following-as s lines h = grind (arith, findings-as, in-force-as)
 
   judges-as : (decided : Option Verdict) (cutting : Cutting) (s : Carried) (b : List ℕ) → JudgesBy limits kind decided cutting s b → JudgesBy limits other decided cutting s b
   judges-as None cutting s b h =
-      record { cutter = h.cutter; lines = h.lines; rest = h.rest; cut = h.cut; behind = behind-as s h.lines h.behind }
+      record { splitter = h.splitter; lines = h.lines; rest = h.rest; cut = h.cut; following = following-as s h.lines h.following }
   judges-as (Some verdict) cutting s b h = λ more.
       verdict-with limits other (b ++ more) ∙ ap (λ t. verdict_with limits t (b ++ more)) same ∙ sym (verdict-with limits kind (b ++ more)) ∙ h more
 

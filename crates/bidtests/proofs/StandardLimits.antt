@@ -6,20 +6,20 @@ use Rattle.units.specs.StandardLimits.{standard_layout}
 use Rattle.units.specs.declared.bracket.Unit.{Unit as BidiUnit}
 use Rattle.units.specs.declared.level.Direction.{Direction}
 use Rattle.bidtests.specs.declared.kind.Kind.{Kind}
-use Rattle.bidtests.specs.Verdicts.{Claim, Finding, Silent, Row, Faulty, wrong_case, wrong_at, no_of, first_no, verdict_on}
+use Rattle.bidtests.specs.Verdicts.{Expected, Finding, Silent, Row, Faulty, wrong_case, wrong_at, no_of, first_no, verdict_on}
 use Rattle.bidtests.specs.FileKinds.{verdict_of}
 use Rattle.bidtests.specs.StandardVerdicts.{standard_wrong_case, standard_no_of, standard_first_no, standard_verdict_of}
-use Rattle.bidtests.proofs.CutterSteps.{verdict-of}
+use Rattle.bidtests.proofs.SplitterSteps.{verdict-of}
 
 module _ (same : (text : List BidiUnit) (direction : Direction) (breaks : List ℕ) → layout_of standard text direction breaks ≡ standard_layout text direction breaks) where
-  standard-case : (claim : Claim) (ds : List Direction) → wrong_case standard claim ds ≡ standard_wrong_case claim ds
-  standard-case claim [] = refl
-  standard-case claim (d ∷ ds) = rw (same claim.text d [], standard-case claim ds) refl
+  standard-case : (expected : Expected) (ds : List Direction) → wrong_case standard expected ds ≡ standard_wrong_case expected ds
+  standard-case expected [] = refl
+  standard-case expected (d ∷ ds) = rw (same expected.text d [], standard-case expected ds) refl
 
   standard-fault : (number : ℕ) (f : Finding) → no_of standard number f ≡ standard_no_of number f
   standard-fault number Silent = refl
   standard-fault number (Faulty cause) = refl
-  standard-fault number (Row claim) = ap (wrong_at number) (standard-case claim claim.directions)
+  standard-fault number (Row expected) = ap (wrong_at number) (standard-case expected expected.directions)
 
   standard-first : (k : ℕ) (fs : List Finding) → first_no standard k fs ≡ standard_first_no k fs
   standard-first k [] = refl

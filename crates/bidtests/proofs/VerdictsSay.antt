@@ -9,70 +9,70 @@ use Rattle.bidtests.specs.declared.verdict.Cause.{Cause}
 use Rattle.bidtests.specs.declared.verdict.Place.{Place}
 use Rattle.bidtests.specs.declared.verdict.Verdict.{Verdict}
 use Rattle.bidtests.specs.declared.verdict.Verdict.TheVariants.{Yes, Malformed, Wrong}
-use Rattle.bidtests.specs.Verdicts.{Claim, Finding, Silent, Row, Faulty, wrong_place_under, wrong_case, with_place, wrong_at, no_of, first_no, or_yes, verdict_on}
+use Rattle.bidtests.specs.Verdicts.{Expected, Finding, Silent, Row, Faulty, wrong_place_under, wrong_case, with_place, wrong_at, no_of, first_no, or_yes, verdict_on}
 use Rattle.std.specs.Option.{option_or}
 use Rattle.units.specs.Lines.{line_number}
 use Rattle.bidtests.specs.Headline.{IsMalformed, IsRow, IsCaseRight, IsWrongAt, ComesBefore, AreRight, FirstIsMalformed, FirstIsWrong, Says}
-use Rattle.bidtests.proofs.Places.{CaseIs, case-is, right-wrong, place-unique, same-claim}
-use Rattle.bidtests.proofs.Ordered.{IsOrdered, never-behind, earlier-before, contained-at, at-contained}
+use Rattle.bidtests.proofs.Places.{CaseIs, case-is, right-wrong, place-unique, same-expected}
+use Rattle.bidtests.proofs.Ordered.{IsOrdered, never-after, earlier-before, contained-at, at-contained}
 
 module _ (limits : LimitsOf) where
   -- all cases are right, or this one is the first wrong one, at this place
-  abbrev CasesAre : Claim → List Direction → Option (Direction × Place) → Type 0
-  CasesAre claim ds None = (i : ℕ) (d : Direction) → slice_get ds i ≡ Some d → IsCaseRight limits claim d
-  CasesAre claim ds (Some x) =
-      (j : ℕ) × (slice_get ds j ≡ Some x.0) × ((i : ℕ) (d : Direction) → i < j → slice_get ds i ≡ Some d → IsCaseRight limits claim d) × IsWrongAt limits claim x.0 x.1
+  abbrev CasesAre : Expected → List Direction → Option (Direction × Place) → Type 0
+  CasesAre expected ds None = (i : ℕ) (d : Direction) → slice_get ds i ≡ Some d → IsCaseRight limits expected d
+  CasesAre expected ds (Some x) =
+      (j : ℕ) × (slice_get ds j ≡ Some x.0) × ((i : ℕ) (d : Direction) → i < j → slice_get ds i ≡ Some d → IsCaseRight limits expected d) × IsWrongAt limits expected x.0 x.1
 
-  all-right : (claim : Claim) (d : Direction) (ds : List Direction) → IsCaseRight limits claim d → CasesAre claim ds None → CasesAre claim (d ∷ ds) None
-  all-right claim d ds right rest zero e h = subst (IsCaseRight limits claim) (same_Some _ _ h) right
-  all-right claim d ds right rest (suc i) e h = rest i e h
+  all-right : (expected : Expected) (d : Direction) (ds : List Direction) → IsCaseRight limits expected d → CasesAre expected ds None → CasesAre expected (d ∷ ds) None
+  all-right expected d ds right rest zero e h = subst (IsCaseRight limits expected) (same_Some _ _ h) right
+  all-right expected d ds right rest (suc i) e h = rest i e h
 
-  earlier-right : (claim : Claim) (d : Direction) (ds : List Direction) (j : ℕ) → IsCaseRight limits claim d
-      → ((i : ℕ) (e : Direction) → i < j → slice_get ds i ≡ Some e → IsCaseRight limits claim e)
-      → (i : ℕ) (e : Direction) → i < suc j → slice_get (d ∷ ds) i ≡ Some e → IsCaseRight limits claim e
-  earlier-right claim d ds j right rest zero e lt h = subst (IsCaseRight limits claim) (same_Some _ _ h) right
-  earlier-right claim d ds j right rest (suc i) e lt h = rest i e (omega arith) h
+  earlier-right : (expected : Expected) (d : Direction) (ds : List Direction) (j : ℕ) → IsCaseRight limits expected d
+      → ((i : ℕ) (e : Direction) → i < j → slice_get ds i ≡ Some e → IsCaseRight limits expected e)
+      → (i : ℕ) (e : Direction) → i < suc j → slice_get (d ∷ ds) i ≡ Some e → IsCaseRight limits expected e
+  earlier-right expected d ds j right rest zero e lt h = subst (IsCaseRight limits expected) (same_Some _ _ h) right
+  earlier-right expected d ds j right rest (suc i) e lt h = rest i e (omega arith) h
 
-  cases-more : (claim : Claim) (d : Direction) (ds : List Direction) (place : Option Place) (rest : Option (Direction × Place))
-      → CaseIs limits claim d place → CasesAre claim ds rest → CasesAre claim (d ∷ ds) (option_or (with_place d place) rest)
-  cases-more claim d ds None None right are = all-right claim d ds right are
-  cases-more claim d ds None (Some x) right are = (suc are.0, are.1, earlier-right claim d ds are.0 right are.2, are.3)
-  cases-more claim d ds (Some place) rest wrong are = (0, refl, (λ i e lt h. absurd (omega arith)), wrong)
+  cases-more : (expected : Expected) (d : Direction) (ds : List Direction) (place : Option Place) (rest : Option (Direction × Place))
+      → CaseIs limits expected d place → CasesAre expected ds rest → CasesAre expected (d ∷ ds) (option_or (with_place d place) rest)
+  cases-more expected d ds None None right are = all-right expected d ds right are
+  cases-more expected d ds None (Some x) right are = (suc are.0, are.1, earlier-right expected d ds are.0 right are.2, are.3)
+  cases-more expected d ds (Some place) rest wrong are = (0, refl, (λ i e lt h. absurd (omega arith)), wrong)
 
-  cases-are : (claim : Claim) (ds : List Direction) → CasesAre claim ds (wrong_case limits claim ds)
-  cases-are claim [] = λ i d e. absurd (none-some d e)
-  cases-are claim (d ∷ ds) =
-      cases-more claim d ds (wrong_place_under limits claim d) (wrong_case limits claim ds) (case-is limits claim d) (cases-are claim ds)
+  cases-are : (expected : Expected) (ds : List Direction) → CasesAre expected ds (wrong_case limits expected ds)
+  cases-are expected [] = λ i d e. absurd (none-some d e)
+  cases-are expected (d ∷ ds) =
+      cases-more expected d ds (wrong_place_under limits expected d) (wrong_case limits expected ds) (case-is limits expected d) (cases-are expected ds)
 
   -- a line without a fault
   record IsLineRight (f : Finding) : Type 0 where
     well_formed : (cause : Cause) → f ≢ Faulty cause
-    right : (claim : Claim) (d : Direction) → f ≡ Row claim → Contains claim.directions d → IsCaseRight limits claim d
+    right : (expected : Expected) (d : Direction) → f ≡ Row expected → Contains expected.directions d → IsCaseRight limits expected d
 
-  claims-right : (n : ℕ) (claim : Claim) (o : Option (Direction × Place)) → wrong_at n o ≡ None → CasesAre claim claim.directions o
-      → (d : Direction) → Contains claim.directions d → IsCaseRight limits claim d
-  claims-right n claim None e are d h = let at = contained-at claim.directions d h in are at.0 d at.1
-  claims-right n claim (Some x) e are d h = absurd (none-some _ (sym e))
+  expected-right : (n : ℕ) (expected : Expected) (o : Option (Direction × Place)) → wrong_at n o ≡ None → CasesAre expected expected.directions o
+      → (d : Direction) → Contains expected.directions d → IsCaseRight limits expected d
+  expected-right n expected None e are d h = let at = contained-at expected.directions d h in are at.0 d at.1
+  expected-right n expected (Some x) e are d h = absurd (none-some _ (sym e))
 
   line-right : (n : ℕ) (f : Finding) → no_of limits n f ≡ None → IsLineRight f
-  line-right n Silent e = record { well_formed = λ cause h. absurd (cc); right = λ claim d h k. absurd (cc) }
+  line-right n Silent e = record { well_formed = λ cause h. absurd (cc); right = λ expected d h k. absurd (cc) }
   line-right n (Faulty cause) e = absurd (none-some _ (sym e))
-  line-right n (Row claim) e =
-      let all : (d : Direction) → Contains claim.directions d → IsCaseRight limits claim d = claims-right n claim (wrong_case limits claim claim.directions) e (cases-are claim claim.directions) in
-      let P : Claim → Type 0 = λ c. (d : Direction) → Contains c.directions d → IsCaseRight limits c d in
-      record { well_formed = λ cause h. absurd (cc); right = λ other d h k. subst P (same-claim claim other h) all d k }
+  line-right n (Row expected) e =
+      let all : (d : Direction) → Contains expected.directions d → IsCaseRight limits expected d = expected-right n expected (wrong_case limits expected expected.directions) e (cases-are expected expected.directions) in
+      let P : Expected → Type 0 = λ c. (d : Direction) → Contains c.directions d → IsCaseRight limits c d in
+      record { well_formed = λ cause h. absurd (cc); right = λ other d h k. subst P (same-expected expected other h) all d k }
 
   none-right : (fs : List Finding) → AreRight limits fs 0
-  none-right fs = record { well_formed = λ k cause lt. absurd (omega arith); right = λ k claim d lt. absurd (omega arith) }
+  none-right fs = record { well_formed = λ k cause lt. absurd (omega arith); right = λ k expected d lt. absurd (omega arith) }
 
   module _ (f : Finding) (fs : List Finding) (n : ℕ) (first : IsLineRight f) (rest : AreRight limits fs n) where
     formed-more : (k : ℕ) (cause : Cause) → k < suc n → ¬ IsMalformed (f ∷ fs) k cause
     formed-more zero cause lt e = first.well_formed cause (same_Some _ _ e)
     formed-more (suc k) cause lt e = rest.well_formed k cause (omega arith) e
 
-    rows-more : (k : ℕ) (claim : Claim) (d : Direction) → k < suc n → IsRow (f ∷ fs) k claim → Contains claim.directions d → IsCaseRight limits claim d
-    rows-more zero claim d lt e h = first.right claim d (same_Some _ _ e) h
-    rows-more (suc k) claim d lt e h = rest.right k claim d (omega arith) e h
+    rows-more : (k : ℕ) (expected : Expected) (d : Direction) → k < suc n → IsRow (f ∷ fs) k expected → Contains expected.directions d → IsCaseRight limits expected d
+    rows-more zero expected d lt e h = first.right expected d (same_Some _ _ e) h
+    rows-more (suc k) expected d lt e h = rest.right k expected d (omega arith) e h
 
     right-more : AreRight limits (f ∷ fs) (suc n)
     right-more = record { well_formed = formed-more; right = rows-more }
@@ -97,53 +97,53 @@ module _ (limits : LimitsOf) where
   lines-are (f ∷ fs) o = lines-more f fs o (no_of limits (line_number o) f) (first_no limits (o + 1) fs) refl (lines-are fs (o + 1))
 
   -- the directions of a wrong row before the first wrong one
-  module _ (claim : Claim) (ordered : AllPairs ComesBefore claim.directions) where
-    before-wrong : (j : ℕ) (e : Direction) → slice_get claim.directions j ≡ Some e
-        → ((i : ℕ) (d : Direction) → i < j → slice_get claim.directions i ≡ Some d → IsCaseRight limits claim d)
-        → (d : Direction) → Contains claim.directions d → ComesBefore d e → IsCaseRight limits claim d
+  module _ (expected : Expected) (ordered : AllPairs ComesBefore expected.directions) where
+    before-wrong : (j : ℕ) (e : Direction) → slice_get expected.directions j ≡ Some e
+        → ((i : ℕ) (d : Direction) → i < j → slice_get expected.directions i ≡ Some d → IsCaseRight limits expected d)
+        → (d : Direction) → Contains expected.directions d → ComesBefore d e → IsCaseRight limits expected d
     before-wrong j e at right d has before =
-        let here = contained-at claim.directions d has in
+        let here = contained-at expected.directions d has in
         elim (cases_order here.0 j) [
           | inl same ↦
-              let is : d ≡ e = same_Some _ _ (sym here.1 ∙ ap (λ n. slice_get claim.directions n) same ∙ at) in
+              let is : d ≡ e = same_Some _ _ (sym here.1 ∙ ap (λ n. slice_get expected.directions n) same ∙ at) in
               let P : Direction → Type 0 = λ x. ComesBefore x d in
-              absurd (never-behind d e before (subst P is (subst (ComesBefore d) (sym is) before)))
+              absurd (never-after d e before (subst P is (subst (ComesBefore d) (sym is) before)))
           | inr other ↦ elim other [
             | inl less ↦ right here.0 d less here.1
-            | inr more ↦ absurd (never-behind d e before (earlier-before claim.directions ordered j here.0 e d more at here.1))
+            | inr more ↦ absurd (never-after d e before (earlier-before expected.directions ordered j here.0 e d more at here.1))
           ]
         ]
 
-    same-case : (d e : Direction) (p q : Place) → Contains claim.directions d → Contains claim.directions e
-        → ((x : Direction) → Contains claim.directions x → ComesBefore x d → IsCaseRight limits claim x) → ((x : Direction) → Contains claim.directions x → ComesBefore x e → IsCaseRight limits claim x)
-        → IsWrongAt limits claim d p → IsWrongAt limits claim e q → (d ≡ e) × (p ≡ q)
+    same-case : (d e : Direction) (p q : Place) → Contains expected.directions d → Contains expected.directions e
+        → ((x : Direction) → Contains expected.directions x → ComesBefore x d → IsCaseRight limits expected x) → ((x : Direction) → Contains expected.directions x → ComesBefore x e → IsCaseRight limits expected x)
+        → IsWrongAt limits expected d p → IsWrongAt limits expected e q → (d ≡ e) × (p ≡ q)
     same-case d e p q hd he bd be wd we =
-        let i = contained-at claim.directions d hd in
-        let j = contained-at claim.directions e he in
+        let i = contained-at expected.directions d hd in
+        let j = contained-at expected.directions e he in
         elim (cases_order i.0 j.0) [
           | inl same ↦
-              let is : d ≡ e = same_Some _ _ (sym i.1 ∙ ap (λ n. slice_get claim.directions n) same ∙ j.1) in
-              let P : Direction → Type 0 = λ x. IsWrongAt limits claim x q in
-              (is, place-unique limits claim d p q wd (subst P (sym is) we))
+              let is : d ≡ e = same_Some _ _ (sym i.1 ∙ ap (λ n. slice_get expected.directions n) same ∙ j.1) in
+              let P : Direction → Type 0 = λ x. IsWrongAt limits expected x q in
+              (is, place-unique limits expected d p q wd (subst P (sym is) we))
           | inr other ↦ elim other [
-            | inl less ↦ absurd (right-wrong limits claim d p (be d hd (earlier-before claim.directions ordered i.0 j.0 d e less i.1 j.1)) wd)
-            | inr more ↦ absurd (right-wrong limits claim e q (bd e he (earlier-before claim.directions ordered j.0 i.0 e d more j.1 i.1)) we)
+            | inl less ↦ absurd (right-wrong limits expected d p (be d hd (earlier-before expected.directions ordered i.0 j.0 d e less i.1 j.1)) wd)
+            | inr more ↦ absurd (right-wrong limits expected e q (bd e he (earlier-before expected.directions ordered j.0 i.0 e d more j.1 i.1)) we)
           ]
         ]
 
   module _ (fs : List Finding) (ordered : (k : ℕ) (f : Finding) → slice_get fs k ≡ Some f → IsOrdered f) where
-    row-says : (k n : ℕ) (claim : Claim) → IsRow fs k claim → AreRight limits fs k → n ≡ line_number k
-        → (o : Option (Direction × Place)) → CasesAre claim claim.directions o → (v : Verdict) → wrong_at n o ≡ Some v → Says limits fs v
-    row-says k n claim row right number None are v e = absurd (none-some v e)
-    row-says k n claim row right number (Some x) are v e =
+    row-says : (k n : ℕ) (expected : Expected) → IsRow fs k expected → AreRight limits fs k → n ≡ line_number k
+        → (o : Option (Direction × Place)) → CasesAre expected expected.directions o → (v : Verdict) → wrong_at n o ≡ Some v → Says limits fs v
+    row-says k n expected row right number None are v e = absurd (none-some v e)
+    row-says k n expected row right number (Some x) are v e =
         let says : FirstIsWrong limits fs n x.0 x.1 = record {
           k = k;
           numbered = number;
           earlier = right;
-          claim = claim;
+          expected = expected;
           row = row;
-          names = at-contained claim.directions are.0 x.0 are.1;
-          before = before-wrong claim (ordered k (Row claim) row) are.0 x.0 are.1 are.2;
+          names = at-contained expected.directions are.0 x.0 are.1;
+          before = before-wrong expected (ordered k (Row expected) row) are.0 x.0 are.1 are.2;
           wrong = are.3;
         } in
         subst (Says limits fs) (same_Some _ _ e) says
@@ -151,8 +151,8 @@ module _ (limits : LimitsOf) where
     fault-says : (k n : ℕ) (f : Finding) → slice_get fs k ≡ Some f → AreRight limits fs k → n ≡ line_number k → (v : Verdict) → no_of limits n f ≡ Some v → Says limits fs v
     fault-says k n Silent at right number v e = absurd (none-some v e)
     fault-says k n (Faulty cause) at right number v e = grind (arith, same_Some)
-    fault-says k n (Row claim) at right number v e =
-        row-says k n claim at right number (wrong_case limits claim claim.directions) (cases-are claim claim.directions) v e
+    fault-says k n (Row expected) at right number v e =
+        row-says k n expected at right number (wrong_case limits expected expected.directions) (cases-are expected expected.directions) v e
 
     says-by : (o : Option Verdict) → LinesAre fs 0 o → Says limits fs (or_yes fs o)
     says-by None are = record { all = are; rows_counted = refl; cases_counted = refl }
@@ -174,14 +174,14 @@ module _ (limits : LimitsOf) where
 
     wrong-unique : (n m : ℕ) (d e : Direction) (p q : Place) → FirstIsWrong limits fs n d p → FirstIsWrong limits fs m e q → Wrong n d p ≡ Wrong m e q
     wrong-unique n m d e p q a b =
-        let same : a.k ≡ b.k = same-line a.k b.k (λ lt. right-wrong limits a.claim d p (b.earlier.right a.k a.claim d lt a.row a.names) a.wrong)
-        (λ lt. right-wrong limits b.claim e q (a.earlier.right b.k b.claim e lt b.row b.names) b.wrong) in
+        let same : a.k ≡ b.k = same-line a.k b.k (λ lt. right-wrong limits a.expected d p (b.earlier.right a.k a.expected d lt a.row a.names) a.wrong)
+        (λ lt. right-wrong limits b.expected e q (a.earlier.right b.k b.expected e lt b.row b.names) b.wrong) in
         let number : n ≡ m = a.numbered ∙ ap (λ k. line_number k) same ∙ sym b.numbered in
-        let claim : b.claim ≡ a.claim = same-claim b.claim a.claim (same_Some _ _ (sym b.row ∙ ap (λ k. slice_get fs k) (sym same) ∙ a.row)) in
-        let Names : Claim → Type 0 = λ c. Contains c.directions e in
-        let Before : Claim → Type 0 = λ c. (x : Direction) → Contains c.directions x → ComesBefore x e → IsCaseRight limits c x in
-        let Wrongly : Claim → Type 0 = λ c. IsWrongAt limits c e q in
-        let case = same-case a.claim (ordered a.k (Row a.claim) a.row) d e p q a.names (subst Names claim b.names) a.before (subst Before claim b.before) a.wrong (subst Wrongly claim b.wrong) in
+        let expected : b.expected ≡ a.expected = same-expected b.expected a.expected (same_Some _ _ (sym b.row ∙ ap (λ k. slice_get fs k) (sym same) ∙ a.row)) in
+        let Names : Expected → Type 0 = λ c. Contains c.directions e in
+        let Before : Expected → Type 0 = λ c. (x : Direction) → Contains c.directions x → ComesBefore x e → IsCaseRight limits c x in
+        let Wrongly : Expected → Type 0 = λ c. IsWrongAt limits c e q in
+        let case = same-case a.expected (ordered a.k (Row a.expected) a.row) d e p q a.names (subst Names expected b.names) a.before (subst Before expected b.before) a.wrong (subst Wrongly expected b.wrong) in
         let direction : d ≡ e = case.0 in
         let place : p ≡ q = case.1 in
         cc
@@ -189,14 +189,14 @@ module _ (limits : LimitsOf) where
     says-unique : (v w : Verdict) → Says limits fs v → Says limits fs w → v ≡ w
     says-unique (Yes r c) (Yes s e) a b = let rows : r ≡ s = a.rows_counted ∙ sym b.rows_counted in let cases : c ≡ e = a.cases_counted ∙ sym b.cases_counted in cc
     says-unique (Yes r c) (Malformed n cause) a b = absurd (a.all.well_formed b.k cause (slice_get_within fs b.k (Faulty cause) b.malformed) b.malformed)
-    says-unique (Yes r c) (Wrong n d p) a b = absurd (right-wrong limits b.claim d p (a.all.right b.k b.claim d (slice_get_within fs b.k (Row b.claim) b.row) b.row b.names) b.wrong)
+    says-unique (Yes r c) (Wrong n d p) a b = absurd (right-wrong limits b.expected d p (a.all.right b.k b.expected d (slice_get_within fs b.k (Row b.expected) b.row) b.row b.names) b.wrong)
     says-unique (Malformed n cause) (Yes r c) a b = absurd (b.all.well_formed a.k cause (slice_get_within fs a.k (Faulty cause) a.malformed) a.malformed)
     says-unique (Malformed n c) (Malformed m e) a b = malformed-unique n m c e a b
     says-unique (Malformed n c) (Wrong m d p) a b = absurd (not-both n m c d p a b)
-    says-unique (Wrong n d p) (Yes r c) a b = absurd (right-wrong limits a.claim d p (b.all.right a.k a.claim d (slice_get_within fs a.k (Row a.claim) a.row) a.row a.names) a.wrong)
+    says-unique (Wrong n d p) (Yes r c) a b = absurd (right-wrong limits a.expected d p (b.all.right a.k a.expected d (slice_get_within fs a.k (Row a.expected) a.row) a.row a.names) a.wrong)
     says-unique (Wrong n d p) (Malformed m c) a b = absurd (not-both m n c d p b a)
     says-unique (Wrong n d p) (Wrong m e q) a b = wrong-unique n m d e p q a b
 
     -- the verdict is the only one whose meaning is true of the file
-    pub verdict-law : (v : Verdict) → (verdict_on limits fs ≡ v) ↔ Says limits fs v
-    verdict-law v = ((λ e. subst (Says limits fs) e verdict-says), λ s. says-unique (verdict_on limits fs) v verdict-says s)
+    pub verdict-exact : (v : Verdict) → (verdict_on limits fs ≡ v) ↔ Says limits fs v
+    verdict-exact v = ((λ e. subst (Says limits fs) e verdict-says), λ s. says-unique (verdict_on limits fs) v verdict-says s)

@@ -29,28 +29,28 @@ abbrev pub at_start : LimitsOf → Carried
 at_start limits = record { limits = limits; levels = None; order = None; rows = 0; cases = 0 }
 
 -- the levels in force after this line
-abbrev pub levels_behind : ClassesLine → Option (List (Option ℕ)) → Option (List (Option ℕ))
-levels_behind (LevelsAre levels) before = Some levels
-levels_behind _ before = before
+abbrev pub levels_after : ClassesLine → Option (List (Option ℕ)) → Option (List (Option ℕ))
+levels_after (LevelsAre levels) before = Some levels
+levels_after _ before = before
 
 -- the order in force after this line
-abbrev pub order_behind : ClassesLine → Option (List ℕ) → Option (List ℕ)
-order_behind (OrderIs order) before = Some order
-order_behind _ before = before
+abbrev pub order_after : ClassesLine → Option (List ℕ) → Option (List ℕ)
+order_after (OrderIs order) before = Some order
+order_after _ before = before
 
 -- the number of rows after a line with this finding
-abbrev pub rows_behind : Finding → ℕ → ℕ
-rows_behind (Row claim) before = saturated (before + 1)
-rows_behind _ before = before
+abbrev pub rows_after : Finding → ℕ → ℕ
+rows_after (Row expected) before = saturated (before + 1)
+rows_after _ before = before
 
 -- the number of cases after a line with this finding
-abbrev pub cases_behind : Finding → ℕ → ℕ
-cases_behind (Row claim) before = saturated (before + length claim.directions)
-cases_behind _ before = before
+abbrev pub cases_after : Finding → ℕ → ℕ
+cases_after (Row expected) before = saturated (before + length expected.directions)
+cases_after _ before = before
 
 -- the state after the row and the cases of this finding are counted
 abbrev pub counted : Finding → Carried → Carried
-counted found s = record { limits = s.limits; levels = s.levels; order = s.order; rows = rows_behind found s.rows; cases = cases_behind found s.cases }
+counted found s = record { limits = s.limits; levels = s.levels; order = s.order; rows = rows_after found s.rows; cases = cases_after found s.cases }
 
 -- the state after a right row with so many cases is counted
 abbrev pub with_right_row : ℕ → Carried → Carried
@@ -58,16 +58,16 @@ with_right_row cases s = record { limits = s.limits; levels = s.levels; order = 
 
 -- the state in which the list of this line of a classes file is in force
 abbrev pub listed : ClassesLine → Carried → Carried
-listed said s = record { limits = s.limits; levels = levels_behind said s.levels; order = order_behind said s.order; rows = s.rows; cases = s.cases }
+listed noted s = record { limits = s.limits; levels = levels_after noted s.levels; order = order_after noted s.order; rows = s.rows; cases = s.cases }
 
 -- the state in which no list is in force
 abbrev pub unlisted : Carried → Carried
 unlisted s = record { limits = s.limits; levels = None; order = None; rows = s.rows; cases = s.cases }
 
 -- the finding of a line of a file of this kind, in this state
-abbrev pub comes_to_behind : Kind → Carried → List ℕ → Finding
-comes_to_behind Classes s line = comes_to s.levels s.order (classes_line line)
-comes_to_behind (Characters tables) s line = characters_line (unit_by tables.now) line
+abbrev pub comes_to_after : Kind → Carried → List ℕ → Finding
+comes_to_after Classes s line = comes_to s.levels s.order (classes_line line)
+comes_to_after (Characters tables) s line = characters_line (unit_by tables.now) line
 
 -- the state in which the list of this line is in force; a characters file has none
 abbrev pub listed_by : Kind → List ℕ → Carried → Carried
@@ -76,7 +76,7 @@ listed_by (Characters tables) line s = unlisted s
 
 -- the state after a line that is neither malformed nor wrong
 abbrev pub after_line : Kind → List ℕ → Carried → Carried
-after_line kind line s = counted (comes_to_behind kind s line) (listed_by kind line s)
+after_line kind line s = counted (comes_to_after kind s line) (listed_by kind line s)
 
 -- these lists are in force after these lines
 abbrev pub AreInForce : Kind → Option (List (Option ℕ)) → Option (List ℕ) → List (List ℕ) → Type 0
@@ -85,7 +85,7 @@ AreInForce Classes levels order lines =
 AreInForce (Characters tables) levels order lines = ⊤
 
 -- this is the state after these lines, and none of them is malformed or, with these limits, wrong
-pub record IsBehind (limits : LimitsOf) (kind : Kind) (s : Carried) (lines : List (List ℕ)) : Type 0 where
+pub record IsAfter (limits : LimitsOf) (kind : Kind) (s : Carried) (lines : List (List ℕ)) : Type 0 where
   pub under : s.limits ≡ limits
   pub faultless : first_no limits 0 (findings_by kind lines) ≡ None
   pub lists : AreInForce kind s.levels s.order lines
@@ -94,7 +94,7 @@ pub record IsBehind (limits : LimitsOf) (kind : Kind) (s : Carried) (lines : Lis
 
 -- the failing verdict of the line of this number
 abbrev pub no_at : Kind → Carried → ℕ → List ℕ → Option Verdict
-no_at kind s number line = no_of s.limits number (comes_to_behind kind s line)
+no_at kind s number line = no_of s.limits number (comes_to_after kind s line)
 
 -- the failing verdict of a cut
 abbrev pub no_by : Kind → Carried → Cut → Option Verdict
@@ -114,6 +114,6 @@ no_or_yes (Some verdict) s = verdict
 no_or_yes None s = Yes s.rows s.cases
 
 -- the verdict at the end of the file, with the last line if it has no LF
-abbrev pub verdict_behind : Kind → Carried → Option (ℕ × Bor (List ℕ)) → Verdict
-verdict_behind kind s None = Yes s.rows s.cases
-verdict_behind kind s (Some last) = no_or_yes (no_at kind s last.0 last.1.now) (after_line kind last.1.now s)
+abbrev pub verdict_after : Kind → Carried → Option (ℕ × Bor (List ℕ)) → Verdict
+verdict_after kind s None = Yes s.rows s.cases
+verdict_after kind s (Some last) = no_or_yes (no_at kind s last.0 last.1.now) (after_line kind last.1.now s)

@@ -14,7 +14,7 @@ use Rattle.units.specs.declared.level.Direction.TheVariants.{Auto, Ltr, Rtl, Aut
 use Rattle.bidtests.specs.declared.verdict.Cause.{Cause}
 use Rattle.bidtests.specs.declared.verdict.Cause.TheVariants.{LineTooLong, Directive, LevelItem, OrderItem, ClassItem, BitSet, NoExpectation, FieldCount, EmptyRow}
 use Rattle.bidtests.specs.declared.verdict.Verdict.{Verdict}
-use Rattle.bidtests.specs.Verdicts.{Claim, Finding, Silent, Row, Faulty, verdict_on}
+use Rattle.bidtests.specs.Verdicts.{Expected, Finding, Silent, Row, Faulty, verdict_on}
 
 -- `x`: the position is removed (X9)
 abbrev pub removed_item : List ℕ
@@ -79,19 +79,19 @@ order_directive None = Broken OrderItem
 order_directive (Some order) = OrderIs order
 
 -- the meaning of `@Levels:` with this list
-abbrev pub levels_said : List ℕ → ClassesLine
-levels_said list = levels_directive (each_read level_item (items_of list))
+abbrev pub levels_by_directive : List ℕ → ClassesLine
+levels_by_directive list = levels_directive (each_read level_item (items_of list))
 
 -- the meaning of `@Reorder:` with this list
-abbrev pub order_said : List ℕ → ClassesLine
-order_said list = order_directive (each_read order_item (items_of list))
+abbrev pub order_by_directive : List ℕ → ClassesLine
+order_by_directive list = order_directive (each_read order_item (items_of list))
 
 -- the meaning of a content that begins with `@`
 abbrev pub directive : List ℕ → ClassesLine
 directive content =
     if starts_with nat_eq content (codes "@Type:") then Nothing
-    else if starts_with nat_eq content (codes "@Levels:") then levels_said (drop 8 content)
-    else if starts_with nat_eq content (codes "@Reorder:") then order_said (drop 9 content)
+    else if starts_with nat_eq content (codes "@Levels:") then levels_by_directive (drop 8 content)
+    else if starts_with nat_eq content (codes "@Reorder:") then order_by_directive (drop 9 content)
     else Broken Directive
 
 -- the meaning of a row with these items and this bit set as they were read: a wrong item comes before a wrong bit set
@@ -138,12 +138,12 @@ order_in_force (OrderIs order ∷ earlier) = Some order
 order_in_force (_ ∷ earlier) = order_in_force earlier
 
 -- what a row expects: the lists in force, and no paragraph level
-abbrev pub claim_under : List BidiUnit → List Direction → List (Option ℕ) → List ℕ → Claim
-claim_under text directions levels order = record { text = text; directions = directions; para_level = None; levels = levels; order = order }
+abbrev pub expected_under : List BidiUnit → List Direction → List (Option ℕ) → List ℕ → Expected
+expected_under text directions levels order = record { text = text; directions = directions; para_level = None; levels = levels; order = order }
 
 -- the finding of a row if these lists are in force: it needs both
 abbrev pub row_under : List BidiUnit → List Direction → Option (List (Option ℕ)) → Option (List ℕ) → Finding
-row_under text directions (Some levels) (Some order) = Row (claim_under text directions levels order)
+row_under text directions (Some levels) (Some order) = Row (expected_under text directions levels order)
 row_under text directions _ _ = Faulty NoExpectation
 
 -- the finding of a line if these lists are in force
@@ -155,14 +155,14 @@ comes_to levels order (Broken cause) = Faulty cause
 comes_to levels order (RowOf text directions) = row_under text directions levels order
 
 -- the findings of these lines after the earlier ones, of which the nearest is first
-abbrev pub findings_behind : List ClassesLine → List ClassesLine → List Finding
-findings_behind earlier [] = []
-findings_behind earlier (line ∷ lines) =
-    comes_to (levels_in_force earlier) (order_in_force earlier) line ∷ findings_behind (line ∷ earlier) lines
+abbrev pub findings_after : List ClassesLine → List ClassesLine → List Finding
+findings_after earlier [] = []
+findings_after earlier (line ∷ lines) =
+    comes_to (levels_in_force earlier) (order_in_force earlier) line ∷ findings_after (line ∷ earlier) lines
 
 -- the findings of a file's lines
 abbrev pub classes_findings : List (List ℕ) → List Finding
-classes_findings lines = findings_behind [] (map classes_line lines)
+classes_findings lines = findings_after [] (map classes_line lines)
 
 -- the verdict on the bytes of a BidiTest.txt
 unfoldable pub classes_verdict : LimitsOf → List ℕ → Verdict

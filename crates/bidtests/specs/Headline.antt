@@ -12,7 +12,7 @@ use Rattle.bidtests.specs.declared.verdict.Place.{Place}
 use Rattle.bidtests.specs.declared.verdict.Place.TheVariants.{ParaLevel, Levels, Order}
 use Rattle.bidtests.specs.declared.verdict.Verdict.{Verdict}
 use Rattle.bidtests.specs.declared.verdict.Verdict.TheVariants.{Yes, Malformed, Wrong}
-use Rattle.bidtests.specs.Verdicts.{Claim, Finding, Row, Faulty, rows_in, cases_in}
+use Rattle.bidtests.specs.Verdicts.{Expected, Finding, Row, Faulty, rows_in, cases_in}
 use Rattle.units.specs.Lines.{line_number}
 use Rattle.units.specs.Text.{lines_of}
 use Rattle.bidtests.specs.FileKinds.{findings_by, verdict_of}
@@ -37,31 +37,31 @@ abbrev pub IsMalformed : List Finding → ℕ → Cause → Type 0
 IsMalformed found k cause = slice_get found k ≡ Some (Faulty cause)
 
 -- line k is a well-formed row, and expects this
-abbrev pub IsRow : List Finding → ℕ → Claim → Type 0
-IsRow found k claim = slice_get found k ≡ Some (Row claim)
+abbrev pub IsRow : List Finding → ℕ → Expected → Type 0
+IsRow found k expected = slice_get found k ≡ Some (Row expected)
 
 -- P1 to L2: the layout of the row's text under the direction, with these limits, without breaks
-abbrev pub layout_under : LimitsOf → Claim → Direction → TextLayout
-layout_under limits claim direction = layout_of limits claim.text direction []
+abbrev pub layout_under : LimitsOf → Expected → Direction → TextLayout
+layout_under limits expected direction = layout_of limits expected.text direction []
 
 -- the expected paragraph level, if there is one, is that of the first paragraph
-abbrev pub IsParaRight : LimitsOf → Claim → Direction → Type 0
-IsParaRight limits claim direction =
-    IfSome claim.para_level (λ level. slice_get (layout_under limits claim direction).paras 0 ≡ Some level)
+abbrev pub IsParaRight : LimitsOf → Expected → Direction → Type 0
+IsParaRight limits expected direction =
+    IfSome expected.para_level (λ level. slice_get (layout_under limits expected direction).paras 0 ≡ Some level)
 
 -- the expected levels are those of the layout
-abbrev pub AreLevelsRight : LimitsOf → Claim → Direction → Type 0
-AreLevelsRight limits claim direction = claim.levels ≡ (layout_under limits claim direction).levels
+abbrev pub AreLevelsRight : LimitsOf → Expected → Direction → Type 0
+AreLevelsRight limits expected direction = expected.levels ≡ (layout_under limits expected direction).levels
 
 -- the expected order is that of the layout's lines, joined
-abbrev pub IsOrderRight : LimitsOf → Claim → Direction → Type 0
-IsOrderRight limits claim direction = claim.order ≡ all_orders (layout_under limits claim direction)
+abbrev pub IsOrderRight : LimitsOf → Expected → Direction → Type 0
+IsOrderRight limits expected direction = expected.order ≡ all_orders (layout_under limits expected direction)
 
 -- all that the row expects is right under the direction
-pub record IsCaseRight (limits : LimitsOf) (claim : Claim) (direction : Direction) : Type 0 where
-  pub para_level : IsParaRight limits claim direction
-  pub levels : AreLevelsRight limits claim direction
-  pub order : IsOrderRight limits claim direction
+pub record IsCaseRight (limits : LimitsOf) (expected : Expected) (direction : Direction) : Type 0 where
+  pub para_level : IsParaRight limits expected direction
+  pub levels : AreLevelsRight limits expected direction
+  pub order : IsOrderRight limits expected direction
 
 -- the index is the first at which the lists differ or one of them ends: after its end a list has nothing
 pub record IsFirstDifference {A : Type 0} (xs ys : List A) (i : ℕ) : Type 0 where
@@ -69,12 +69,12 @@ pub record IsFirstDifference {A : Type 0} (xs ys : List A) (i : ℕ) : Type 0 wh
   pub there : slice_get xs i ≢ slice_get ys i
 
 -- the place is the first one at which the layout differs from the expected one: paragraph level, levels, order
-abbrev pub IsWrongAt : LimitsOf → Claim → Direction → Place → Type 0
-IsWrongAt limits claim direction ParaLevel = ¬ IsParaRight limits claim direction
-IsWrongAt limits claim direction (Levels i) =
-    IsParaRight limits claim direction × IsFirstDifference claim.levels (layout_under limits claim direction).levels i
-IsWrongAt limits claim direction (Order i) =
-    IsParaRight limits claim direction × AreLevelsRight limits claim direction × IsFirstDifference claim.order (all_orders (layout_under limits claim direction)) i
+abbrev pub IsWrongAt : LimitsOf → Expected → Direction → Place → Type 0
+IsWrongAt limits expected direction ParaLevel = ¬ IsParaRight limits expected direction
+IsWrongAt limits expected direction (Levels i) =
+    IsParaRight limits expected direction × IsFirstDifference expected.levels (layout_under limits expected direction).levels i
+IsWrongAt limits expected direction (Order i) =
+    IsParaRight limits expected direction × AreLevelsRight limits expected direction × IsFirstDifference expected.order (all_orders (layout_under limits expected direction)) i
 
 -- the first direction comes before the second in the order of directions
 abbrev pub ComesBefore : Direction → Direction → Type 0
@@ -83,7 +83,7 @@ ComesBefore d e = (i : ℕ) × (j : ℕ) × (i < j) × (slice_get directions_in_
 -- none of the first n lines is malformed, and each row is right under each direction that it names
 pub record AreRight (limits : LimitsOf) (found : List Finding) (n : ℕ) : Type 0 where
   pub well_formed : (k : ℕ) (cause : Cause) → k < n → ¬ IsMalformed found k cause
-  pub right : (k : ℕ) (claim : Claim) (d : Direction) → k < n → IsRow found k claim → Contains claim.directions d → IsCaseRight limits claim d
+  pub right : (k : ℕ) (expected : Expected) (d : Direction) → k < n → IsRow found k expected → Contains expected.directions d → IsCaseRight limits expected d
 
 -- yes: all lines are right, and these are the numbers of rows and cases
 pub record AllAreRight (limits : LimitsOf) (found : List Finding) (rows cases : ℕ) : Type 0 where
@@ -104,11 +104,11 @@ pub record FirstIsWrong (limits : LimitsOf) (found : List Finding) (number : ℕ
   pub k : ℕ
   pub numbered : number ≡ line_number k
   pub earlier : AreRight limits found k
-  pub claim : Claim
-  pub row : IsRow found k claim
-  pub names : Contains claim.directions direction
-  pub before : (d : Direction) → Contains claim.directions d → ComesBefore d direction → IsCaseRight limits claim d
-  pub wrong : IsWrongAt limits claim direction place
+  pub expected : Expected
+  pub row : IsRow found k expected
+  pub names : Contains expected.directions direction
+  pub before : (d : Direction) → Contains expected.directions d → ComesBefore d direction → IsCaseRight limits expected d
+  pub wrong : IsWrongAt limits expected direction place
 
 -- the meaning of a verdict on a file with these findings
 abbrev pub Says : LimitsOf → List Finding → Verdict → Type 0

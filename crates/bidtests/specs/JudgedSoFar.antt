@@ -1,13 +1,13 @@
 -- The bytes that a judge has judged.
 use Rattle.std.specs.Prelude.{◌≡◌, Option, Some, None, ℕ, List, ◌++◌}
-use Rattle.units.specs.LineCutting.{Cutting, StandsFor}
+use Rattle.units.specs.LineCutting.{Cutting, Represents}
 use Rattle.units.specs.Limits.{LimitsOf}
 use Rattle.units.specs.Lines.{CutsInto}
 use Rattle.ucdfiles.specs.Tables.{TablesOf}
 use Rattle.bidtests.specs.declared.kind.Kind.{Kind}
 use Rattle.bidtests.specs.declared.kind.Kind.TheVariants.{Classes, Characters}
 use Rattle.bidtests.specs.declared.verdict.Verdict.{Verdict}
-use Rattle.bidtests.specs.Carried.{Carried, IsBehind}
+use Rattle.bidtests.specs.Carried.{Carried, IsAfter}
 use Rattle.bidtests.specs.FileKinds.{verdict_of}
 
 -- the parts of a judge: the kind of its file, the state of its line splitter, the state between lines, and the failing
@@ -20,11 +20,11 @@ pub record Judging : Type 0 where
 
 -- undecided: no line that has ended is malformed or wrong
 pub record IsOpen (limits : LimitsOf) (kind : Kind) (cutting : Cutting) (carried : Carried) (bytes : List ℕ) : Type 0 where
-  pub cutter : StandsFor cutting bytes
+  pub splitter : Represents cutting bytes
   pub lines : List (List ℕ)
   pub rest : List ℕ
   pub cut : CutsInto bytes lines rest
-  pub behind : IsBehind limits kind carried lines
+  pub following : IsAfter limits kind carried lines
 
 -- the state after these bytes: if no verdict is decided, it is the state after their lines; otherwise every file that
 -- begins with these bytes has the decided verdict
@@ -38,8 +38,8 @@ pub record Judges (limits : LimitsOf) (kind : Kind) (judge : Judging) (bytes : L
   pub is : JudgesBy limits kind judge.decided judge.cutting judge.carried bytes
 
 -- the verdict is that on the bytes passed to the judge and then these, as the whole of a file of its kind
-abbrev pub IsVerdictBehind : Judging → List ℕ → Verdict → Type 0
-IsVerdictBehind judge given verdict =
+abbrev pub IsVerdictAfter : Judging → List ℕ → Verdict → Type 0
+IsVerdictAfter judge given verdict =
     (limits : LimitsOf) (kind : Kind) (b : List ℕ) → Judges limits kind judge b
     → verdict ≡ verdict_of limits kind (b ++ given)
 

@@ -18,7 +18,7 @@ wrong_fault (Some x) = Some (OfCase x.0 x.1)
 abbrev pub line_fault_of : LimitsOf → Finding → Option LineFault
 line_fault_of limits Silent = None
 line_fault_of limits (Faulty cause) = Some (OfForm cause)
-line_fault_of limits (Row claim) = wrong_fault (wrong_case limits claim claim.directions)
+line_fault_of limits (Row expected) = wrong_fault (wrong_case limits expected expected.directions)
 
 -- the failing verdict of the line of this number with this fault
 abbrev pub no_with : ℕ → LineFault → Verdict

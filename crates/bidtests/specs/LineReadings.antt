@@ -8,10 +8,10 @@ use Rattle.bidtests.specs.declared.kind.Kind.{Kind}
 use Rattle.bidtests.specs.declared.kind.Kind.TheVariants.{Classes, Characters}
 use Rattle.bidtests.specs.declared.line_reader.Asked.{Asked}
 use Rattle.bidtests.specs.declared.verdict.Cause.{Cause}
-use Rattle.bidtests.specs.Verdicts.{Claim, Finding, Silent, Row, Faulty}
+use Rattle.bidtests.specs.Verdicts.{Expected, Finding, Silent, Row, Faulty}
 use Rattle.bidtests.specs.ClassesFile.{ClassesLine, classes_line, comes_to}
 use Rattle.bidtests.specs.CharactersFile.{characters_line}
-use Rattle.bidtests.specs.Carried.{levels_behind, order_behind}
+use Rattle.bidtests.specs.Carried.{levels_after, order_after}
 use Rattle.bidtests.specs.Readings.{if_read}
 
 -- the contents of a reader of lines: the text of the row that was read last, two lists, and whether each is in force
@@ -36,8 +36,8 @@ pub record HasNoList (s : LineReading) : Type 0 where
   pub order : order_in s ≡ None
 
 -- what a row with these directions and this level expects, with the text and the lists of the reader
-abbrev pub claim_in : LineReading → Asked → Claim
-claim_in s asked = record {
+abbrev pub expected_in : LineReading → Asked → Expected
+expected_in s asked = record {
   text = s.text;
   directions = asked.directions.now;
   para_level = option_map level_of_para asked.para_level;
@@ -49,26 +49,26 @@ claim_in s asked = record {
 abbrev pub finding_read : Result (Option Asked) Cause → LineReading → Finding
 finding_read (Err cause) s = Faulty cause
 finding_read (Ok None) s = Silent
-finding_read (Ok (Some asked)) s = Row (claim_in s asked)
+finding_read (Ok (Some asked)) s = Row (expected_in s asked)
 
 -- the finding of a line of a classes file with this meaning
-abbrev pub finding_said : LineReading → ClassesLine → Finding
-finding_said s said = comes_to (levels_in s) (order_in s) said
+abbrev pub finding_by : LineReading → ClassesLine → Finding
+finding_by s noted = comes_to (levels_in s) (order_in s) noted
 
 -- the finding of a line of a file of this kind after those that were read
-abbrev pub finding_behind : Kind → LineReading → List ℕ → Finding
-finding_behind Classes s line = finding_said s (classes_line line)
-finding_behind (Characters tables) s line = characters_line (unit_by tables.now) line
+abbrev pub finding_after : Kind → LineReading → List ℕ → Finding
+finding_after Classes s line = finding_by s (classes_line line)
+finding_after (Characters tables) s line = characters_line (unit_by tables.now) line
 
 -- the lists in force change as this line of a classes file says
-pub record HasListed (said : ClassesLine) (before after : LineReading) : Type 0 where
-  pub levels : levels_in after ≡ levels_behind said (levels_in before)
-  pub order : order_in after ≡ order_behind said (order_in before)
+pub record HasListed (noted : ClassesLine) (before after : LineReading) : Type 0 where
+  pub levels : levels_in after ≡ levels_after noted (levels_in before)
+  pub order : order_in after ≡ order_after noted (order_in before)
 
 -- the lists in force change as this line says; in a characters file there are none
-abbrev pub IsBehindLine : Kind → List ℕ → LineReading → LineReading → Type 0
-IsBehindLine Classes line before after = HasListed (classes_line line) before after
-IsBehindLine (Characters tables) line before after = HasNoList after
+abbrev pub IsAfterOneLine : Kind → List ℕ → LineReading → LineReading → Type 0
+IsAfterOneLine Classes line before after = HasListed (classes_line line) before after
+IsAfterOneLine (Characters tables) line before after = HasNoList after
 
 -- a row names at most four directions
 abbrev pub HasFewDirections : Asked → Type 0

@@ -8,8 +8,8 @@ use Rattle.units.specs.Isolates.{level_of_para}
 use Rattle.units.specs.declared.level.ParaLevel.{ParaLevel}
 use Rattle.std.specs.Option.{option_map}
 use Rattle.bidtests.specs.declared.characters_row.RowFields.{RowFields}
-use Rattle.bidtests.specs.declared.claim.Claim.{Claim as RowClaim}
-use Rattle.bidtests.specs.Verdicts.{Claim, Finding, Row, Faulty}
+use Rattle.bidtests.specs.declared.expected.Expected.{Expected as RowExpected}
+use Rattle.bidtests.specs.Verdicts.{Expected, Finding, Row, Faulty}
 use Rattle.bidtests.specs.ClassesFile.{ClassesLine, RowOf, Broken}
 
 -- the list, if it was read
@@ -32,8 +32,8 @@ row_read (Ok directions) text = RowOf text directions.now
 row_read (Err cause) text = Broken cause
 
 -- what a row of a classes file or of a characters file expects
-abbrev pub claim_of : RowClaim → Claim
-claim_of c = record {
+abbrev pub expected_of : RowExpected → Expected
+expected_of c = record {
   text = c.text.now;
   directions = c.directions.now;
   para_level = option_map level_of_para c.para_level;
@@ -42,7 +42,7 @@ claim_of c = record {
 }
 
 -- the finding of a row with this direction, this paragraph level and these lists, or the cause
-abbrev pub claim_read : Result (Direction × ParaLevel) Cause → List BidiUnit → List (Option ℕ) → List ℕ → Finding
-claim_read (Ok asked) text levels order =
+abbrev pub expected_read : Result (Direction × ParaLevel) Cause → List BidiUnit → List (Option ℕ) → List ℕ → Finding
+expected_read (Ok asked) text levels order =
     Row (record { text = text; directions = asked.0 ∷ []; para_level = Some (level_of_para asked.1); levels = levels; order = order })
-claim_read (Err cause) text levels order = Faulty cause
+expected_read (Err cause) text levels order = Faulty cause

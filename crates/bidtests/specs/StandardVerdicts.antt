@@ -7,24 +7,24 @@ use Rattle.bidtests.specs.declared.kind.Kind.{Kind}
 use Rattle.bidtests.specs.declared.verdict.Place.{Place}
 use Rattle.bidtests.specs.declared.verdict.Verdict.{Verdict}
 use Rattle.bidtests.specs.declared.verdict.Verdict.TheVariants.{Malformed}
-use Rattle.bidtests.specs.Verdicts.{Claim, Finding, Silent, Row, Faulty, or_yes, with_place, wrong_at, wrong_place}
+use Rattle.bidtests.specs.Verdicts.{Expected, Finding, Silent, Row, Faulty, or_yes, with_place, wrong_at, wrong_place}
 use Rattle.std.specs.Option.{option_or}
 use Rattle.units.specs.Lines.{line_number}
 use Rattle.bidtests.specs.FileKinds.{findings_by}
 
 -- the first of these directions whose case is wrong, and the place
-abbrev pub standard_wrong_case : Claim → List Direction → Option (Direction × Place)
-standard_wrong_case claim [] = None
-standard_wrong_case claim (d ∷ ds) =
+abbrev pub standard_wrong_case : Expected → List Direction → Option (Direction × Place)
+standard_wrong_case expected [] = None
+standard_wrong_case expected (d ∷ ds) =
     option_or
-    (with_place d (wrong_place claim.para_level claim.levels claim.order (standard_layout claim.text d [])))
-    (standard_wrong_case claim ds)
+    (with_place d (wrong_place expected.para_level expected.levels expected.order (standard_layout expected.text d [])))
+    (standard_wrong_case expected ds)
 
 -- the failing verdict of the line of this number
 abbrev pub standard_no_of : ℕ → Finding → Option Verdict
 standard_no_of number Silent = None
 standard_no_of number (Faulty cause) = Some (Malformed number cause)
-standard_no_of number (Row claim) = wrong_at number (standard_wrong_case claim claim.directions)
+standard_no_of number (Row expected) = wrong_at number (standard_wrong_case expected expected.directions)
 
 -- the failing verdict of the first of these lines that has one; there are k lines before them
 abbrev pub standard_first_no : ℕ → List Finding → Option Verdict

@@ -13,7 +13,7 @@ use Rattle.bidtests.specs.declared.verdict.Cause.TheVariants.{BitSet, DirectionF
 use Rattle.bidtests.specs.declared.verdict.Verdict.{Verdict}
 use Rattle.bidtests.specs.declared.verdict.Verdict.TheVariants.{Malformed}
 use Rattle.bidtests.specs.Verdicts.{Finding, verdict_on}
-use Rattle.bidtests.specs.ClassesFile.{ClassesLine, classes_line_by, findings_behind}
+use Rattle.bidtests.specs.ClassesFile.{ClassesLine, classes_line_by, findings_after}
 use Rattle.bidtests.specs.CharactersFile.{characters_line_by}
 use Rattle.bidtests.specs.FileKinds.{verdict_of}
 use Rattle.ucdfiles.specs.Tables.{unit_by}
@@ -45,7 +45,7 @@ three_characters_line unit_of line = characters_line_by zero_to_two unit_of line
 
 -- the verdict on the bytes of a file of this kind
 abbrev pub three_verdict_of : LimitsOf → Kind → List ℕ → Verdict
-three_verdict_of limits Classes bytes = verdict_on limits (findings_behind [] (map three_classes_line (lines_of bytes)))
+three_verdict_of limits Classes bytes = verdict_on limits (findings_after [] (map three_classes_line (lines_of bytes)))
 three_verdict_of limits (Characters tables) bytes = verdict_on limits (map (three_characters_line (unit_by tables.now)) (lines_of bytes))
 
 -- the verdict isn't that a bit set or a direction field is malformed

@@ -15,7 +15,7 @@ use Rattle.bidtests.specs.declared.verdict.Verdict.TheVariants.{Yes, Malformed, 
 
 -- what a row expects of its text under each of its directions: perhaps the level of the first paragraph, the levels of
 -- all positions, and the order
-pub record Claim : Type 0 where
+pub record Expected : Type 0 where
   pub text : List BidiUnit
   pub directions : List Direction
   pub para_level : Option ℕ
@@ -25,7 +25,7 @@ pub record Claim : Type 0 where
 -- the finding of a line after the lines before it: it is silent, a row that expects this, or malformed
 pub data Finding : Type 0 where
   Silent : Finding
-  Row : (claim : Claim) → Finding
+  Row : (expected : Expected) → Finding
   Faulty : (cause : Cause) → Finding
 
 -- the first index, counted from `at`, at which two lists differ or one of them ends
@@ -62,9 +62,9 @@ wrong_place para_level levels order layout =
 
 -- the first place at which the layout of a row's text under the direction (P1 to L2), with the limits and without
 -- breaks, differs from the expected one
-abbrev pub wrong_place_under : LimitsOf → Claim → Direction → Option Place
-wrong_place_under limits claim d =
-    wrong_place claim.para_level claim.levels claim.order (layout_of limits claim.text d [])
+abbrev pub wrong_place_under : LimitsOf → Expected → Direction → Option Place
+wrong_place_under limits expected d =
+    wrong_place expected.para_level expected.levels expected.order (layout_of limits expected.text d [])
 
 -- the direction with the place, if there is one
 abbrev pub with_place : Direction → Option Place → Option (Direction × Place)
@@ -72,10 +72,10 @@ with_place d None = None
 with_place d (Some place) = Some (d, place)
 
 -- the first of these directions whose case is wrong, and the place
-abbrev pub wrong_case : LimitsOf → Claim → List Direction → Option (Direction × Place)
-wrong_case limits claim [] = None
-wrong_case limits claim (d ∷ ds) =
-    option_or (with_place d (wrong_place_under limits claim d)) (wrong_case limits claim ds)
+abbrev pub wrong_case : LimitsOf → Expected → List Direction → Option (Direction × Place)
+wrong_case limits expected [] = None
+wrong_case limits expected (d ∷ ds) =
+    option_or (with_place d (wrong_place_under limits expected d)) (wrong_case limits expected ds)
 
 -- the failing verdict of a wrong case, if there is one
 abbrev pub wrong_at : ℕ → Option (Direction × Place) → Option Verdict
@@ -86,17 +86,17 @@ wrong_at number (Some x) = Some (Wrong number x.0 x.1)
 abbrev pub no_of : LimitsOf → ℕ → Finding → Option Verdict
 no_of limits number Silent = None
 no_of limits number (Faulty cause) = Some (Malformed number cause)
-no_of limits number (Row claim) = wrong_at number (wrong_case limits claim claim.directions)
+no_of limits number (Row expected) = wrong_at number (wrong_case limits expected expected.directions)
 
 -- the number of cases of a line: one for each direction that it names
 abbrev pub cases_of : Finding → ℕ
 cases_of Silent = 0
 cases_of (Faulty cause) = 0
-cases_of (Row claim) = length claim.directions
+cases_of (Row expected) = length expected.directions
 
 -- the line is a row
 abbrev pub is_row : Finding → Bool
-is_row (Row claim) = true
+is_row (Row expected) = true
 is_row _ = false
 
 -- the failing verdict of the first of these lines that has one; there are k lines before them

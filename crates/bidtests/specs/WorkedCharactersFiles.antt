@@ -113,9 +113,9 @@ unfolding characters_files_compute
 opposite_inside = refl
 
 -- N0: the context before the opening bracket is L
-pub left_before_pair : characters_verdict standard unit_of_few (written (codes "0061 0028 05D0 0029;0;0;0 0 1 0;0 1 2 3" ∷ [])) ≡ Yes 1 1
+pub l_before_pair : characters_verdict standard unit_of_few (written (codes "0061 0028 05D0 0029;0;0;0 0 1 0;0 1 2 3" ∷ [])) ≡ Yes 1 1
 unfolding characters_files_compute
-left_before_pair = refl
+l_before_pair = refl
 
 -- BD16: brackets pair by canonical equivalence
 pub canonical_brackets : characters_verdict standard unit_of_few (written (codes "0061 2329 05D0 3009 05D1;0;0;0 0 1 0 1;0 1 2 3 4" ∷ [])) ≡ Yes 1 1
@@ -148,9 +148,9 @@ unfolding characters_files_compute
 empty_before_fields = refl
 
 -- the first line decides
-pub malformed_behind_wrong : characters_verdict standard unit_of_few (written (codes "# 0061" ∷ codes "0061;0;1;0;0" ∷ codes "0061" ∷ [])) ≡ Wrong 2 Ltr ParaLevel
+pub malformed_after_wrong : characters_verdict standard unit_of_few (written (codes "# 0061" ∷ codes "0061;0;1;0;0" ∷ codes "0061" ∷ [])) ≡ Wrong 2 Ltr ParaLevel
 unfolding characters_files_compute
-malformed_behind_wrong = refl
+malformed_after_wrong = refl
 
 -- each row is one case
 pub two_rows : characters_verdict standard unit_of_few (written (codes "0061;2;0;0;0" ∷ codes " " ∷ codes "05D0;2;1;1;0" ∷ [])) ≡ Yes 2 2

@@ -3,7 +3,7 @@ ghost use Rattle.std.specs.Prelude.{◌≡◌, ◌≢◌, ◌+◌, ◌*◌, ◌�
 ghost use Rattle.units.specs.Text.{fields_of};
 ghost use Rattle.bidtests.specs.CharactersFile.{direction_field, para_field, characters_row};
 ghost use Rattle.ucdfiles.specs.Tables.{unit_by};
-ghost use Rattle.bidtests.specs.Readings.{claim_read, fields_in};
+ghost use Rattle.bidtests.specs.Readings.{expected_read, fields_in};
 
 use crate::item::{CharacterItems, LevelItems, OrderItems, read_items};
 use crate::verdict::Cause;
@@ -81,7 +81,7 @@ pub fn read_characters_row(
     requires text { length content.now ≤ 2 * vec_capacity text.old }
     requires levels { length content.now ≤ 2 * vec_capacity levels.old }
     requires order { length content.now ≤ 2 * vec_capacity order.old }
-    ensures row { claim_read result text.new.items levels.new.items order.new.items
+    ensures row { expected_read result text.new.items levels.new.items order.new.items
         ≡ characters_row (unit_by tables.now) (fields_of content.now) }
     ensures count { IfOk result (λ _. 2 * length text.new.items ≤ length content.now + 1) }
     ensures text { vec_capacity text.new ≡ vec_capacity text.old }

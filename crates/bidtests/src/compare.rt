@@ -12,10 +12,10 @@ ghost use Rattle.lines.specs.Scratches.{room_of};
 ghost use Rattle.bidtests.specs.Verdicts.{agrees, first_of, first_difference, Row};
 ghost use Rattle.bidtests.specs.LineFaults.{line_fault_of};
 ghost use Rattle.std.specs.Result.{result_err};
-ghost use Rattle.bidtests.specs.Readings.{claim_of};
-ghost use Rattle.bidtests.specs.Comparisons.{Compares, ComparesWith, DiffersAt, GoesOnBehind};
+ghost use Rattle.bidtests.specs.Readings.{expected_of};
+ghost use Rattle.bidtests.specs.Comparisons.{Compares, ComparesWith, DiffersAt, ContinuesAfter};
 
-use crate::claim::Claim;
+use crate::expected::Expected;
 use crate::line_fault::LineFault;
 use crate::verdict::Place;
 use lines::breaks::Breaks;
@@ -55,7 +55,7 @@ fn differing_level(claimed: &[Option<Level>], defined: &[Option<Level>]) -> Opti
 
 /// Returns the first index of the line's order at which the expected list differs or ends.
 fn differing_position(claimed: &[usize], line: &[usize]) -> Option<usize>
-    ensures { MatchOption result (GoesOnBehind claimed.now line.now) (DiffersAt claimed.now line.now) }
+    ensures { MatchOption result (ContinuesAfter claimed.now line.now) (DiffersAt claimed.now line.now) }
 {
     for i in 0..line.len() {
         if i >= claimed.len() || claimed[i] != line[i] {
@@ -118,16 +118,16 @@ pub(crate) fn direction_by_level(paras: &[ParaLevel]) -> Option<Direction>
 
 /// Compares a row with a layout of its text. The contract holds for each direction and all limits that give this
 /// layout.
-fn compare_with(claim: Claim<'_>, layout: &Layout<'_>) -> Comparison
-    ensures { ComparesWith (view_of layout.now) result (claim_of claim.entry) }
+fn compare_with(expected: Expected<'_>, layout: &Layout<'_>) -> Comparison
+    ensures { ComparesWith (view_of layout.now) result (expected_of expected.entry) }
 {
-    if !agrees_with(claim.para_level, layout.para_levels()) {
+    if !agrees_with(expected.para_level, layout.para_levels()) {
         return Comparison::Differs(Place::ParaLevel);
     }
-    if let Some(at) = differing_level(claim.levels, layout.levels()) {
+    if let Some(at) = differing_level(expected.levels, layout.levels()) {
         return Comparison::Differs(Place::Levels(at));
     }
-    match differing_order(claim.order, layout) {
+    match differing_order(expected.order, layout) {
         Some(at) => Comparison::Differs(Place::Order(at)),
         None => Comparison::Agrees {
             also_under: direction_by_level(layout.para_levels()),
@@ -138,32 +138,32 @@ fn compare_with(claim: Claim<'_>, layout: &Layout<'_>) -> Comparison
 /// Compares a row with the layout of its text under a direction.
 fn compare(
     scratch: &mut Scratch,
-    claim: Claim<'_>,
+    expected: Expected<'_>,
     direction: Direction,
     limits: Limits,
 ) -> Comparison
-    requires { length claim.text.now ≤ room_of scratch.old }
-    ensures compares { Compares limits result (claim_of claim.entry) direction }
+    requires { length expected.text.now ≤ room_of scratch.old }
+    ensures compares { Compares limits result (expected_of expected.entry) direction }
     ensures room { room_of scratch.new ≡ room_of scratch.old }
 {
-    let breaks = no_breaks(claim.text.len());
-    lay_out_into_with(scratch, claim.text, direction, &breaks, limits).unwrap();
-    compare_with(claim, &scratch.layout())
+    let breaks = no_breaks(expected.text.len());
+    lay_out_into_with(scratch, expected.text, direction, &breaks, limits).unwrap();
+    compare_with(expected, &scratch.layout())
 }
 
 /// Judges all cases of a row. On failure, returns the first direction under which the layout differs, and the place.
 /// LTR or RTL is skipped if auto gave the same layout.
-pub fn judge_claim(scratch: &mut Scratch, claim: Claim<'_>, limits: Limits) -> Result<(), LineFault>
-    requires { length claim.text.now ≤ room_of scratch.old }
-    ensures fault { result_err result ≡ line_fault_of limits (Row (claim_of claim.entry)) }
+pub fn judge_expected(scratch: &mut Scratch, expected: Expected<'_>, limits: Limits) -> Result<(), LineFault>
+    requires { length expected.text.now ≤ room_of scratch.old }
+    ensures fault { result_err result ≡ line_fault_of limits (Row (expected_of expected.entry)) }
     ensures room { room_of scratch.new ≡ room_of scratch.old }
 {
     let mut right = None;
-    for direction in claim.directions {
+    for direction in expected.directions {
         if right == Some(*direction) {
             continue;
         }
-        match compare(scratch, claim, *direction, limits) {
+        match compare(scratch, expected, *direction, limits) {
             Comparison::Differs(place) => return Err(LineFault::OfCase(*direction, place)),
             Comparison::Agrees { also_under } => right = right.or(also_under),
         }

@@ -87,7 +87,7 @@ impl<'t> Judge<'t> {
 
     /// Returns the verdict on all bytes passed so far, as the whole file. It reports the first line that is malformed
     /// or has a wrong case, or else the numbers of rows and cases. What it states of the file is true, and no other
-    /// verdict would be (`laws::verdict_law`). It allocates no memory and always succeeds.
+    /// verdict would be (`theorems::verdict_theorem`). It allocates no memory and always succeeds.
     pub fn finish(self) -> Verdict
         ensures verdict { (limits : LimitsOf) (kind : FileKind) (b : List ℕ) → Judges limits kind self.entry b
             → result ≡ verdict_of limits kind b }

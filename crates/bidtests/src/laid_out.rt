@@ -31,7 +31,7 @@ fn lay_out_under(
 /// Lays out a text under a direction, without breaks and with these limits. The caller passes a direction under which
 /// the scratch has the layout of this text, if there is one; if it is the same direction, the layout is reused. Returns
 /// another direction under which the layout is the same, for the next call. It is known for a text of one paragraph.
-pub fn lay_out_anew(
+pub fn lay_out_again(
     scratch: &mut Scratch,
     text: &[Unit],
     direction: Direction,
@@ -44,7 +44,7 @@ pub fn lay_out_anew(
     ensures same { IfSome result (IsLaidOut limits text.now scratch.new) }
     ensures known { length (layout_in scratch.new).paras ≡ 1 → IsSome result }
     ensures room { room_of scratch.new ≡ room_of scratch.old }
-    ensures kept { laid_out ≡ Some direction → scratch.new ≡ scratch.old }
+    ensures unchanged { laid_out ≡ Some direction → scratch.new ≡ scratch.old }
 {
     if laid_out == Some(direction) {
         laid_out

@@ -5,7 +5,7 @@ ghost use Rattle.units.specs.Text.{longest_line};
 ghost use Rattle.bidtests.specs.LineFaults.{line_fault_of};
 ghost use Rattle.lines.specs.Scratches.{room_of};
 
-use crate::compare::judge_claim;
+use crate::compare::judge_expected;
 use crate::kind::Kind;
 use crate::line_fault::LineFault;
 use crate::line_reader::{LineReader, MOST_UNITS};
@@ -48,7 +48,7 @@ impl Model for LineJudge {
 }
 
 impl LineJudge {
-    ghost use Rattle.bidtests.specs.Carried.{at_start, no_at, after_line, comes_to_behind, with_right_row};
+    ghost use Rattle.bidtests.specs.Carried.{at_start, no_at, after_line, comes_to_after, with_right_row};
 
     /// Creates a judge before the first line.
     pub fn new(alloc: Global, limits: Limits) -> Result<Self, Memory>
@@ -77,13 +77,13 @@ impl LineJudge {
     fn judge(&mut self, kind: Kind<'_>, line: &[u8]) -> Result<(), LineFault>
         requires { length line.now ≤ longest_line }
         ensures fault { result_err result
-            ≡ line_fault_of self.old.limits (comes_to_behind kind.entry self.old line.now) }
+            ≡ line_fault_of self.old.limits (comes_to_after kind.entry self.old line.now) }
         ensures carried { OnOk result (self.new ≡ after_line kind.entry line.now self.old) }
     {
         let Some(asked) = self.reader.read_line(kind, line)? else {
             return Ok(());
         };
-        judge_claim(&mut self.scratch, self.reader.claim(asked), self.limits)?;
+        judge_expected(&mut self.scratch, self.reader.expected(asked), self.limits)?;
         self.count(asked.directions.len());
         Ok(())
     }

@@ -1,13 +1,13 @@
 //! Reading of the lines of a test file, one after the other, by the grammar of its kind.
 ghost use Rattle.std.specs.Prelude.{◌≡◌, ◌≤◌, IfOk, IfSome, IsNone, IsSome, OnOk, length, vec_capacity};
 ghost use Rattle.units.specs.Text.{fields_of, longest_line};
-ghost use Rattle.bidtests.specs.ClassesFile.{classes_line, directive, levels_said, order_said, classes_row};
+ghost use Rattle.bidtests.specs.ClassesFile.{classes_line, directive, levels_by_directive, order_by_directive, classes_row};
 ghost use Rattle.bidtests.specs.CharactersFile.{characters_line, characters_row};
 ghost use Rattle.ucdfiles.specs.Tables.{unit_by};
 ghost use Rattle.bidtests.specs.LineReadings.{HasFewDirections};
 
 use crate::characters_row::read_characters_row;
-use crate::claim::Claim;
+use crate::expected::Expected;
 use crate::classes_row::read_classes_row;
 use crate::directions::alone;
 use crate::item::{LevelItems, OrderItems, read_items};
@@ -72,9 +72,9 @@ fn list<T: Copy>(alloc: Global) -> Result<Vec<T>, Memory>
 }
 
 impl LineReader {
-    ghost use Rattle.bidtests.specs.LineReadings.{LineReading, claim_in, finding_said, finding_read};
-    ghost use Rattle.bidtests.specs.LineReadings.{finding_behind, HasListed, HasNoList, IsBehindLine};
-    ghost use Rattle.bidtests.specs.Readings.{claim_of};
+    ghost use Rattle.bidtests.specs.LineReadings.{LineReading, expected_in, finding_by, finding_read};
+    ghost use Rattle.bidtests.specs.LineReadings.{finding_after, HasListed, HasNoList, IsAfterOneLine};
+    ghost use Rattle.bidtests.specs.Readings.{expected_of};
 
     /// Creates a reader before the first line.
     pub fn new(alloc: Global) -> Result<Self, Memory>
@@ -95,8 +95,8 @@ impl LineReader {
     /// Reads the levels of `@Levels:`, which are then in force.
     fn set_levels(&mut self, field: &[u8]) -> Result<Option<Asked>, Cause>
         requires { length field.now ≤ longest_line }
-        ensures found { finding_read result self.new ≡ finding_said self.old (levels_said field.now) }
-        ensures lists { OnOk result (HasListed (levels_said field.now) self.old self.new) }
+        ensures found { finding_read result self.new ≡ finding_by self.old (levels_by_directive field.now) }
+        ensures lists { OnOk result (HasListed (levels_by_directive field.now) self.old self.new) }
         ensures silent { IfOk result IsNone }
     {
         self.has_levels = read_items(&LevelItems, field, &mut self.levels);
@@ -110,8 +110,8 @@ impl LineReader {
     /// Reads the order of `@Reorder:`, which is then in force.
     fn set_order(&mut self, field: &[u8]) -> Result<Option<Asked>, Cause>
         requires { length field.now ≤ longest_line }
-        ensures found { finding_read result self.new ≡ finding_said self.old (order_said field.now) }
-        ensures lists { OnOk result (HasListed (order_said field.now) self.old self.new) }
+        ensures found { finding_read result self.new ≡ finding_by self.old (order_by_directive field.now) }
+        ensures lists { OnOk result (HasListed (order_by_directive field.now) self.old self.new) }
         ensures silent { IfOk result IsNone }
     {
         self.has_order = read_items(&OrderItems, field, &mut self.order);
@@ -125,7 +125,7 @@ impl LineReader {
     /// Reads a content that begins with `@`.
     fn read_directive(&mut self, content: &[u8]) -> Result<Option<Asked>, Cause>
         requires { length content.now ≤ longest_line }
-        ensures found { finding_read result self.new ≡ finding_said self.old (directive content.now) }
+        ensures found { finding_read result self.new ≡ finding_by self.old (directive content.now) }
         ensures lists { OnOk result (HasListed (directive content.now) self.old self.new) }
         ensures silent { IfOk result IsNone }
     {
@@ -144,7 +144,7 @@ impl LineReader {
     fn read_classes(&mut self, content: &[u8]) -> Result<Option<Asked>, Cause>
         requires { length content.now ≤ longest_line }
         ensures found { finding_read result self.new
-            ≡ finding_said self.old (classes_row (fields_of content.now)) }
+            ≡ finding_by self.old (classes_row (fields_of content.now)) }
         ensures lists { OnOk result (HasListed (classes_row (fields_of content.now)) self.old self.new) }
         ensures fits { OnOk result (length self.new.text ≤ MOST_UNITS) }
         ensures few { IfOk result (λ row. IfSome row HasFewDirections) }
@@ -184,7 +184,7 @@ impl LineReader {
 
     fn read_classes_line(&mut self, line: &[u8]) -> Result<Option<Asked>, Cause>
         requires { length line.now ≤ longest_line }
-        ensures found { finding_read result self.new ≡ finding_said self.old (classes_line line.now) }
+        ensures found { finding_read result self.new ≡ finding_by self.old (classes_line line.now) }
         ensures lists { OnOk result (HasListed (classes_line line.now) self.old self.new) }
         ensures fits { IfOk result (λ row. IsSome row → length self.new.text ≤ MOST_UNITS) }
         ensures few { IfOk result (λ row. IfSome row HasFewDirections) }
@@ -218,11 +218,11 @@ impl LineReader {
     }
 
     /// Reads the next line of a file of this kind. Returns the row, if the line is one; its text and its lists are then
-    /// in the reader (`claim`). The error is the cause for which the line is malformed.
+    /// in the reader (`expected`). The error is the cause for which the line is malformed.
     pub fn read_line(&mut self, kind: Kind<'_>, line: &[u8]) -> Result<Option<Asked>, Cause>
         requires { length line.now ≤ longest_line }
-        ensures found { finding_read result self.new ≡ finding_behind kind.entry self.old line.now }
-        ensures lists { OnOk result (IsBehindLine kind.entry line.now self.old self.new) }
+        ensures found { finding_read result self.new ≡ finding_after kind.entry self.old line.now }
+        ensures lists { OnOk result (IsAfterOneLine kind.entry line.now self.old self.new) }
         ensures fits { IfOk result (λ row. IsSome row → length self.new.text ≤ MOST_UNITS) }
         ensures few { IfOk result (λ row. IfSome row HasFewDirections) }
     {
@@ -233,10 +233,10 @@ impl LineReader {
     }
 
     /// Returns what the row that was read last expects. The caller must pass what `read_line` returned for it.
-    pub fn claim(&self, asked: Asked) -> Claim<'_>
-        ensures { claim_of result ≡ claim_in self.now asked }
+    pub fn expected(&self, asked: Asked) -> Expected<'_>
+        ensures { expected_of result ≡ expected_in self.now asked }
     {
-        Claim {
+        Expected {
             text: &self.text,
             directions: asked.directions,
             para_level: asked.para_level,

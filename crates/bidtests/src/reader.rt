@@ -1,6 +1,6 @@
 //! Judging of files as they are read.
 ghost use Rattle.std.specs.Prelude.{◌≡◌, ◌↔◌, ℕ, List, IfOk, OnOk, IsErr};
-ghost use Rattle.bidtests.specs.JudgedSoFar.{IsVerdictBehind};
+ghost use Rattle.bidtests.specs.JudgedSoFar.{IsVerdictAfter};
 
 use crate::judge::Judge;
 use crate::verdict::Verdict;
@@ -21,7 +21,7 @@ pub fn judge_reader<S: ByteSource>(
     ensures whole { OnOk result (S.ended source.new) }
     ensures given { (given : List ℕ) × S.gives source.old given source.new }
     ensures verdict { IfOk result (λ verdict. (given : List ℕ) × S.gives source.old given source.new
-        × IsVerdictBehind judge.entry given verdict) }
+        × IsVerdictAfter judge.entry given verdict) }
 {
     let mut piece = [0; 4096];
     loop {

@@ -1,12 +1,12 @@
 //! The state of a judge, without the tables that the judge borrows.
 ghost use Rattle.std.specs.Prelude.{◌≡◌, ◌≤◌, ℕ, List, [], Option, IfOk, IfSome, OnOk, length};
 ghost use Rattle.std.specs.Result.{result_err};
-ghost use Rattle.units.specs.LineAnswers.{CutIsShort};
+ghost use Rattle.units.specs.LineReturns.{CutIsShort};
 ghost use Rattle.units.specs.Limits.{LimitsOf};
 ghost use Rattle.units.specs.Text.{longest_line};
 ghost use Rattle.ucdfiles.specs.Tables.{TablesOf};
 ghost use Rattle.bidtests.specs.FileKinds.{verdict_of};
-ghost use Rattle.bidtests.specs.Carried.{no_by, after_cut, verdict_behind};
+ghost use Rattle.bidtests.specs.Carried.{no_by, after_cut, verdict_after};
 ghost use Rattle.bidtests.specs.JudgedSoFar.{HoldsFor, TakesIn, tables_of};
 
 use crate::kind::Kind;
@@ -23,7 +23,7 @@ use units::memory::Memory;
 /// has judged: all bytes passed to it, joined.
 #[derive(Drop)]
 pub struct JudgeState {
-    cutter: LineCut,
+    splitter: LineCut,
     line_judge: LineJudge,
     decided: Option<Verdict>,
 }
@@ -33,7 +33,7 @@ impl Model for JudgeState {
 
     ghost Value = { StateOf };
 
-    ghost view = { λ s. record { cutting = s.cutter; carried = s.line_judge; decided = s.decided } };
+    ghost view = { λ s. record { cutting = s.splitter; carried = s.line_judge; decided = s.decided } };
 }
 
 /// Judges the line that a cut ends, if it ends one. The error is the failing verdict.
@@ -56,7 +56,7 @@ fn judge_cut(kind: Kind<'_>, line_judge: &mut LineJudge, taken: Cut<'_>) -> Resu
 /// Judges the last line, if it has no LF, and returns the verdict.
 fn judge_last(kind: Kind<'_>, line_judge: &mut LineJudge, last: Option<(u64, &[u8])>) -> Verdict
     requires { IfSome last (λ line. length line.1.now ≤ longest_line) }
-    ensures { result ≡ verdict_behind kind.entry line_judge.old last.entry }
+    ensures { result ≡ verdict_after kind.entry line_judge.old last.entry }
 {
     if let Some((number, text)) = last {
         if let Err(no) = line_judge.judge_line(kind, number, text) {
@@ -73,7 +73,7 @@ impl JudgeState {
         ensures { IfOk result (λ state. (tables : Option TablesOf) → HoldsFor limits tables state []) }
     {
         Ok(JudgeState {
-            cutter: LineCut::new(),
+            splitter: LineCut::new(),
             line_judge: LineJudge::new(alloc, limits)?,
             decided: None,
         })
@@ -89,7 +89,7 @@ impl JudgeState {
             if self.decided.is_some() {
                 return;
             }
-            let (used, taken) = self.cutter.take(&piece[at..]);
+            let (used, taken) = self.splitter.take(&piece[at..]);
             self.decided = judge_cut(kind, &mut self.line_judge, taken).err();
             at += used;
         }
@@ -104,7 +104,7 @@ impl JudgeState {
         if let Some(verdict) = self.decided {
             return verdict;
         }
-        let last = self.cutter.finish();
+        let last = self.splitter.finish();
         judge_last(kind, &mut self.line_judge, last)
     }
 }

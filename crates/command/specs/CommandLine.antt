@@ -25,11 +25,11 @@ use Rattle.rows.specs.declared.form.Form.TheVariants.{Nest, Brackets, Marks, Num
 use Rattle.units.specs.declared.level.Direction.{Direction}
 use Rattle.units.specs.declared.level.Direction.TheVariants.{Auto, Ltr, Rtl, AutoRtl}
 use Rattle.bidtests.specs.VerdictText.{direction_word}
-use Rattle.command.specs.Refusals.{has_form_words, has_row_words, has_table_words, has_text_words, has_two_tables, is_given, is_over_alphabet, refusal_without_request}
+use Rattle.command.specs.Rejections.{has_form_words, has_row_words, has_table_words, has_text_words, has_two_tables, is_given, is_over_alphabet, rejection_without_request}
 use Rattle.command.specs.declared.invocation.Invocation.{Invocation}
-use Rattle.command.specs.declared.refusal.NoRequest.{NoRequest}
-use Rattle.command.specs.declared.refusal.WordsFault.{WordsFault}
-use Rattle.command.specs.declared.refusal.WordsFault.TheVariants as fault
+use Rattle.command.specs.declared.rejection.NoRequest.{NoRequest}
+use Rattle.command.specs.declared.rejection.WordsFault.{WordsFault}
+use Rattle.command.specs.declared.rejection.WordsFault.TheVariants as fault
 use Rattle.requests.specs.declared.fault.Detail.{Detail}
 use Rattle.requests.specs.declared.fault.Detail.TheVariants.{Brief, Verbose}
 use Rattle.requests.specs.declared.request.AskedLines.{AskedLines}
@@ -43,7 +43,7 @@ use Rattle.requests.specs.declared.request.TableSource.TheVariants.{Folder, Buil
 use Rattle.requests.specs.declared.request.RowLetters.{RowLetters}
 use Rattle.requests.specs.declared.request.RowLetters.TheVariants.{Alphabet, OfForm}
 use Rattle.requests.specs.declared.request.RowsForm.{RowsForm}
-use Rattle.requests.specs.declared.request.SoughtRow.{SoughtRow}
+use Rattle.requests.specs.declared.request.WantedRow.{WantedRow}
 use Rattle.requests.specs.declared.request.RowsForm.TheVariants.{Exhaustive, Random}
 use Rattle.requests.specs.declared.request.Request.{Request}
 use Rattle.requests.specs.declared.request.Request.TheVariants as requested
@@ -285,13 +285,13 @@ pub record AsksForLines (rows : List Row) (asked : AskedLines) : Type 0 where
   pub directions : first_of (codes "directions") rows ≡ Some asked.directions.now
 
 -- the row to be explained, with no argument for another text or its direction
-pub record AsksToExplainRow (rows : List Row) (sought : SoughtRow) : Type 0 where
+pub record AsksToExplainRow (rows : List Row) (wanted : WantedRow) : Type 0 where
   pub given : is_some (first_of (codes "row") rows) ≡ true
   pub alone : has_text_words rows ≡ false
-  pub kind : kind_named (first_of (codes "kind") rows) ≡ Some sought.kind
-  pub tables : NamesTables rows sought.tables
-  pub line : LineIs (one_of (codes "row") rows) sought.line
-  pub file : first_of (codes "file") rows ≡ Some sought.file.now
+  pub kind : kind_named (first_of (codes "kind") rows) ≡ Some wanted.kind
+  pub tables : NamesTables rows wanted.tables
+  pub line : LineIs (one_of (codes "row") rows) wanted.line
+  pub file : first_of (codes "file") rows ≡ Some wanted.file.now
 
 -- the subcommand of this name prints this of a text, with these values
 abbrev pub AsksToPrint : Text → List Row → Print → Type 0
@@ -308,10 +308,10 @@ AsksFor name rows (requested.Text tables direction file print) = AsksToPrint nam
 AsksFor name rows (requested.ExplainClasses classes direction) = (name ≡ codes "explain") × (has_row_words rows ≡ false)
     × (has_table_words rows ≡ false) × (first_of (codes "classes") rows ≡ Some classes.now) × (first_of (codes "codes") rows ≡ None)
     × (direction ≡ direction_named (first_of (codes "direction") rows)) × (first_of (codes "file") rows ≡ None)
-AsksFor name rows (requested.ExplainCodes said tables direction) = (name ≡ codes "explain") × (has_row_words rows ≡ false)
-    × TakesTables rows tables × (first_of (codes "classes") rows ≡ None) × (first_of (codes "codes") rows ≡ Some said.now)
+AsksFor name rows (requested.ExplainCodes noted tables direction) = (name ≡ codes "explain") × (has_row_words rows ≡ false)
+    × TakesTables rows tables × (first_of (codes "classes") rows ≡ None) × (first_of (codes "codes") rows ≡ Some noted.now)
     × (direction ≡ direction_named (first_of (codes "direction") rows)) × (first_of (codes "file") rows ≡ None)
-AsksFor name rows (requested.ExplainRow sought) = (name ≡ codes "explain") × AsksToExplainRow rows sought
+AsksFor name rows (requested.ExplainRow wanted) = (name ≡ codes "explain") × AsksToExplainRow rows wanted
 AsksFor name rows (requested.Judge kind tables file) = (name ≡ codes "judge")
     × (kind_named (first_of (codes "kind") rows) ≡ Some kind) × NamesTables rows tables
     × (first_of (codes "file") rows ≡ Some file.now)
@@ -338,7 +338,7 @@ IsInvokedBy met invocation = IsAskedBy met invocation.request × (invocation.det
 
 -- the given subcommand makes no request, for this reason
 abbrev pub MakesNone : Option (Text × List Row) → NoRequest → Type 0
-MakesNone met why = (why ≡ refusal_without_request met) × ((request : Request) → ¬ (IsAskedBy met request))
+MakesNone met why = (why ≡ rejection_without_request met) × ((request : Request) → ¬ (IsAskedBy met request))
 
 -- `clap` accepts the arguments, and they give this subcommand, with these values
 pub record HasMet (words : List Text) (met : Option (Text × List Row)) : Type 0 where
@@ -353,8 +353,8 @@ IsRead words invocation = (met : Option (Text × List Row)) × HasMet words met 
 
 -- the error of `clap`: an allocation failed, or the arguments are rejected with this kind of error, or they ask for
 -- help or the version
-abbrev pub IsRefusedByClap : List Text → Error → Type 0
-IsRefusedByClap words error = (kind_of error ≡ OutOfMemory)
+abbrev pub IsRejectedByClap : List Text → Error → Type 0
+IsRejectedByClap words error = (kind_of error ≡ OutOfMemory)
     ⊎ ((app : App) × IsBidi app × IsAmong (kind_of error) (fault_of app words))
 
 -- `clap` accepts the arguments, but they make no request, for this reason
@@ -363,7 +363,7 @@ WordsMakeNone words why = (met : Option (Text × List Row)) × HasMet words met 
 
 -- why the arguments make no request
 abbrev pub IsUnread : List Text → WordsFault → Type 0
-IsUnread words (fault.ByClap error) = IsRefusedByClap words error
+IsUnread words (fault.ByClap error) = IsRejectedByClap words error
 IsUnread words (fault.NoRequest why) = WordsMakeNone words why
 
 -- the result of reading the arguments: a request with its detail, or why they make none

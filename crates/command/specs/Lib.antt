@@ -1,4 +1,4 @@
 pub mod CommandLine
 pub mod Outcomes
-pub mod Refusals
+pub mod Rejections
 pub mod WordRows

@@ -15,19 +15,19 @@ use Rattle.requests.specs.declared.fault.Fault.TheVariants.{CannotWrite, OutOfMe
 use Rattle.requests.specs.declared.outcome.Ended.{Ended}
 use Rattle.requests.specs.declared.outcome.Outcome.TheVariants.{Judged}
 use Rattle.command.specs.CommandLine.{IsRead, IsReadAs}
-use Rattle.command.specs.Refusals.{no_request_text}
+use Rattle.command.specs.Rejections.{no_request_text}
 use Rattle.command.specs.declared.invocation.Invocation.{Invocation}
-use Rattle.command.specs.declared.refusal.NoRequest.{NoRequest}
-use Rattle.command.specs.declared.refusal.WordsFault.{WordsFault}
-use Rattle.command.specs.declared.refusal.WordsFault.TheVariants as fault
+use Rattle.command.specs.declared.rejection.NoRequest.{NoRequest}
+use Rattle.command.specs.declared.rejection.WordsFault.{WordsFault}
+use Rattle.command.specs.declared.rejection.WordsFault.TheVariants as fault
 
 -- the arguments ask for help or the version
 abbrev pub AsksForHelp : Error → Type 0
 AsksForHelp error = (kind_of error ≡ kind.DisplayHelp) ⊎ (kind_of error ≡ kind.DisplayVersion)
 
 -- the arguments are rejected
-abbrev pub RefusesWords : Error → Type 0
-RefusesWords error = (kind_of error ≢ kind.OutOfMemory) × (kind_of error ≢ kind.DisplayHelp) × (kind_of error ≢ kind.DisplayVersion)
+abbrev pub RejectsWords : Error → Type 0
+RejectsWords error = (kind_of error ≢ kind.OutOfMemory) × (kind_of error ≢ kind.DisplayHelp) × (kind_of error ≢ kind.DisplayVersion)
 
 -- the version text: the product's name, and the version after it
 abbrev pub version_text : List ℕ
@@ -45,14 +45,14 @@ EndsWithout before after err_before err_after error ended =
     (AsksForHelp error × IsPrinted before after (kind_of error) × EndsWell 0 err_before err_after ended)
     ⊎ ((AsksForHelp error × EndsBy Brief CannotWrite err_before err_after ended)
     ⊎ (((kind_of error ≡ kind.OutOfMemory) × (after ≡ before) × EndsBy Brief OutOfMemory err_before err_after ended)
-    ⊎ (RefusesWords error × (after ≡ before) × (ended.status ≡ 2))))
+    ⊎ (RejectsWords error × (after ≡ before) × (ended.status ≡ 2))))
 
 -- the end of a run whose arguments are accepted but make no request, for this reason: nothing is printed, and if the
 -- reason is reported, the known contents of standard error grew by its text
 pub record EndsUnasked (why : NoRequest) (before after err_before err_after : Option (List ℕ)) (ended : Ended) : Type 0 where
   pub status_is : ended.status ≡ 2
   pub unprinted : after ≡ before
-  pub says : ended.is_said ≡ true → Appends err_before err_after (no_request_text why)
+  pub says : ended.is_reported ≡ true → Appends err_before err_after (no_request_text why)
 
 -- the end of a run whose arguments make no request, for this reason
 abbrev pub EndsUnread : Option (List ℕ) → Option (List ℕ) → Option (List ℕ) → Option (List ℕ) → WordsFault → Ended → Type 0
@@ -73,11 +73,11 @@ pub record HasRun (files : FileFacts) (before after err_before err_after : Optio
   pub ends : EndsAsRead files before after err_before err_after read ended
 
 -- the arguments were read as a request, and its result is a no, or a report on a file that is not right
-abbrev pub RequestSaidNo : FileFacts → Option (List ℕ) → Option (List ℕ) → Result Invocation WordsFault → Type 0
-RequestSaidNo files before after read =
+abbrev pub RequestCameToNo : FileFacts → Option (List ℕ) → Option (List ℕ) → Result Invocation WordsFault → Type 0
+RequestCameToNo files before after read =
     (invocation : Invocation) × (read ≡ Ok invocation) × IsDone files before after invocation.request (Judged 1)
 
 -- the arguments are read as a request, and its result is a no, or a report on a file that is not right
-abbrev pub HasSaidNo : FileFacts → Option (List ℕ) → Option (List ℕ) → List (List ℕ) → Type 0
-HasSaidNo files before after words =
+abbrev pub HasComeToNo : FileFacts → Option (List ℕ) → Option (List ℕ) → List (List ℕ) → Type 0
+HasComeToNo files before after words =
     (invocation : Invocation) × IsRead words invocation × IsDone files before after invocation.request (Judged 1)

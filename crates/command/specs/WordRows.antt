@@ -6,16 +6,16 @@ use Rattle.clap.specs.Simple.{subcommand_of}
 use Rattle.clap.specs.Walk.{Row, Text, first_of, one_of}
 use Rattle.clap.specs.declared.error.kind.ErrorKind.{ErrorKind}
 use Rattle.clap.specs.declared.error.kind.ErrorKind.TheVariants.{DisplayVersion, InvalidValue, TooManyValues, UnknownArgument, ValueValidation}
-use Rattle.report.specs.ReadClaims.{strict}
+use Rattle.report.specs.ReadExpected.{strict}
 use Rattle.report.specs.declared.terms.Parts.TheVariants as parts
 use Rattle.report.specs.declared.terms.Positions.TheVariants as positions
 use Rattle.units.specs.declared.level.Direction.{Direction}
 use Rattle.units.specs.declared.level.Direction.TheVariants.{Auto, Rtl}
 use Rattle.command.specs.CommandLine.{Choices, bidi_app, detail_in, direction_named, kind_named, leniency_in, rows_kind}
-use Rattle.command.specs.Refusals.{is_given, refusal_without_request}
-use Rattle.command.specs.declared.refusal.NoRequest.{NoRequest}
-use Rattle.command.specs.declared.refusal.NoRequest.TheVariants.{AlphabetAndForm, ClassesAndText, CodesAndText, KindWithoutRow, NoAlphabet, NoForm, NoLength, NoText, RowAndText, RowWithoutFile, RowWithoutKind, TextAndForm, TwoTables}
-use Rattle.command.specs.declared.refusal.TableCommand.TheVariants.{Explain, Judge, Report, Rows}
+use Rattle.command.specs.Rejections.{is_given, rejection_without_request}
+use Rattle.command.specs.declared.rejection.NoRequest.{NoRequest}
+use Rattle.command.specs.declared.rejection.NoRequest.TheVariants.{AlphabetAndForm, ClassesAndText, CodesAndText, KindWithoutRow, NoAlphabet, NoForm, NoLength, NoText, RowAndText, RowWithoutFile, RowWithoutKind, TextAndForm, TwoTables}
+use Rattle.command.specs.declared.rejection.TableCommand.TheVariants.{Explain, Judge, Report, Rows}
 use Rattle.requests.specs.declared.fault.Detail.TheVariants.{Brief, Verbose}
 use Rattle.requests.specs.declared.request.FileKind.{FileKind}
 use Rattle.requests.specs.declared.request.FileKind.TheVariants.{Characters}
@@ -27,8 +27,8 @@ meets c words = subcommand_of (bidi_app c) (codes "bidi" ∷ words)
 abbrev faults : Choices → List Text → List ErrorKind
 faults c words = fault_of (bidi_app c) (codes "bidi" ∷ words)
 
-abbrev refusal : Choices → List Text → NoRequest
-refusal c words = refusal_without_request (meets c words)
+abbrev rejection : Choices → List Text → NoRequest
+rejection c words = rejection_without_request (meets c words)
 
 -- a subcommand with its folder, whether it takes the built-in tables, and its classes, code points, direction, text of
 -- columns, kind and file
@@ -110,12 +110,12 @@ unfolding clap_on_literals
 judge_built_in_words c = refl
 
 -- both: no request, and the reason
-pub judge_two_tables_words : (c : Choices) → refusal c
+pub judge_two_tables_words : (c : Choices) → rejection c
     (codes "judge" ∷ codes "--kind" ∷ codes "characters" ∷ codes "--tables" ∷ codes "t" ∷ codes "--built-in" ∷ codes "FILE" ∷ []) ≡ TwoTables Judge
 unfolding clap_on_literals
 judge_two_tables_words c = refl
 
-pub report_two_tables_words : (c : Choices) → refusal c
+pub report_two_tables_words : (c : Choices) → rejection c
     (codes "report" ∷ codes "--built-in" ∷ codes "--kind" ∷ codes "classes" ∷ codes "--tables=t" ∷ codes "FILE" ∷ []) ≡ TwoTables Report
 unfolding clap_on_literals
 report_two_tables_words c = refl
@@ -191,25 +191,25 @@ unfolding clap_on_literals
 explain_codes_words c = refl
 
 -- none of these, and two of them: no request, and the reason
-pub explain_nothing_words : (c : Choices) → refusal c (codes "explain" ∷ []) ≡ NoText
+pub explain_nothing_words : (c : Choices) → rejection c (codes "explain" ∷ []) ≡ NoText
 unfolding clap_on_literals
 explain_nothing_words c = refl
 
-pub explain_both_words : (c : Choices) → refusal c (codes "explain" ∷ codes "--classes" ∷ codes "R" ∷ codes "FILE" ∷ []) ≡ ClassesAndText
+pub explain_both_words : (c : Choices) → rejection c (codes "explain" ∷ codes "--classes" ∷ codes "R" ∷ codes "FILE" ∷ []) ≡ ClassesAndText
 unfolding clap_on_literals
 explain_both_words c = refl
 
-pub explain_codes_and_classes_words : (c : Choices) → refusal c
+pub explain_codes_and_classes_words : (c : Choices) → rejection c
     (codes "explain" ∷ codes "--classes" ∷ codes "R" ∷ codes "--codes" ∷ codes "05D0" ∷ []) ≡ CodesAndText
 unfolding clap_on_literals
 explain_codes_and_classes_words c = refl
 
-pub explain_classes_and_tables_words : (c : Choices) → refusal c (codes "explain" ∷ codes "--classes" ∷ codes "R" ∷ codes "--built-in" ∷ [])
+pub explain_classes_and_tables_words : (c : Choices) → rejection c (codes "explain" ∷ codes "--classes" ∷ codes "R" ∷ codes "--built-in" ∷ [])
     ≡ ClassesAndText
 unfolding clap_on_literals
 explain_classes_and_tables_words c = refl
 
-pub explain_two_tables_words : (c : Choices) → refusal c (codes "explain" ∷ codes "--built-in" ∷ codes "--tables" ∷ codes "t" ∷ codes "FILE" ∷ [])
+pub explain_two_tables_words : (c : Choices) → rejection c (codes "explain" ∷ codes "--built-in" ∷ codes "--tables" ∷ codes "t" ∷ codes "FILE" ∷ [])
     ≡ TwoTables Explain
 unfolding clap_on_literals
 explain_two_tables_words c = refl
@@ -231,23 +231,23 @@ unfolding clap_on_literals
 explain_no_row_words c = refl
 
 -- a direction with a row, a row without a kind or a file, and a kind without a row: no request, and the reason
-pub explain_row_and_direction_words : (c : Choices) → refusal c
+pub explain_row_and_direction_words : (c : Choices) → rejection c
     (codes "explain" ∷ codes "--row" ∷ codes "1" ∷ codes "--direction" ∷ codes "auto" ∷ codes "--kind" ∷ codes "classes" ∷ codes "FILE" ∷ [])
     ≡ RowAndText
 unfolding clap_on_literals
 explain_row_and_direction_words c = refl
 
-pub explain_row_without_kind_words : (c : Choices) → refusal c (codes "explain" ∷ codes "--row" ∷ codes "1" ∷ codes "FILE" ∷ [])
+pub explain_row_without_kind_words : (c : Choices) → rejection c (codes "explain" ∷ codes "--row" ∷ codes "1" ∷ codes "FILE" ∷ [])
     ≡ RowWithoutKind
 unfolding clap_on_literals
 explain_row_without_kind_words c = refl
 
-pub explain_row_without_file_words : (c : Choices) → refusal c
+pub explain_row_without_file_words : (c : Choices) → rejection c
     (codes "explain" ∷ codes "--row" ∷ codes "1" ∷ codes "--kind" ∷ codes "classes" ∷ []) ≡ RowWithoutFile
 unfolding clap_on_literals
 explain_row_without_file_words c = refl
 
-pub explain_kind_without_row_words : (c : Choices) → refusal c (codes "explain" ∷ codes "--kind" ∷ codes "classes" ∷ codes "FILE" ∷ [])
+pub explain_kind_without_row_words : (c : Choices) → rejection c (codes "explain" ∷ codes "--kind" ∷ codes "classes" ∷ codes "FILE" ∷ [])
     ≡ KindWithoutRow
 unfolding clap_on_literals
 explain_kind_without_row_words c = refl
@@ -276,12 +276,12 @@ unfolding clap_on_literals
 hard_rows_words c = refl
 
 -- an alphabet that is missing, and one too many: no request, and the reason
-pub rows_without_alphabet_words : (c : Choices) → refusal c
+pub rows_without_alphabet_words : (c : Choices) → rejection c
     (codes "rows" ∷ codes "--form" ∷ codes "random" ∷ codes "--length" ∷ codes "1" ∷ []) ≡ NoAlphabet
 unfolding clap_on_literals
 rows_without_alphabet_words c = refl
 
-pub rows_with_two_letters_words : (c : Choices) → refusal c
+pub rows_with_two_letters_words : (c : Choices) → rejection c
     (codes "rows" ∷ codes "--form" ∷ codes "nest" ∷ codes "--alphabet" ∷ codes "L" ∷ codes "--length" ∷ codes "1" ∷ []) ≡ AlphabetAndForm
 unfolding clap_on_literals
 rows_with_two_letters_words c = refl
@@ -298,21 +298,21 @@ unfolding clap_on_literals
 text_rows_kind c = refl
 
 -- a text with a form, neither of them, and a form without lengths: no request, and the reason
-pub rows_of_text_and_form_words : (c : Choices) → refusal c (codes "rows" ∷ codes "--of" ∷ codes "t" ∷ codes "--seed" ∷ codes "1" ∷ [])
+pub rows_of_text_and_form_words : (c : Choices) → rejection c (codes "rows" ∷ codes "--of" ∷ codes "t" ∷ codes "--seed" ∷ codes "1" ∷ [])
     ≡ TextAndForm
 unfolding clap_on_literals
 rows_of_text_and_form_words c = refl
 
-pub rows_of_nothing_words : (c : Choices) → refusal c (codes "rows" ∷ []) ≡ NoForm
+pub rows_of_nothing_words : (c : Choices) → rejection c (codes "rows" ∷ []) ≡ NoForm
 unfolding clap_on_literals
 rows_of_nothing_words c = refl
 
-pub rows_without_length_words : (c : Choices) → refusal c (codes "rows" ∷ codes "--form" ∷ codes "nest" ∷ []) ≡ NoLength
+pub rows_without_length_words : (c : Choices) → rejection c (codes "rows" ∷ codes "--form" ∷ codes "nest" ∷ []) ≡ NoLength
 unfolding clap_on_literals
 rows_without_length_words c = refl
 
 -- the built-in tables, and those of a folder, for the lines of a text
-pub rows_two_tables_words : (c : Choices) → refusal c
+pub rows_two_tables_words : (c : Choices) → rejection c
     (codes "rows" ∷ codes "--of" ∷ codes "-" ∷ codes "--tables" ∷ codes "t" ∷ codes "--built-in" ∷ []) ≡ TwoTables Rows
 unfolding clap_on_literals
 rows_two_tables_words c = refl

@@ -4,7 +4,7 @@ ghost use Rattle.clap.specs.Matches.{found_of};
 ghost use Rattle.clap.specs.Walk.{first_of, rows_of};
 ghost use Rattle.command.specs.CommandLine.{AsksFor, AsksForLines, AsksForRows, FormIs, LettersAre, form_word};
 ghost use Rattle.command.specs.CommandLine.{rows_kind};
-ghost use Rattle.command.specs.Refusals.{has_form_words, has_two_tables, is_over_alphabet};
+ghost use Rattle.command.specs.Rejections.{has_form_words, has_two_tables, is_over_alphabet};
 ghost use Rattle.requests.specs.declared.request.AskedLines.{AskedLines as AskedLinesOf};
 ghost use Rattle.requests.specs.declared.request.AskedRows.{AskedRows as AskedRowsOf};
 ghost use Rattle.requests.specs.declared.request.Request.{Request as RequestOf};

@@ -3,16 +3,16 @@ ghost use Rattle.std.specs.Prelude.{◌≡◌, codes, false, IfSome, IfNone};
 ghost use Rattle.clap.specs.Matches.{found_of};
 ghost use Rattle.clap.specs.Walk.{rows_of};
 ghost use Rattle.command.specs.CommandLine.{AsksFor, AsksToExplainRow};
-ghost use Rattle.command.specs.Refusals.{has_row_words, has_text_words, has_two_tables};
+ghost use Rattle.command.specs.Rejections.{has_row_words, has_text_words, has_two_tables};
 ghost use Rattle.requests.specs.declared.request.Request.{Request as RequestOf};
-ghost use Rattle.requests.specs.declared.request.SoughtRow.{SoughtRow as SoughtRowOf};
+ghost use Rattle.requests.specs.declared.request.WantedRow.{WantedRow as SoughtRowOf};
 
 use crate::values::{
     direction_in, has_table_words, has_two_tables, has_value, kind_in, line_in, named_tables,
     tables_in, text_of,
 };
 use clap::ArgMatches;
-use requests::request::{Print, Request, SoughtRow};
+use requests::request::{Print, Request, WantedRow};
 
 /// Returns whether `explain` has the argument `--row` or `--kind`. Only a row has a kind.
 fn has_row_words(matches: &ArgMatches<'_>) -> bool
@@ -30,16 +30,16 @@ pub fn has_text_words(matches: &ArgMatches<'_>) -> bool
 }
 
 /// Returns the row that `explain` is to explain.
-fn explain_row_in<'a>(matches: &ArgMatches<'a>) -> Option<SoughtRow<'a>>
+fn explain_row_in<'a>(matches: &ArgMatches<'a>) -> Option<WantedRow<'a>>
     requires { has_two_tables (rows_of (found_of matches.now)) ≡ false }
     ensures some { IfSome result (AsksToExplainRow (rows_of (found_of matches.now))) }
-    ensures none { IfNone result ((sought : SoughtRowOf)
-        → ¬ (AsksToExplainRow (rows_of (found_of matches.now)) sought)) }
+    ensures none { IfNone result ((wanted : SoughtRowOf)
+        → ¬ (AsksToExplainRow (rows_of (found_of matches.now)) wanted)) }
 {
     if has_text_words(matches) || !has_value(matches, "row") {
         return None;
     }
-    Some(SoughtRow {
+    Some(WantedRow {
         kind: kind_in(matches)?,
         tables: named_tables(matches),
         line: line_in(matches),

@@ -2,14 +2,14 @@
 ghost use Rattle.std.specs.Prelude.{◌≡◌, ◌≤◌, OnErr, OnOk, true};
 ghost use Rattle.std.specs.Io.KnownBytes.{Appends};
 ghost use Rattle.clap.specs.Walk.{texts};
-ghost use Rattle.command.specs.Outcomes.{RequestSaidNo, EndsWithout, EndsAsRead, HasRun, HasSaidNo, version_text};
-ghost use Rattle.command.specs.Refusals.{no_request_text};
+ghost use Rattle.command.specs.Outcomes.{RequestCameToNo, EndsWithout, EndsAsRead, HasRun, HasComeToNo, version_text};
+ghost use Rattle.command.specs.Rejections.{no_request_text};
 ghost use Rattle.requests.specs.FaultText.{EndsBy};
 ghost use Rattle.requests.specs.Outcomes.{EndsWell};
 
 use crate::help::BIDI_VERSION;
 use crate::invocation::Invocation;
-use crate::refusal::{NoRequest, WordsFault};
+use crate::rejection::{NoRequest, WordsFault};
 use crate::words::invocation_of;
 use clap::Error;
 use clap::error::ErrorKind;
@@ -46,7 +46,7 @@ fn end_shown<E: Write>(shown: io::Result<()>, err: &mut E) -> Ended
         Ok(()) => Ended {
             status: 0,
             is_written: true,
-            is_said: true,
+            is_reported: true,
         },
         Err(_) => Fault::CannotWrite.report(err, Detail::Brief),
     }
@@ -54,29 +54,29 @@ fn end_shown<E: Write>(shown: io::Result<()>, err: &mut E) -> Ended
 
 /// Reports why the arguments are rejected, and returns how the run ends. The status is the same if the report can't be
 /// written.
-fn refuse<E: Write>(refusal: &Error, err: &mut E) -> Ended
+fn reject<E: Write>(rejection: &Error, err: &mut E) -> Ended
     ensures { result.status ≡ 2 }
 {
-    let written = write!(err, "{refusal}");
+    let written = write!(err, "{rejection}");
     let flushed = err.flush();
     Ended {
         status: 2,
         is_written: true,
-        is_said: written.is_ok() && flushed.is_ok(),
+        is_reported: written.is_ok() && flushed.is_ok(),
     }
 }
 
 /// Reports why accepted arguments make no request, and returns how the run ends.
 fn say_no_request<E: Write>(why: NoRequest, err: &mut E) -> Ended
     ensures status { result.status ≡ 2 }
-    ensures said { result.is_said ≡ true → Appends (E.contents err.old) (E.contents err.new) (no_request_text why) }
+    ensures noted { result.is_reported ≡ true → Appends (E.contents err.old) (E.contents err.new) (no_request_text why) }
 {
     let written = write!(err, "{why}");
     let flushed = err.flush();
     Ended {
         status: 2,
         is_written: true,
-        is_said: written.is_ok() && flushed.is_ok(),
+        is_reported: written.is_ok() && flushed.is_ok(),
     }
 }
 
@@ -89,7 +89,7 @@ fn run_without_request<W: Write, E: Write>(error: &Error, out: &mut W, err: &mut
         ErrorKind::OutOfMemory => Fault::OutOfMemory.report(err, Detail::Brief),
         ErrorKind::DisplayHelp => end_shown(print_help(out, error), err),
         ErrorKind::DisplayVersion => end_shown(print_version(out), err),
-        _ => refuse(error, err),
+        _ => reject(error, err),
     }
 }
 
@@ -105,7 +105,7 @@ fn run_as_read<F: Files, W: Write, E: Write>(
     ensures ended { EndsAsRead (F.facts files.now) (W.contents out.old) (W.contents out.new)
         (E.contents err.old) (E.contents err.new) read.entry result }
     ensures no { result.status ≡ 1
-        → RequestSaidNo (F.facts files.now) (W.contents out.old) (W.contents out.new) read.entry }
+        → RequestCameToNo (F.facts files.now) (W.contents out.old) (W.contents out.new) read.entry }
     ensures silent { result.status ≤ 1 → E.contents err.new ≡ E.contents err.old }
 {
     match read {
@@ -145,7 +145,7 @@ pub fn run<F: Files, W: Write, E: Write>(
     // The status is 1 only if the arguments ask for a judgement or a report, the result for all bytes of the file is a
     // no or a report on a file that is not right, and that result was written.
     ensures no { result.status ≡ 1
-        → HasSaidNo (F.facts files.now) (W.contents out.old) (W.contents out.new) (texts words.now) }
+        → HasComeToNo (F.facts files.now) (W.contents out.old) (W.contents out.new) (texts words.now) }
     ensures silent { result.status ≤ 1 → E.contents err.new ≡ E.contents err.old }
 {
     run_as_read(alloc, invocation_of(alloc, words), files, out, err)

@@ -4,7 +4,7 @@ ghost use Rattle.clap.specs.Matches.{found_of};
 ghost use Rattle.clap.specs.Walk.{first_of, one_of, rows_of};
 ghost use Rattle.command.specs.CommandLine.{ColumnsAre, LineIs, NamesTables, NumberIs, direction_named, folder_of};
 ghost use Rattle.command.specs.CommandLine.{kind_named};
-ghost use Rattle.command.specs.Refusals.{has_table_words, has_two_tables, is_given};
+ghost use Rattle.command.specs.Rejections.{has_table_words, has_two_tables, is_given};
 
 use clap::ArgMatches;
 use requests::request::{FileKind, TableSource};

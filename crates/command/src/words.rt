@@ -3,13 +3,13 @@ ghost use Rattle.std.specs.Prelude.{◌≡◌, IfOk, IfErr};
 ghost use Rattle.clap.specs.Matches.{found_of};
 ghost use Rattle.clap.specs.Simple.{subcommand_rows_of};
 ghost use Rattle.clap.specs.Walk.{rows_of, texts};
-ghost use Rattle.command.specs.CommandLine.{HasMet, IsInvokedBy, IsReadAs, IsRefusedByClap, MakesNone, detail_by};
+ghost use Rattle.command.specs.CommandLine.{HasMet, IsInvokedBy, IsReadAs, IsRejectedByClap, MakesNone, detail_by};
 ghost use Rattle.command.specs.CommandLine.{detail_in};
 
 use crate::command_line::bidi_command;
 use crate::invocation::Invocation;
-use crate::refusal::{NoRequest, WordsFault};
-use crate::refusals::refusal_without_request;
+use crate::rejection::{NoRequest, WordsFault};
+use crate::rejections::rejection_without_request;
 use crate::subcommands::request_by;
 use crate::values::has_flag;
 use clap::{ArgMatches, Error};
@@ -19,7 +19,7 @@ use std::alloc::Global;
 /// Parses the arguments. Fails with the error of `clap` that rejects them.
 fn matches_of<'a>(alloc: Global, words: &'a [&'a str]) -> Result<ArgMatches<'a>, Error>
     ensures met { IfOk result (λ matches. HasMet (texts words.now) (subcommand_rows_of matches)) }
-    ensures refused { IfErr result (IsRefusedByClap (texts words.now)) }
+    ensures rejected { IfErr result (IsRejectedByClap (texts words.now)) }
 {
     let mut command = bidi_command(alloc)?;
     command.try_get_matches_from_mut(words)
@@ -47,16 +47,16 @@ fn detail_by(matches: &ArgMatches<'_>) -> Detail
 }
 
 /// Returns the request of the given subcommand and its detail, or why it makes no request.
-fn invocation_or_refusal<'a>(matches: &ArgMatches<'a>) -> Result<Invocation<'a>, NoRequest>
+fn invocation_or_rejection<'a>(matches: &ArgMatches<'a>) -> Result<Invocation<'a>, NoRequest>
     ensures invocation { IfOk result (IsInvokedBy (subcommand_rows_of matches.now)) }
-    ensures refusal { IfErr result (MakesNone (subcommand_rows_of matches.now)) }
+    ensures rejection { IfErr result (MakesNone (subcommand_rows_of matches.now)) }
 {
     match request_by(matches) {
         Some(request) => Ok(Invocation {
             request,
             detail: detail_by(matches),
         }),
-        None => Err(refusal_without_request(matches)),
+        None => Err(rejection_without_request(matches)),
     }
 }
 
@@ -66,5 +66,5 @@ pub fn invocation_of<'a>(alloc: Global, words: &'a [&'a str]) -> Result<Invocati
     ensures { IsReadAs (texts words.now) result }
 {
     let matches = matches_of(alloc, words)?;
-    Ok(invocation_or_refusal(&matches)?)
+    Ok(invocation_or_rejection(&matches)?)
 }

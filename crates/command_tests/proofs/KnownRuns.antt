@@ -20,10 +20,10 @@ use Rattle.units.specs.declared.bracket.Unit.{Unit as BidiUnit}
 use Rattle.units.specs.declared.level.Direction.TheVariants.{Auto}
 use Rattle.ucdfiles.specs.ClassFile.{class_line_says, class_of}
 use Rattle.ucdfiles.specs.PairFiles.{bracket_stated, bracket_of, mirror_of, pair_line_says}
-use Rattle.ucdfiles.specs.Tables.{TablesOf, bracket_by, class_by, glyph_by, unit_by, units_by}
+use Rattle.ucdfiles.specs.Tables.{TablesOf, bracket_by, class_by, mirror_by, unit_by, units_by}
 use Rattle.bidtests.specs.ClassesFile.{classes_line, classes_verdict}
 use Rattle.bidtests.specs.CharactersFile.{characters_line, characters_findings, characters_verdict}
-use Rattle.bidtests.specs.Verdicts.{Claim, Row, verdict_on}
+use Rattle.bidtests.specs.Verdicts.{Expected, Row, verdict_on}
 use Rattle.bidtests.specs.WorkedClassesFiles.{classes_files_compute}
 use Rattle.bidtests.specs.declared.kind.Kind.{Kind}
 use Rattle.bidtests.specs.declared.kind.Kind.TheVariants as rows_of
@@ -31,7 +31,7 @@ use Rattle.bidtests.specs.declared.verdict.Verdict.TheVariants.{Yes}
 use Rattle.rule_columns.specs.Columns.{columns_of}
 use Rattle.rule_columns.specs.Passes.{rewritten, implicit_of, closers_of}
 use Rattle.explain.specs.RowTexts.{row_text}
-use Rattle.explain.specs.SoughtRows.{RowView, sought_row}
+use Rattle.explain.specs.WantedRows.{RowView, wanted_row}
 use Rattle.requests.specs.ItemWords.{classes_named}
 use Rattle.command_tests.specs.KnownRuns.{alef_line, neutral_explained, neutral_row_explained}
 use Rattle.requests.specs.RowsExplained.{HasAtLine}
@@ -96,13 +96,13 @@ chars_row = refl
 -- the file of the classes is in the folder itself
 class_path_is : (bytes path : List ℕ) → IsClassPath (memory_facts (files_with bytes)) (codes "t") path → path ≡ in_folder (codes "t") class_name
 class_path_is bytes path (inl e) = e
-class_path_is bytes path (inr h) = let refused = h.1.0 in cc
+class_path_is bytes path (inr h) = let rejected = h.1.0 in cc
 
 alef_is : (bytes : List ℕ) (tables : TablesOf) → AreTables (memory_facts (files_with bytes)) (codes "t") tables → unit_by tables 1488 ≡ alef_unit
 alef_is bytes tables h =
     let class_file : IsWhole (stored_at (files_with bytes) (FileNamed (in_folder (codes "t") class_name))) most_file_bytes h.class_bytes =
     subst (λ (path : List ℕ). IsWhole (stored_at (files_with bytes) (FileNamed path)) most_file_bytes h.class_bytes)
-    (class_path_is bytes h.class_path h.class_found) h.class_file in
+    (class_path_is bytes h.class_path h.class_path_given) h.class_file in
     let class : class_by tables.classes 1488 ≡ R =
     h.classes.stated 1488 (lit≤ tt) ∙ ap (λ bytes. class_of bytes 1488) class_file.0 ∙ class_row in
     let bracket : bracket_by tables.brackets 1488 ≡ No =
@@ -125,7 +125,7 @@ levels_of_alef folder before after f h =
     let printed : printed_levels h.tables h.text Auto ≡ codes "paragraph 0 level 1\n0 05D0 R 1\n" =
     ap (λ (cs : List ℕ). printed_levels h.tables cs Auto) text
     ∙ ap (λ (units : List BidiUnit). levels_text (1488 ∷ []) units (layout_of standard units Auto [])) (alef_units h.tables stated) ∙ levels_row in
-    subst (λ (bytes : List ℕ). Appends before after bytes) printed h.said
+    subst (λ (bytes : List ℕ). Appends before after bytes) printed h.noted
 
 line_row : (images : ℕ → Option ℕ) → images 1488 ≡ None → reorder_text images (1488 ∷ []) alef (layout_of standard alef Auto []) ≡ alef_line
 unfolding layouts_compute encode_utf8
@@ -137,13 +137,13 @@ pub line_of_alef : (folder : Bor (List ℕ)) (before after : Option (List ℕ)) 
 line_of_alef folder before after f h =
     let stated = subst (λ (name : List ℕ). AreTables (memory_facts alef_files) name h.tables) f h.stated in
     let text : h.text ≡ 1488 ∷ [] = h.read.text_is ∙ ap chars h.read.read.0 ∙ chars_row in
-    let image : glyph_by h.tables.mirrors 1488 ≡ None =
+    let image : mirror_by h.tables.mirrors 1488 ≡ None =
     stated.mirrors.stated 1488 (lit≤ tt) ∙ ap (λ bytes. mirror_of bytes 1488) stated.mirror_file.0 ∙ mirror_row in
     let printed : printed_reorder h.tables h.text Auto None ≡ alef_line =
     ap (λ (cs : List ℕ). printed_reorder h.tables cs Auto None) text
-    ∙ ap (λ (units : List BidiUnit). reorder_text (glyph_by h.tables.mirrors) (1488 ∷ []) units (layout_of standard units Auto []))
-    (alef_units h.tables stated) ∙ line_row (glyph_by h.tables.mirrors) image in
-    subst (λ (bytes : List ℕ). Appends before after bytes) printed h.said
+    ∙ ap (λ (units : List BidiUnit). reorder_text (mirror_by h.tables.mirrors) (1488 ∷ []) units (layout_of standard units Auto []))
+    (alef_units h.tables stated) ∙ line_row (mirror_by h.tables.mirrors) image in
+    subst (λ (bytes : List ℕ). Appends before after bytes) printed h.noted
 
 -- the word ON names the class ON
 neutral_row : classes_named (codes "ON") ≡ Some (ON ∷ [])
@@ -154,7 +154,7 @@ pub explanation_of_neutral : (before after : Option (List ℕ))
 explanation_of_neutral before after h =
     let classes : h.classes ≡ ON ∷ [] = let named = sym h.named ∙ neutral_row in cc in
     subst (λ (bytes : List ℕ). Appends before after bytes)
-    (ap (λ (cs : List Class). explained_classes cs Auto) classes ∙ no_strong) h.said
+    (ap (λ (cs : List Class). explained_classes cs Auto) classes ∙ no_strong) h.noted
 
 -- a standard input of one row, which is right
 abbrev pub row_bytes : List ℕ
@@ -175,7 +175,7 @@ pub line_of_verdict : (before after : Option (List ℕ)) (status : ℕ)
     → HasJudged (memory_facts row_files) IsClassesVerdict (codes "-") before after status → Appends before after (codes "yes: 1 rows, 1 cases\n")
 line_of_verdict before after status h =
     let verdict : h.verdict ≡ Yes 1 1 = h.is ∙ ap (classes_verdict standard) h.read.0 ∙ verdict_row in
-    subst (λ (bytes : List ℕ). Appends before after bytes) (ap verdict_text verdict ∙ text_row) h.said.line
+    subst (λ (bytes : List ℕ). Appends before after bytes) (ap verdict_text verdict ∙ text_row) h.noted.line
 
 -- a file of one row of characters, which is right: an alef, under auto
 abbrev pub character_bytes : List ℕ
@@ -185,22 +185,22 @@ abbrev pub character_files : Stored
 character_files = files_with character_bytes
 
 -- what the row expects of this unit
-abbrev alef_claim : BidiUnit → Claim
-alef_claim unit = record { text = unit ∷ []; directions = Auto ∷ []; para_level = Some 1; levels = Some 1 ∷ []; order = 0 ∷ [] }
+abbrev alef_expected : BidiUnit → Expected
+alef_expected unit = record { text = unit ∷ []; directions = Auto ∷ []; para_level = Some 1; levels = Some 1 ∷ []; order = 0 ∷ [] }
 
-character_findings : (unit_of : ℕ → BidiUnit) → characters_findings unit_of (lines_of character_bytes) ≡ Row (alef_claim (unit_of 1488)) ∷ []
+character_findings : (unit_of : ℕ → BidiUnit) → characters_findings unit_of (lines_of character_bytes) ≡ Row (alef_expected (unit_of 1488)) ∷ []
 unfolding characters_line
 character_findings unit_of = refl
 
-claim_row : verdict_on standard (Row (alef_claim alef_unit) ∷ []) ≡ Yes 1 1
+alef_row_is_right : verdict_on standard (Row (alef_expected alef_unit) ∷ []) ≡ Yes 1 1
 unfolding verdict_on layouts_compute
-claim_row = refl
+alef_row_is_right = refl
 
 character_verdict : (tables : TablesOf) → AreTables (memory_facts character_files) (codes "t") tables → characters_verdict standard (unit_by tables) character_bytes ≡ Yes 1 1
 unfolding characters_verdict
 character_verdict tables h =
     ap (verdict_on standard) (character_findings (unit_by tables))
-    ∙ ap (λ (unit : BidiUnit). verdict_on standard (Row (alef_claim unit) ∷ [])) (alef_is character_bytes tables h) ∙ claim_row
+    ∙ ap (λ (unit : BidiUnit). verdict_on standard (Row (alef_expected unit) ∷ [])) (alef_is character_bytes tables h) ∙ alef_row_is_right
 
 pub line_of_characters_verdict : (folder : Bor (List ℕ)) (before after : Option (List ℕ)) (status : ℕ) → folder.now ≡ codes "t"
     → HasJudged (memory_facts character_files) (IsCharactersVerdict (memory_facts character_files) (Folder folder)) (codes "FILE") before after status
@@ -209,7 +209,7 @@ line_of_characters_verdict folder before after status f h =
     let tables = h.is.0 in
     let stated = subst (λ (name : List ℕ). AreTables (memory_facts character_files) name tables) f h.is.1 in
     let verdict : h.verdict ≡ Yes 1 1 = h.is.2 ∙ ap (characters_verdict standard (unit_by tables)) h.read.0 ∙ character_verdict tables stated in
-    subst (λ (bytes : List ℕ). Appends before after bytes) (ap verdict_text verdict ∙ text_row) h.said.line
+    subst (λ (bytes : List ℕ). Appends before after bytes) (ap verdict_text verdict ∙ text_row) h.noted.line
 
 -- a standard input of one row, of a neutral
 abbrev pub neutral_bytes : List ℕ
@@ -221,35 +221,35 @@ neutral_files = record { files = []; input = Some (whole_file [] neutral_bytes) 
 -- the row at its third line
 abbrev neutral_view : RowView
 neutral_view = record {
-  claim = record { text = record { class = ON; bracket = No } ∷ []; directions = Auto ∷ []; para_level = None; levels = Some 0 ∷ []; order = 0 ∷ [] };
+  expected = record { text = record { class = ON; bracket = No } ∷ []; directions = Auto ∷ []; para_level = None; levels = Some 0 ∷ []; order = 0 ∷ [] };
   chars = [];
 }
 
-neutral_found : sought_row rows_of.Classes 3 neutral_bytes ≡ Ok neutral_view
+neutral_row_is : wanted_row rows_of.Classes 3 neutral_bytes ≡ Ok neutral_view
 unfolding classes_files_compute
-neutral_found = refl
+neutral_row_is = refl
 
-neutral_told : row_text 3 neutral_view ≡ neutral_row_explained
+neutral_text_is : row_text 3 neutral_view ≡ neutral_row_explained
 unfolding layouts_compute columns_of rewritten implicit_of closers_of digits
-neutral_told = refl
+neutral_text_is = refl
 
 -- nothing follows all bytes
-none_behind : (bytes rest : List ℕ) → bytes ≡ bytes ++ rest → rest ≡ []
-none_behind [] rest e = sym e
-none_behind (x ∷ xs) rest e = none_behind xs rest cc
+none_after : (bytes rest : List ℕ) → bytes ≡ bytes ++ rest → rest ≡ []
+none_after [] rest e = sym e
+none_after (x ∷ xs) rest e = none_after xs rest cc
 
 pub row_of_neutral : (number : ℕ) (row : RowView) (before after : Option (List ℕ)) → number ≡ 3
     → HasAtLine (memory_facts neutral_files) rows_of.Classes number (codes "-") (Ok row) → Appends before after (row_text number row)
     → Appends before after neutral_row_explained
-row_of_neutral number row before after e h said =
+row_of_neutral number row before after e h noted =
     let rest = h.begins.0 in
-    let found : sought_row rows_of.Classes number (h.bytes ++ rest) ≡ Ok row =
-    h.sought rest (λ whole. none_behind h.bytes rest (whole.0 ∙ h.begins.1)) in
-    let there : sought_row rows_of.Classes 3 neutral_bytes ≡ Ok row =
-    subst (λ (n : ℕ). sought_row rows_of.Classes n neutral_bytes ≡ Ok row) e
-    (ap (sought_row rows_of.Classes number) h.begins.1 ∙ found) in
-    let is : row ≡ neutral_view = let both = sym there ∙ neutral_found in cc in
-    subst (λ (bytes : List ℕ). Appends before after bytes) (ap₂ row_text e is ∙ neutral_told) said
+    let found : wanted_row rows_of.Classes number (h.bytes ++ rest) ≡ Ok row =
+    h.wanted rest (λ whole. none_after h.bytes rest (whole.0 ∙ h.begins.1)) in
+    let there : wanted_row rows_of.Classes 3 neutral_bytes ≡ Ok row =
+    subst (λ (n : ℕ). wanted_row rows_of.Classes n neutral_bytes ≡ Ok row) e
+    (ap (wanted_row rows_of.Classes number) h.begins.1 ∙ found) in
+    let is : row ≡ neutral_view = let both = sym there ∙ neutral_row_is in cc in
+    subst (λ (bytes : List ℕ). Appends before after bytes) (ap₂ row_text e is ∙ neutral_text_is) noted
 
 -- what each request over these files prints
 pub levels_done : (files : Stored) (folder file : Bor (List ℕ)) (before after : Option (List ℕ)) (outcome : Outcome) → files ≡ alef_files
@@ -285,7 +285,7 @@ pub row_done : (files : Stored) (line : NonZeroU64) (file : Bor (List ℕ)) (bef
 row_done files line file before after (Judged status) e n g h = absurd h
 row_done files line file before after Printed e n g h =
     let found = subst (λ (rows : Kind). HasAtLine (memory_facts files) rows line.value file.now (Ok h.row)) h.is h.found in
-    row_of_neutral line.value h.row before after n (rw (e, g) at found) h.said
+    row_of_neutral line.value h.row before after n (rw (e, g) at found) h.noted
 
 pub characters_verdict_done : (files : Stored) (folder file : Bor (List ℕ)) (before after : Option (List ℕ)) (outcome : Outcome) → files ≡ character_files
     → folder.now ≡ codes "t" → file.now ≡ codes "FILE" → IsDone (memory_facts files) before after (Judge Characters (Some (Folder folder)) file) outcome

@@ -4,7 +4,7 @@ use Rattle.std.specs.Borrow.{Bor}
 use Rattle.std.specs.Io.KnownBytes.{Consumes, IsAtEnd}
 use Rattle.std.specs.Str.{bytes_eq}
 use Rattle.std.proofs.Common.{append-nil, arith, length-append, sym, ap, subst, ◌∙◌}
-use Rattle.units.specs.HandsOut.{GivesTooMany, Reading, ReaderHasEnded, failures_of, unread_of}
+use Rattle.units.specs.Provides.{GivesTooMany, Reading, ReaderHasEnded, failures_of, unread_of}
 use Rattle.units.specs.declared.reader_source.State.{State}
 use Rattle.units.specs.declared.reader_source.State.TheVariants.{Open, Ended, Failed}
 use Rattle.units.specs.declared.unread.Unread.{Unread}
@@ -46,22 +46,22 @@ IsTooLarge None most = ⊥
 IsTooLarge (Some file) most = min most file.readable < length file.bytes
 
 -- a read fails after these bytes, for this reason; if the reason is that the file is too large, the file is
-abbrev pub FailsBehind : Option StoredFile → ℕ → List ℕ → Unread → Type 0
-FailsBehind file most bytes unread = FileBeginsWith file bytes × (unread ≡ TooLarge → IsTooLarge file most)
+abbrev pub FailsAfter : Option StoredFile → ℕ → List ℕ → Unread → Type 0
+FailsAfter file most bytes unread = FileBeginsWith file bytes × (unread ≡ TooLarge → IsTooLarge file most)
 
 -- the facts about files and standard input in memory
 abbrev pub memory_facts : Stored → FileFacts
 memory_facts stored = record {
-  Refuses = λ origin most unread. (stored_at stored origin ≡ None) × (unread ≡ Missing);
+  Rejects = λ origin most unread. (stored_at stored origin ≡ None) × (unread ≡ Missing);
   Begins = λ origin most bytes. FileBeginsWith (stored_at stored origin) bytes;
   Holds = λ origin most bytes. IsWhole (stored_at stored origin) most bytes;
-  Fails = λ origin most bytes unread. FailsBehind (stored_at stored origin) most bytes unread;
+  Fails = λ origin most bytes unread. FailsAfter (stored_at stored origin) most bytes unread;
 }
 
 -- the source is over the file, with its limit, and wasn't read yet
 abbrev pub IsOpenedOver : Option StoredFile → ℕ → Reading → Type 0
 IsOpenedOver None most source = ⊥
-IsOpenedOver (Some file) most source = (source.remaining ≡ Some file.bytes) × (source.left ≡ min most file.readable) × (source.state ≡ Open)
+IsOpenedOver (Some file) most source = (source.remaining ≡ Some file.bytes) × (source.allowed ≡ min most file.readable) × (source.state ≡ Open)
 
 first_rest : (known : Option (List ℕ)) (xs bytes : List ℕ) (rest : Option (List ℕ)) → known ≡ Some xs → Consumes known rest bytes
     → (more : List ℕ) × (xs ≡ bytes ++ more)
@@ -70,8 +70,8 @@ first_rest known xs bytes (Some more) e h = (more, subst (λ k. Consumes k (Some
 
 pub begins-gave : (file : Option StoredFile) (most : ℕ) (opened now : Reading) (bytes : List ℕ)
     → IsOpenedOver file most opened → Gives opened bytes now → FileBeginsWith file bytes
-begins-gave None most opened now bytes stands given = absurd stands
-begins-gave (Some file) most opened now bytes stands given = first_rest opened.remaining file.bytes bytes given.first.0 stands.0 given.first.1
+begins-gave None most opened now bytes represents given = absurd represents
+begins-gave (Some file) most opened now bytes represents given = first_rest opened.remaining file.bytes bytes given.first.0 represents.0 given.first.1
 
 all_of : (known after : Option (List ℕ)) (xs bytes : List ℕ) → known ≡ Some xs → Consumes known after bytes → IsAtEnd after → bytes ≡ xs
 all_of known None xs bytes e h at_end = absurd (subst (λ k. Consumes k None bytes) e h)
@@ -81,10 +81,10 @@ all_of known (Some ys) xs bytes e h at_end =
 
 pub whole-gave : (file : Option StoredFile) (most : ℕ) (opened now : Reading) (bytes : List ℕ)
     → IsOpenedOver file most opened → Gives opened bytes now → ReaderHasEnded now → IsWhole file most bytes
-whole-gave None most opened now bytes stands given ended = absurd stands
-whole-gave (Some file) most opened now bytes stands given ended = (
-  all_of opened.remaining now.remaining file.bytes bytes stands.0 (given.consumed (ap failures_of ended.state_is)) ended.no_more,
-  omega (arith, given.falls, stands.1),
+whole-gave None most opened now bytes represents given ended = absurd represents
+whole-gave (Some file) most opened now bytes represents given ended = (
+  all_of opened.remaining now.remaining file.bytes bytes represents.0 (given.consumed (ap failures_of ended.state_is)) ended.no_more,
+  omega (arith, given.falls, represents.1),
 )
 
 -- a source whose error is that there were too many bytes has failed with that state
@@ -93,23 +93,23 @@ too_large Open failed why = absurd (let bad : ⊥ = omega (arith, failed) in bad
 too_large Ended failed why = absurd (let bad : ⊥ = omega (arith, failed) in bad)
 too_large (Failed unread) failed why = ap Failed why
 
-longer : (xs bytes more rest : List ℕ) (left now : ℕ) → xs ≡ (bytes ++ more) ++ rest → now < length more → now + length bytes ≡ left
-    → left < length xs
-longer xs bytes more rest left now e f g =
+longer : (xs bytes more rest : List ℕ) (allowed now : ℕ) → xs ≡ (bytes ++ more) ++ rest → now < length more → now + length bytes ≡ allowed
+    → allowed < length xs
+longer xs bytes more rest allowed now e f g =
     omega (arith, ap length e, length-append (bytes ++ more) rest, length-append bytes more, f, g)
 
-passed : (xs bytes : List ℕ) (known : Option (List ℕ)) (left now most : ℕ) → known ≡ Some xs → left ≡ most → now + length bytes ≡ left
+passed : (xs bytes : List ℕ) (known : Option (List ℕ)) (allowed now most : ℕ) → known ≡ Some xs → allowed ≡ most → now + length bytes ≡ allowed
     → GivesTooMany known bytes now → most < length xs
-passed xs bytes known left now most e limit falls h =
+passed xs bytes known allowed now most e limit falls h =
     let first = first_rest known xs (bytes ++ h.0) h.1.0 e h.1.1 in
     longer xs bytes h.0 first.0 most now first.1 h.2 (falls ∙ limit)
 
 pub fails-gave : (file : Option StoredFile) (most : ℕ) (opened now : Reading) (bytes : List ℕ)
     → IsOpenedOver file most opened → Gives opened bytes now → failures_of now.state ≡ 1
-    → FailsBehind file most bytes (unread_of now.state)
-fails-gave None most opened now bytes stands given failed = absurd stands
-fails-gave (Some file) most opened now bytes stands given failed = (
-  begins-gave (Some file) most opened now bytes stands given,
-  λ why. passed file.bytes bytes opened.remaining opened.left now.left (min most file.readable) stands.0 stands.1 given.falls
-      (given.passes (ap failures_of stands.2) (too_large now.state failed why)),
+    → FailsAfter file most bytes (unread_of now.state)
+fails-gave None most opened now bytes represents given failed = absurd represents
+fails-gave (Some file) most opened now bytes represents given failed = (
+  begins-gave (Some file) most opened now bytes represents given,
+  λ why. passed file.bytes bytes opened.remaining opened.allowed now.allowed (min most file.readable) represents.0 represents.1 given.falls
+      (given.passes (ap failures_of represents.2) (too_large now.state failed why)),
 )

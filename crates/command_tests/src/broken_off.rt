@@ -78,10 +78,10 @@ fn prints_what_ended_before_a_read_fails(rt: HostRuntime) {
 }
 
 #[test]
-fn hands_on_what_ended(rt: HostRuntime) {
+fn flushes_what_ended(rt: HostRuntime) {
     for (words, printed) in ROWS {
         let outcome = outcome_of(rt.alloc(), words, &tables_and(b"a\n\xff"));
-        assert_eq!(rt; outcome.out.handed_on(), printed, "{words:?}");
+        assert_eq!(rt; outcome.out.passed_on(), printed, "{words:?}");
     }
 }
 

@@ -70,7 +70,7 @@ fn prints_no_rows_from_a_longer_to_a_shorter_length(rt: HostRuntime) {
 }
 
 #[test]
-fn refuses_what_makes_no_rows(rt: HostRuntime) {
+fn rejects_what_makes_no_rows(rt: HostRuntime) {
     let rows: [(&str, &str, &[u8]); 11] = [
         (
             "",
@@ -151,7 +151,7 @@ fn draws_nothing_from_a_longer_to_a_shorter_length(rt: HostRuntime) {
 }
 
 #[test]
-fn draws_by_the_seed_0_where_none_is_said(rt: HostRuntime) {
+fn draws_with_seed_0_by_default(rt: HostRuntime) {
     let [
         bidi,
         rows,
@@ -166,7 +166,7 @@ fn draws_by_the_seed_0_where_none_is_said(rt: HostRuntime) {
         length_option,
         lengths,
     ] = drawn("0", "2", "1..2");
-    let left_out = [
+    let without_seed = [
         bidi,
         rows,
         form,
@@ -179,7 +179,7 @@ fn draws_by_the_seed_0_where_none_is_said(rt: HostRuntime) {
         lengths,
     ];
     let ending = Ending::prints(0, DRAWN_TEXT);
-    assert_run(&rt, rt.alloc(), &left_out, &[], ending);
+    assert_run(&rt, rt.alloc(), &without_seed, &[], ending);
 }
 
 #[test]

@@ -45,7 +45,7 @@ fn ends_with<F: Files + Drop>(
     let mut err = FixedWriter::new();
     let ended = run(alloc, words, &files, &mut out, &mut err);
     assert_eq!(rt; ended.status, 3, "{words:?}");
-    assert!(rt; ended.is_said && !ended.is_written, "{words:?}");
+    assert!(rt; ended.is_reported && !ended.is_written, "{words:?}");
     assert_eq!(rt; err.written(), line, "{words:?}");
 }
 

@@ -47,8 +47,8 @@ fn says_that_a_write_failed(rt: HostRuntime) {
         (&help, 5, true),
     ];
     let files = tables_and(b"#1");
-    for (words, left, flushes) in rows {
-        let out = ShortWriter { left, flushes };
+    for (words, allowed, flushes) in rows {
+        let out = ShortWriter { allowed, flushes };
         assert_fault_over_writer(&rt, alloc, words, &files, out, b"bidi: cannot write\n");
     }
 }
@@ -56,18 +56,18 @@ fn says_that_a_write_failed(rt: HostRuntime) {
 #[test]
 fn says_that_a_write_of_a_row_failed(rt: HostRuntime) {
     let files = tables_and(WRONG_UNDER_RTL);
-    for (left, flushes) in [(0, true), (5, true), (100, true), (1000, false)] {
-        let out = ShortWriter { left, flushes };
+    for (allowed, flushes) in [(0, true), (5, true), (100, true), (1000, false)] {
+        let out = ShortWriter { allowed, flushes };
         let line = b"bidi: cannot write\n";
         assert_fault_over_writer(&rt, rt.alloc(), &EXPLAIN_ROW_OF_CLASSES, &files, out, line);
     }
 }
 
 /// Returns how a run ends if its standard error takes so many bytes and fails to flush.
-fn end_without_a_line(alloc: Global, words: &[&str], left: usize) -> Ended {
+fn end_without_a_line(alloc: Global, words: &[&str], allowed: usize) -> Ended {
     let mut out = FixedWriter::new();
     let mut err = ShortWriter {
-        left,
+        allowed,
         flushes: false,
     };
     run(alloc, words, &MemoryFiles::new(&[]), &mut out, &mut err)
@@ -100,11 +100,11 @@ fn keeps_the_status_where_the_fault_line_is_not_taken(rt: HostRuntime) {
         let unsaid = Ended {
             status,
             is_written: true,
-            is_said: false,
+            is_reported: false,
         };
-        for left in [5, 1000] {
+        for allowed in [5, 1000] {
             assert_eq!(rt;
-                end_without_a_line(rt.alloc(), words, left),
+                end_without_a_line(rt.alloc(), words, allowed),
                 unsaid,
                 "{words:?}"
             );
@@ -113,13 +113,13 @@ fn keeps_the_status_where_the_fault_line_is_not_taken(rt: HostRuntime) {
 }
 
 #[test]
-fn says_that_a_file_found_no_memory(rt: HostRuntime) {
+fn reports_that_a_file_got_no_memory(rt: HostRuntime) {
     let ending = Ending::fails(3, b"bidi: out of memory\n");
     assert_run_over(&rt, rt.alloc(), &JUDGE_CLASSES, NoMemory, ending);
 }
 
 /// Returns whether a run reported that memory ran out.
-fn found_no_memory(outcome: &Outcome) -> bool {
+fn reports_no_memory(outcome: &Outcome) -> bool {
     outcome.ended.status == 3 && outcome.err.written() == b"bidi: out of memory\n".as_slice()
 }
 
@@ -132,7 +132,7 @@ fn begins_so(outcome: &Outcome, status: u8, out: &[u8], err: &[u8]) -> bool {
 
 // This test is to be run with each allocation failing in turn.
 #[test]
-fn answers_as_ever_or_says_that_memory_was_refused(rt: HostRuntime) {
+fn runs_as_usual_or_reports_that_memory_ran_out(rt: HostRuntime) {
     let rows: [(&[&str], u8, &[u8], &[u8]); 13] = [
         (&LEVELS, 0, b"paragraph 0 level 0\n0 0040 L 0\n", b""),
         (&REORDER, 0, b"@Levels: 0\n@Reorder: 0\nL; 7\n", b""),
@@ -160,7 +160,7 @@ fn answers_as_ever_or_says_that_memory_was_refused(rt: HostRuntime) {
     ];
     for (words, status, out, err) in rows {
         let outcome = outcome_of(rt.alloc(), words, &tables_and(WRONG_UNDER_RTL));
-        let is_right = found_no_memory(&outcome) || begins_so(&outcome, status, out, err);
+        let is_right = reports_no_memory(&outcome) || begins_so(&outcome, status, out, err);
         assert!(rt; is_right, "{words:?}");
     }
 }

@@ -78,7 +78,7 @@ fn says_that_a_text_was_not_read(rt: HostRuntime) {
         let files = [classes, brackets, mirrors, file];
         for words in [LEVELS, REORDER, EXPLAIN] {
             let out = ShortWriter {
-                left: 0,
+                allowed: 0,
                 flushes: false,
             };
             assert_fault_over_writer(&rt, rt.alloc(), &words, &files, out, line);

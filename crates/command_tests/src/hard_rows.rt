@@ -110,7 +110,7 @@ fn prints_hard_rows_of_characters_that_are_judged_right(rt: HostRuntime) {
 }
 
 #[test]
-fn refuses_what_makes_no_hard_rows(rt: HostRuntime) {
+fn rejects_what_makes_no_hard_rows(rt: HostRuntime) {
     let rows: [(&str, &str, &[u8]); 5] = [
         ("05D0", "", b"bidi: --directions has no direction\n"),
         ("05D0", " ", b"bidi: --directions has no direction\n"),

@@ -126,7 +126,7 @@ fn judges_files_of_characters(rt: HostRuntime) {
 const MOST_LINE: usize = 65_536;
 
 #[test]
-fn refuses_an_over_long_line(rt: HostRuntime) {
+fn rejects_an_over_long_line(rt: HostRuntime) {
     let alloc = rt.alloc();
     let mut line = [b'a'; MOST_LINE + 2];
     line[0] = b'#';

@@ -4,7 +4,7 @@ ghost use Rattle.command_tests.specs.KnownRuns.{alef_line, neutral_explained, ne
 
 use crate::memory_files::{MemoryFiles, whole};
 use requests::performing::perform;
-use requests::request::{FileKind, Print, Request, SoughtRow, TableSource};
+use requests::request::{FileKind, Print, Request, WantedRow, TableSource};
 use std::alloc::Global;
 use std::num::NonZeroU64;
 use units::level::Direction;
@@ -71,7 +71,7 @@ fn explain_a_row(alloc: Global, line: NonZeroU64, file: &str, out: &mut Vec<u8>)
 {
     let input = whole("", b"@Levels: 0\n@Reorder: 0\nON; 1\n");
     let files = MemoryFiles::new(&[]).with_input(input);
-    let request = Request::ExplainRow(SoughtRow {
+    let request = Request::ExplainRow(WantedRow {
         kind: FileKind::Classes,
         tables: None,
         line,

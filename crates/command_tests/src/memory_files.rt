@@ -1,6 +1,6 @@
 //! Files and standard input in memory, whose reads may fail after some of the bytes.
 ghost use Rattle.std.specs.Prelude.{◌≡◌};
-ghost use Rattle.units.specs.HandsOut.{unread_of};
+ghost use Rattle.units.specs.Provides.{unread_of};
 ghost use Rattle.command_tests.specs.MemoryFiles.{IsOpenedOver, begins-gave, fails-gave, memory_facts, stored_at, whole-gave};
 
 use requests::files::{Files, OpenFault};

@@ -157,7 +157,7 @@ fn opens_the_classes_of_the_folder_extracted(rt: HostRuntime) {
 }
 
 #[test]
-fn opens_no_file_behind_a_fault(rt: HostRuntime) {
+fn opens_no_file_after_a_fault(rt: HostRuntime) {
     let words = ["bidi", "levels", "--tables", "none", "FILE"];
     let asked = "none/DerivedBidiClass.txt\nnone/extracted/DerivedBidiClass.txt\n";
     let files = tables_and(b"");

@@ -356,7 +356,7 @@ fn prints_the_same_in_detail(rt: HostRuntime) {
 
 /// An error is reported if the writer takes each byte and the flush succeeds, and else it isn't.
 #[test]
-fn is_said_if_all_is_taken_and_flushed(rt: HostRuntime) {
+fn is_reported_if_all_is_taken_and_flushed(rt: HostRuntime) {
     let fault = Fault::LongLine {
         name: "FILE",
         line: 65_536,
@@ -366,26 +366,26 @@ fn is_said_if_all_is_taken_and_flushed(rt: HostRuntime) {
         b"bidi: FILE: line 65536: too long\nbidi: reason: more than 4095 characters\n".as_slice();
     for (detail, text) in [(Detail::Brief, line), (Detail::Verbose, lines)] {
         let mut err = FixedWriter::new();
-        let said = Ended {
+        let noted = Ended {
             status: 3,
             is_written: true,
-            is_said: true,
+            is_reported: true,
         };
-        assert_eq!(rt; fault.report(&mut err, detail), said);
-        assert_eq!(rt; err.handed_on(), text);
+        assert_eq!(rt; fault.report(&mut err, detail), noted);
+        assert_eq!(rt; err.passed_on(), text);
         let unsaid = Ended {
             status: 3,
             is_written: true,
-            is_said: false,
+            is_reported: false,
         };
-        for (left, flushes) in [(text.len(), false), (text.len() - 1, true), (0, true)] {
-            let mut err = ShortWriter { left, flushes };
-            assert_eq!(rt; fault.report(&mut err, detail), unsaid, "{left}");
+        for (allowed, flushes) in [(text.len(), false), (text.len() - 1, true), (0, true)] {
+            let mut err = ShortWriter { allowed, flushes };
+            assert_eq!(rt; fault.report(&mut err, detail), unsaid, "{allowed}");
         }
         let mut err = ShortWriter {
-            left: text.len(),
+            allowed: text.len(),
             flushes: true,
         };
-        assert_eq!(rt; fault.report(&mut err, detail), said);
+        assert_eq!(rt; fault.report(&mut err, detail), noted);
     }
 }

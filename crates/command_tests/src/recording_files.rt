@@ -1,5 +1,5 @@
 //! Files and standard input in memory that record which of them are opened.
-ghost use Rattle.units.specs.HandsOut.{unread_of};
+ghost use Rattle.units.specs.Provides.{unread_of};
 ghost use Rattle.command_tests.specs.MemoryFiles.{IsOpenedOver, begins-gave, fails-gave, memory_facts, stored_at, whole-gave};
 
 use crate::memory_files::MemoryFiles;

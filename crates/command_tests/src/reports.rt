@@ -26,7 +26,7 @@ wrong by place: paragraph level 0, levels 1, order 2
 ";
 
 #[test]
-fn goes_on_behind_a_wrong_row_up_to_a_malformed_line(rt: HostRuntime) {
+fn continues_after_a_wrong_row_up_to_a_malformed_line(rt: HostRuntime) {
     let files = [whole("FILE", FAULTS)];
     let ending = Ending::prints(1, FAULTS_TEXT);
     assert_run(&rt, rt.alloc(), &REPORT_CLASSES, &files, ending);
@@ -101,7 +101,7 @@ wrong by place: paragraph level 1, levels 2, order 1
 }
 
 /// Rows of an engine that keeps the positions that X9 removes, and of one that reports an order and no levels.
-const KEPT: &[u8] = b"@Levels: 0 1 1
+const ENGINE_ROWS: &[u8] = b"@Levels: 0 1 1
 @Reorder: 0 2 1
 RLE R PDF; 2
 @Levels: 1
@@ -110,14 +110,14 @@ L; 2
 ";
 
 #[test]
-fn compares_all_that_is_claimed_where_nothing_else_is_said(rt: HostRuntime) {
+fn compares_all_lists_by_default(rt: HostRuntime) {
     let text = b"line 3: ltr: levels at 0: claimed 0, defined x
 line 6: ltr: levels at 0: claimed 1, defined 0
 2 rows, 2 wrong; 2 cases, 2 wrong
 wrong by direction: auto 0, ltr 2, rtl 0, auto-rtl 0
 wrong by place: paragraph level 0, levels 2, order 0
 ";
-    let files = [whole("FILE", KEPT)];
+    let files = [whole("FILE", ENGINE_ROWS)];
     let ending = Ending::prints(1, text);
     assert_run(&rt, rt.alloc(), &REPORT_CLASSES, &files, ending);
 }
@@ -155,13 +155,13 @@ wrong by place: paragraph level 0, levels 0, order 0
         ),
     ];
     for (words, status, text) in rows {
-        let files = [whole("FILE", KEPT)];
+        let files = [whole("FILE", ENGINE_ROWS)];
         assert_run(&rt, rt.alloc(), words, &files, Ending::prints(status, text));
     }
 }
 
 #[test]
-fn tells_places_of_what_is_shown(rt: HostRuntime) {
+fn reports_places_of_shown_positions(rt: HostRuntime) {
     let bytes = b"@Levels: 9 1 9
 @Reorder: 0 2
 RLE R PDF; 2
@@ -213,7 +213,7 @@ wrong by place: paragraph level 0, levels 0, order 1
 }
 
 #[test]
-fn prints_twenty_wrong_cases_where_it_is_not_said_how_many(rt: HostRuntime) {
+fn prints_twenty_wrong_cases_by_default(rt: HostRuntime) {
     let bytes = b"@Levels: 1\n@Reorder: 0\nL;3\nL;3\nL;3\nL;3\nL;3\nL;3\nL;3\nL;3\nL;3\nL;3\nL;3\n";
     let text = b"line 3: auto: levels at 0: claimed 1, defined 0
 line 3: ltr: levels at 0: claimed 1, defined 0
@@ -276,15 +276,15 @@ fn says_that_a_file_of_a_report_was_not_read(rt: HostRuntime) {
 #[test]
 fn says_that_a_write_of_a_report_failed(rt: HostRuntime) {
     let files = [whole("FILE", FAULTS)];
-    for (left, flushes) in [(0, true), (5, true), (60, true), (300, true), (1000, false)] {
-        let out = ShortWriter { left, flushes };
+    for (allowed, flushes) in [(0, true), (5, true), (60, true), (300, true), (1000, false)] {
+        let out = ShortWriter { allowed, flushes };
         let line = b"bidi: cannot write\n";
         assert_fault_over_writer(&rt, rt.alloc(), &REPORT_CLASSES, &files, out, line);
     }
 }
 
 #[test]
-fn refuses_words_of_a_report(rt: HostRuntime) {
+fn rejects_arguments_of_a_report(rt: HostRuntime) {
     let rows: [&[&str]; 6] = [
         &["bidi", "report", "FILE"],
         &["bidi", "report", "--kind", "classes"],

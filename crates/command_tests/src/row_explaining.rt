@@ -233,8 +233,8 @@ fn says_what_of_a_row_was_not_read(rt: HostRuntime) {
     let missing = Ending::fails(3, b"bidi: cannot read FILE\n");
     assert_run(&rt, alloc, &EXPLAIN_ROW_OF_CHARACTERS, &files, missing);
     assert_run(&rt, alloc, &EXPLAIN_ROW_OF_CLASSES, &files, missing);
-    let refused = Ending::fails(3, b"bidi: out of memory\n");
-    assert_run_over(&rt, alloc, &EXPLAIN_ROW_OF_CLASSES, NoMemory, refused);
+    let rejected = Ending::fails(3, b"bidi: out of memory\n");
+    assert_run_over(&rt, alloc, &EXPLAIN_ROW_OF_CLASSES, NoMemory, rejected);
 }
 
 #[test]

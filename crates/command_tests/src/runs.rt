@@ -77,7 +77,7 @@ fn assert_written(rt: &impl Abort, words: &[&str], written: &[u8], text: Text<'_
 fn assert_ends(rt: &impl Abort, words: &[&str], outcome: &Outcome, ending: Ending<'_>) {
     assert_eq!(rt; outcome.ended.status, ending.status, "{words:?}");
     assert!(rt; outcome.ended.is_written, "{words:?}");
-    assert!(rt; outcome.ended.is_said, "{words:?}");
+    assert!(rt; outcome.ended.is_reported, "{words:?}");
     assert_written(rt, words, outcome.out.written(), ending.out);
     assert_written(rt, words, outcome.err.written(), ending.err);
 }
@@ -116,6 +116,6 @@ pub fn assert_fault_over_writer(
     let mut err = FixedWriter::new();
     let ended = run(alloc, words, &MemoryFiles::new(files), &mut out, &mut err);
     assert_eq!(rt; ended.status, 3, "{words:?}");
-    assert!(rt; ended.is_said, "{words:?}");
+    assert!(rt; ended.is_reported, "{words:?}");
     assert_eq!(rt; err.written(), line, "{words:?}");
 }

@@ -79,7 +79,7 @@ fn prints_lines_that_are_judged_right(rt: HostRuntime) {
 }
 
 #[test]
-fn refuses_texts_that_make_no_rows(rt: HostRuntime) {
+fn rejects_texts_that_make_no_rows(rt: HostRuntime) {
     let mut long = [b'x'; 4100];
     long[0] = b'a';
     long[1] = b'\n';

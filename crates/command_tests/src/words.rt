@@ -1,7 +1,7 @@
 //! Arguments that are rejected, help and the version.
 use crate::runs::{Ending, Text, assert_run};
 
-const REFUSED_LINES: [&'static [&'static str]; 41] = [
+const REJECTED_LINES: [&'static [&'static str]; 41] = [
     &[],
     &["bidi"],
     &["bidi", "other"],
@@ -88,8 +88,8 @@ const REFUSED_LINES: [&'static [&'static str]; 41] = [
 ];
 
 #[test]
-fn refuses_command_lines(rt: HostRuntime) {
-    for words in REFUSED_LINES {
+fn rejects_command_lines(rt: HostRuntime) {
+    for words in REJECTED_LINES {
         let ending = Ending {
             status: 2,
             out: Text::Is(b""),
@@ -100,7 +100,7 @@ fn refuses_command_lines(rt: HostRuntime) {
 }
 
 #[test]
-fn says_what_is_refused(rt: HostRuntime) {
+fn prints_why_arguments_are_rejected(rt: HostRuntime) {
     let rows: [(&[&str], &[u8]); 5] = [
         (
             &["bidi", "explain", "--row", "x", "--kind", "classes", "FILE"],

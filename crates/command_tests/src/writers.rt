@@ -4,17 +4,17 @@ use std::io::{self, Write};
 /// Takes so many bytes and then fails. A flush fails unless `flushes` is set.
 #[derive(Drop)]
 pub struct ShortWriter {
-    pub left: usize,
+    pub allowed: usize,
     pub flushes: bool,
 }
 
 impl Write for ShortWriter {
     fn write(&mut self, buf: &[u8]) -> io::Result<usize> {
-        let n = self.left.min(buf.len());
+        let n = self.allowed.min(buf.len());
         if n == 0 {
             return Err(io::Error::from(io::ErrorKind::StorageFull));
         }
-        self.left -= n;
+        self.allowed -= n;
         Ok(n)
     }
 
@@ -51,7 +51,7 @@ const MOST_WRITTEN: usize = 4096;
 pub struct FixedWriter {
     bytes: [u8; MOST_WRITTEN],
     len: usize,
-    handed_on: usize,
+    passed_on: usize,
 }
 
 impl FixedWriter {
@@ -60,7 +60,7 @@ impl FixedWriter {
         FixedWriter {
             bytes: [0; MOST_WRITTEN],
             len: 0,
-            handed_on: 0,
+            passed_on: 0,
         }
     }
 
@@ -70,8 +70,8 @@ impl FixedWriter {
     }
 
     /// Returns what was flushed of that.
-    pub fn handed_on(&self) -> &[u8] {
-        &self.bytes[..self.handed_on.min(MOST_WRITTEN)]
+    pub fn passed_on(&self) -> &[u8] {
+        &self.bytes[..self.passed_on.min(MOST_WRITTEN)]
     }
 }
 
@@ -85,7 +85,7 @@ impl Write for FixedWriter {
     }
 
     fn flush(&mut self) -> io::Result<()> {
-        self.handed_on = self.len;
+        self.passed_on = self.len;
         Ok(())
     }
 }

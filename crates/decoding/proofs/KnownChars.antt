@@ -10,7 +10,7 @@ use Rattle.std.specs.Option.{IsSome, SomeIff}
 use Rattle.std.proofs.lemmas.Bool.{and_parts}
 use lib.Utf8.{encodes, scalar, scalar_cases, scalars}
 use Rattle.decoding.specs.Spelling.{IsOfBytes, IsSpelled}
-use Rattle.decoding.proofs.Spellings.{left_two, left_three, left_four}
+use Rattle.decoding.proofs.Spellings.{split_two, split_three, split_four}
 
 -- the codes of two, three and four bytes
 pub code_of_two : (x y c : ℕ) → IsOfBytes (x ∷ y ∷ []) c → (192 ≤ x) × (128 ≤ y) × (c ≡ (x - 192) * 64 + (y - 128))
@@ -134,25 +134,25 @@ begins_four bs at inside all front least =
 pub spelled_two : (bs : List ℕ) (at c : ℕ) → at + 1 < length bs → IsOfBytes (get_or bs at 0 ∷ get_or bs (at + 1) 0 ∷ []) c → IsSpelled bs at (c, at + 2)
 spelled_two bs at c lt is = record {
   scalar = is.scalar;
-  behind = omega (arith, ap length is.bytes_of);
+  following = omega (arith, ap length is.bytes_of);
   inside = omega (arith, lt);
-  spelled = take-add at 2 bs ∙ ap (λ (p : List ℕ). take at bs ++ p) (ap (take 2) (left_two bs at lt) ∙ sym is.bytes_of);
+  spelled = take-add at 2 bs ∙ ap (λ (p : List ℕ). take at bs ++ p) (ap (take 2) (split_two bs at lt) ∙ sym is.bytes_of);
 }
 
 pub spelled_three : (bs : List ℕ) (at c : ℕ) → at + 2 < length bs → IsOfBytes (get_or bs at 0 ∷ get_or bs (at + 1) 0 ∷ get_or bs (at + 2) 0 ∷ []) c
     → IsSpelled bs at (c, at + 3)
 spelled_three bs at c lt is = record {
   scalar = is.scalar;
-  behind = omega (arith, ap length is.bytes_of);
+  following = omega (arith, ap length is.bytes_of);
   inside = omega (arith, lt);
-  spelled = take-add at 3 bs ∙ ap (λ (p : List ℕ). take at bs ++ p) (ap (take 3) (left_three bs at lt) ∙ sym is.bytes_of);
+  spelled = take-add at 3 bs ∙ ap (λ (p : List ℕ). take at bs ++ p) (ap (take 3) (split_three bs at lt) ∙ sym is.bytes_of);
 }
 
 pub spelled_four : (bs : List ℕ) (at c : ℕ) → at + 3 < length bs
     → IsOfBytes (get_or bs at 0 ∷ get_or bs (at + 1) 0 ∷ get_or bs (at + 2) 0 ∷ get_or bs (at + 3) 0 ∷ []) c → IsSpelled bs at (c, at + 4)
 spelled_four bs at c lt is = record {
   scalar = is.scalar;
-  behind = omega (arith, ap length is.bytes_of);
+  following = omega (arith, ap length is.bytes_of);
   inside = omega (arith, lt);
-  spelled = take-add at 4 bs ∙ ap (λ (p : List ℕ). take at bs ++ p) (ap (take 4) (left_four bs at lt) ∙ sym is.bytes_of);
+  spelled = take-add at 4 bs ∙ ap (λ (p : List ℕ). take at bs ++ p) (ap (take 4) (split_four bs at lt) ∙ sym is.bytes_of);
 }

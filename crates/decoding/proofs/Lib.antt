@@ -8,4 +8,4 @@ pub mod LossyChunks
 pub mod LossyReading
 pub mod Indexing
 pub mod Utf16Texts
-pub mod FoundBreaks
+pub mod BreakIndices

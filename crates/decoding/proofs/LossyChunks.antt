@@ -28,10 +28,10 @@ shorter : (bs : List ℕ) → 0 < length bs → length (after_first_chunk bs) < 
 shorter bs some =
     let n = utf8_valid_len bs in
     let within = utf8_valid_len_le bs in
-    let left = length-drop (n + utf8_invalid_len (drop n bs)) bs in
+    let remaining = length-drop (n + utf8_invalid_len (drop n bs)) bs in
     elim (cases_lt n (length bs)) [
       | inl below ↦ length-after_first_chunk bs (λ e. omega (arith, below, e))
-      | inr above ↦ omega (arith, left, above, some)
+      | inr above ↦ omega (arith, remaining, above, some)
     ]
 
 -- the text is the same for each number of chunks from the number of bytes on
@@ -67,9 +67,9 @@ chunk_text bs valid invalid rest c =
     ∙ ap (λ (n : ℕ). utf8_text valid ++ replaced n) (sym c.invalid_len)
 
 -- the bytes after a chunk, by the offset in all bytes
-pub chunk_behind : (bytes valid invalid rest : List ℕ) (at : ℕ) → IsChunk (drop at bytes) valid invalid rest
+pub chunk_after : (bytes valid invalid rest : List ℕ) (at : ℕ) → IsChunk (drop at bytes) valid invalid rest
     → after_first_chunk (drop at bytes) ≡ drop (at + length valid + length invalid) bytes
-chunk_behind bytes valid invalid rest at c =
+chunk_after bytes valid invalid rest at c =
     let bs = drop at bytes in
     drop-drop (utf8_valid_len bs + utf8_invalid_len (drop (utf8_valid_len bs) bs)) at bytes ∙ ap (λ (n : ℕ). drop n bytes) (omega (arith, c.valid_len, c.invalid_len))
 
@@ -88,21 +88,21 @@ chunk_some bs valid invalid rest some c = elim (cases_lt 0 (utf8_valid_len bs)) 
 ]
 
 pub chunk_within : (bytes valid invalid rest : List ℕ) (at : ℕ) → at < length bytes → IsChunk (drop at bytes) valid invalid rest → IsWithin at (length bytes) (length valid) (length invalid)
-chunk_within bytes valid invalid rest at left c =
+chunk_within bytes valid invalid rest at remaining c =
     let len = length-drop at bytes in
     record {
-      some = chunk_some (drop at bytes) valid invalid rest (omega (arith, len, left)) c;
-      inside = omega (arith, ap length c.parts, length-append valid (invalid ++ rest), length-append invalid rest, len, left);
+      some = chunk_some (drop at bytes) valid invalid rest (omega (arith, len, remaining)) c;
+      inside = omega (arith, ap length c.parts, length-append valid (invalid ++ rest), length-append invalid rest, len, remaining);
     }
 
 -- what the iterator returned as a chunk of the bytes from an offset on is a chunk
-pub chunk_from : (bytes : List ℕ) (at : ℕ) (left valid given invalid told rest : List ℕ) → left ≡ take (length bytes - at) (drop at bytes) → given ≡ valid → told ≡ invalid
-    → left ≡ valid ++ (invalid ++ rest) → length valid ≡ utf8_valid_len left → length invalid ≡ utf8_invalid_len (drop (utf8_valid_len left) left) → IsChunk (drop at bytes) given told rest
-chunk_from bytes at left valid given invalid told rest is_left is_valid is_invalid parts valid_len invalid_len =
+pub chunk_from : (bytes : List ℕ) (at : ℕ) (remaining valid given invalid reported rest : List ℕ) → remaining ≡ take (length bytes - at) (drop at bytes) → given ≡ valid → reported ≡ invalid
+    → remaining ≡ valid ++ (invalid ++ rest) → length valid ≡ utf8_valid_len remaining → length invalid ≡ utf8_invalid_len (drop (utf8_valid_len remaining) remaining) → IsChunk (drop at bytes) given reported rest
+chunk_from bytes at remaining valid given invalid reported rest is_remaining is_valid is_invalid parts valid_len invalid_len =
     let all = take_all (length bytes - at) (drop at bytes) (omega (arith, length-drop at bytes)) in
-    subst (λ (x : List ℕ). IsChunk x given told rest) (is_left ∙ all)
-    (subst (λ (x : List ℕ). IsChunk left x told rest) (sym is_valid)
-    (subst (λ (x : List ℕ). IsChunk left valid x rest) (sym is_invalid) (record { parts = parts; valid_len = valid_len; invalid_len = invalid_len })))
+    subst (λ (x : List ℕ). IsChunk x given reported rest) (is_remaining ∙ all)
+    (subst (λ (x : List ℕ). IsChunk remaining x reported rest) (sym is_valid)
+    (subst (λ (x : List ℕ). IsChunk remaining valid x rest) (sym is_invalid) (record { parts = parts; valid_len = valid_len; invalid_len = invalid_len })))
 
 -- each of the characters takes at least one byte
 replaced_spelled : (n : ℕ) → IsSpelledOut (replaced n)

@@ -15,8 +15,8 @@ pub offset-end : (text : List Spelled) → offset_of text (length text) ≡ code
 offset-end text = ap code_units (take_all (length text) text (omega arith))
 
 -- the offset of the first character after a front
-pub offset-behind : (front back : List Spelled) → offset_of (front ++ back) (length front) ≡ code_units front
-offset-behind front back = offset-front front back (length front) (omega arith) ∙ offset-end front
+pub offset-following : (front back : List Spelled) → offset_of (front ++ back) (length front) ≡ code_units front
+offset-following front back = offset-front front back (length front) (omega arith) ∙ offset-end front
 
 -- one character more
 pub offset_more : (text : List Spelled) (k : ℕ) (s : Spelled) → k < length text → s ≡ get_or text k s → offset_of text (k + 1) ≡ offset_of text k + s.width

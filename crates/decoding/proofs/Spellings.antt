@@ -36,18 +36,18 @@ of_four x y z w front back c least f g h at enough end is =
     four c (omega (arith, f.least, f.most, g.least, g.most, h.least, h.most)) ∙ (λ k. p k ∷ q k ∷ r k ∷ s k ∷ [])
 
 -- the text up to there is one character more
-pub text_more : (bs : List ℕ) (at c behind : ℕ) → IsUtf8 (take at bs) → IsSpelled bs at (c, behind) → utf8_text (take behind bs) ≡ utf8_text (take at bs) ++ in_utf8 c ∷ []
-text_more bs at c behind front is =
+pub text_more : (bs : List ℕ) (at c following : ℕ) → IsUtf8 (take at bs) → IsSpelled bs at (c, following) → utf8_text (take following bs) ≡ utf8_text (take at bs) ++ in_utf8 c ∷ []
+text_more bs at c following front is =
     let alone : chars (encode_utf8 c) ≡ c ∷ [] = chars_past_char (encode_utf8 c) [] c (IsUtf8-encode c is.scalar) (sym (append-nil (encode_utf8 c))) ∙ ap (λ (cs : List ℕ). c ∷ cs) chars-nil in
     ap utf8_text is.spelled ∙ ap (λ (cs : List ℕ). map in_utf8 cs) (chars-append (take at bs) (encode_utf8 c) front ∙ ap (λ (cs : List ℕ). chars (take at bs) ++ cs) alone)
     ∙ map-append in_utf8 (chars (take at bs)) (c ∷ [])
 
-pub utf8_more : (bs : List ℕ) (at c behind : ℕ) → IsUtf8 (take at bs) → IsSpelled bs at (c, behind) → IsUtf8 (take behind bs)
-utf8_more bs at c behind front is = subst IsUtf8 (sym is.spelled) (IsUtf8-append (take at bs) (encode_utf8 c) front (IsUtf8-encode c is.scalar))
+pub utf8_more : (bs : List ℕ) (at c following : ℕ) → IsUtf8 (take at bs) → IsSpelled bs at (c, following) → IsUtf8 (take following bs)
+utf8_more bs at c following front is = subst IsUtf8 (sym is.spelled) (IsUtf8-append (take at bs) (encode_utf8 c) front (IsUtf8-encode c is.scalar))
 
 -- a character takes at least one byte
-pub forward : (bs : List ℕ) (at c behind : ℕ) → IsSpelled bs at (c, behind) → at < behind
-forward bs at c behind is = omega (arith, is.behind, length-encode c, (len_utf8_bounds c).0)
+pub forward : (bs : List ℕ) (at c following : ℕ) → IsSpelled bs at (c, following) → at < following
+forward bs at c following is = omega (arith, is.following, length-encode c, (len_utf8_bounds c).0)
 
 -- the conversion of a code returns the character of these bytes, or none if they begin no character
 pub made : (r : Option ℕ) (code : ℕ) (bs : List ℕ) → SomeIff r (IsScalar code) code → encode_utf8 code ≡ bs → MatchOption r (BeginNoChar bs) (IsOfBytes bs)
@@ -68,34 +68,34 @@ no_fourth x y z w rest least stops = no_char (x ∷ y ∷ z ∷ w ∷ rest) 0 (�
     let fourth = r.fourth least in stops (record { least = omega (arith, fourth); most = omega (arith, fourth) }))
 
 -- the first bytes of the rest
-left_one : (bs : List ℕ) (at : ℕ) → at < length bs → drop at bs ≡ get_or bs at 0 ∷ drop (at + 1) bs
-left_one bs at lt = drop-cons bs at 0 lt ∙ ap (λ n. get_or bs at 0 ∷ drop n bs) (let e : suc at ≡ at + 1 = omega arith in e)
+split_one : (bs : List ℕ) (at : ℕ) → at < length bs → drop at bs ≡ get_or bs at 0 ∷ drop (at + 1) bs
+split_one bs at lt = drop-cons bs at 0 lt ∙ ap (λ n. get_or bs at 0 ∷ drop n bs) (let e : suc at ≡ at + 1 = omega arith in e)
 
-pub left_two : (bs : List ℕ) (at : ℕ) → at + 1 < length bs → drop at bs ≡ get_or bs at 0 ∷ get_or bs (at + 1) 0 ∷ drop (at + 2) bs
-left_two bs at lt =
-    left_one bs at (omega arith)
-    ∙ ap (λ (xs : List ℕ). get_or bs at 0 ∷ xs) (left_one bs (at + 1) lt ∙ ap (λ n. get_or bs (at + 1) 0 ∷ drop n bs) (let e : at + 1 + 1 ≡ at + 2 = omega arith in e))
+pub split_two : (bs : List ℕ) (at : ℕ) → at + 1 < length bs → drop at bs ≡ get_or bs at 0 ∷ get_or bs (at + 1) 0 ∷ drop (at + 2) bs
+split_two bs at lt =
+    split_one bs at (omega arith)
+    ∙ ap (λ (xs : List ℕ). get_or bs at 0 ∷ xs) (split_one bs (at + 1) lt ∙ ap (λ n. get_or bs (at + 1) 0 ∷ drop n bs) (let e : at + 1 + 1 ≡ at + 2 = omega arith in e))
 
-pub left_three : (bs : List ℕ) (at : ℕ) → at + 2 < length bs → drop at bs ≡ get_or bs at 0 ∷ get_or bs (at + 1) 0 ∷ get_or bs (at + 2) 0 ∷ drop (at + 3) bs
-left_three bs at lt =
-    left_two bs at (omega arith)
+pub split_three : (bs : List ℕ) (at : ℕ) → at + 2 < length bs → drop at bs ≡ get_or bs at 0 ∷ get_or bs (at + 1) 0 ∷ get_or bs (at + 2) 0 ∷ drop (at + 3) bs
+split_three bs at lt =
+    split_two bs at (omega arith)
     ∙ ap (λ (xs : List ℕ). get_or bs at 0 ∷ get_or bs (at + 1) 0 ∷ xs)
-    (left_one bs (at + 2) lt ∙ ap (λ n. get_or bs (at + 2) 0 ∷ drop n bs) (let e : at + 2 + 1 ≡ at + 3 = omega arith in e))
+    (split_one bs (at + 2) lt ∙ ap (λ n. get_or bs (at + 2) 0 ∷ drop n bs) (let e : at + 2 + 1 ≡ at + 3 = omega arith in e))
 
-pub left_four : (bs : List ℕ) (at : ℕ) → at + 3 < length bs
+pub split_four : (bs : List ℕ) (at : ℕ) → at + 3 < length bs
     → drop at bs ≡ get_or bs at 0 ∷ get_or bs (at + 1) 0 ∷ get_or bs (at + 2) 0 ∷ get_or bs (at + 3) 0 ∷ drop (at + 4) bs
-left_four bs at lt =
-    left_three bs at (omega arith)
+split_four bs at lt =
+    split_three bs at (omega arith)
     ∙ ap (λ (xs : List ℕ). get_or bs at 0 ∷ get_or bs (at + 1) 0 ∷ get_or bs (at + 2) 0 ∷ xs)
-    (left_one bs (at + 3) lt ∙ ap (λ n. get_or bs (at + 3) 0 ∷ drop n bs) (let e : at + 3 + 1 ≡ at + 4 = omega arith in e))
+    (split_one bs (at + 3) lt ∙ ap (λ n. get_or bs (at + 3) 0 ∷ drop n bs) (let e : at + 3 + 1 ≡ at + 4 = omega arith in e))
 
 -- no character begins at an offset if its bytes there begin none
 pub unspelled_two : (bs : List ℕ) (at : ℕ) → at + 1 < length bs → BeginNoChar (get_or bs at 0 ∷ get_or bs (at + 1) 0 ∷ []) → StartsWithNoChar (drop at bs)
-unspelled_two bs at lt none = subst StartsWithNoChar (sym (left_two bs at lt)) (none (drop (at + 2) bs))
+unspelled_two bs at lt none = subst StartsWithNoChar (sym (split_two bs at lt)) (none (drop (at + 2) bs))
 
 pub unspelled_three : (bs : List ℕ) (at : ℕ) → at + 2 < length bs → BeginNoChar (get_or bs at 0 ∷ get_or bs (at + 1) 0 ∷ get_or bs (at + 2) 0 ∷ []) → StartsWithNoChar (drop at bs)
-unspelled_three bs at lt none = subst StartsWithNoChar (sym (left_three bs at lt)) (none (drop (at + 3) bs))
+unspelled_three bs at lt none = subst StartsWithNoChar (sym (split_three bs at lt)) (none (drop (at + 3) bs))
 
 pub unspelled_four : (bs : List ℕ) (at : ℕ) → at + 3 < length bs
     → BeginNoChar (get_or bs at 0 ∷ get_or bs (at + 1) 0 ∷ get_or bs (at + 2) 0 ∷ get_or bs (at + 3) 0 ∷ []) → StartsWithNoChar (drop at bs)
-unspelled_four bs at lt none = subst StartsWithNoChar (sym (left_four bs at lt)) (none (drop (at + 4) bs))
+unspelled_four bs at lt none = subst StartsWithNoChar (sym (split_four bs at lt)) (none (drop (at + 4) bs))

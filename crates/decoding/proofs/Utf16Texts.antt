@@ -34,8 +34,8 @@ is_value None P v h some = cc
 is_value (Some x) P v h some = ap Some (sym h.1)
 
 -- the first of the remaining elements
-pub front_left : {X : Type 0} (xs ys : List X) (n : ℕ) (x d : X) → drop n xs ≡ x ∷ ys → (n < length xs) × (get_or xs n d ≡ x) × (drop (n + 1) xs ≡ ys)
-front_left xs ys n x d is = (
+pub front_of_rest : {X : Type 0} (xs ys : List X) (n : ℕ) (x d : X) → drop n xs ≡ x ∷ ys → (n < length xs) × (get_or xs n d ≡ x) × (drop (n + 1) xs ≡ ys)
+front_of_rest xs ys n x d is = (
   omega (arith, length-drop n xs, ap length is),
   ap (λ k. get_or xs k d) {x = n} {y = n + 0} (omega arith) ∙ sym (get_or-drop n xs 0 d) ∙ ap (λ zs. get_or zs 0 d) is,
   sym (drop-drop 1 n xs) ∙ ap (drop 1) is,
@@ -49,16 +49,16 @@ pub record IsAt (units : List ℕ) (count at : ℕ) : Type 0 where
   pub inside : at ≤ length units
 
 -- the next character and the offset after it
-pub record IsNext (units : List ℕ) (count at : ℕ) (found : Option ℕ) (behind : ℕ) : Type 0 where
+pub record IsNext (units : List ℕ) (count at : ℕ) (found : Option ℕ) (following : ℕ) : Type 0 where
   pub within : count < length (utf16_text units)
   pub read : in_utf16 (unwrap_or found 0xFFFD) ≡ get_or (utf16_text units) count (in_utf16 (unwrap_or found 0xFFFD))
   pub spelled : slice_index_or (utf16_chars units) count None ≡ found
-  pub later : IsAt units (count + 1) behind
+  pub later : IsAt units (count + 1) following
 
-pub at_next : (units : List ℕ) (count at : ℕ) (found : Option ℕ) (behind : ℕ) → utf16_chars (drop at units) ≡ found ∷ utf16_chars (drop behind units)
-    → behind ≡ at + length (encode_utf16 (unwrap_or found 0xFFFD)) → at < behind → behind ≤ length units → IsAt units count at → IsNext units count at found behind
-at_next units count at found behind first after forward inside now =
-    let front = front_left (utf16_chars units) (utf16_chars (drop behind units)) count found None (now.rest ∙ first) in
+pub at_next : (units : List ℕ) (count at : ℕ) (found : Option ℕ) (following : ℕ) → utf16_chars (drop at units) ≡ found ∷ utf16_chars (drop following units)
+    → following ≡ at + length (encode_utf16 (unwrap_or found 0xFFFD)) → at < following → following ≤ length units → IsAt units count at → IsNext units count at found following
+at_next units count at found following first after forward inside now =
+    let front = front_of_rest (utf16_chars units) (utf16_chars (drop following units)) count found None (now.rest ∙ first) in
     let value : Option ℕ → Spelled = λ o. in_utf16 (unwrap_or o 0xFFFD) in
     let codes : List ℕ = map (λ (o : Option ℕ). unwrap_or o 0xFFFD) (utf16_chars units) in
     let known : count < length codes = omega (arith, front.0, length-map (utf16_chars units) (λ (o : Option ℕ). unwrap_or o 0xFFFD)) in
@@ -88,8 +88,8 @@ length-utf16_text units =
 pub at_end : (units : List ℕ) (count at : ℕ) → length units ≤ at → IsAt units count at → length (utf16_chars units) ≤ count
 at_end units count at past now =
     let none = now.rest ∙ utf16_chars-drop_all units at past in
-    let left = length-drop count (utf16_chars units) in
-    omega (arith, left, ap length none)
+    let remaining = length-drop count (utf16_chars units) in
+    omega (arith, remaining, ap length none)
 
 pub whole_text : (units : List ℕ) (count at : ℕ) → length units ≤ at → IsAt units count at → take count (utf16_text units) ≡ utf16_text units
 whole_text units count at past now = take_all count (utf16_text units) (omega (arith, length-utf16_text units, at_end units count at past now))

@@ -9,14 +9,14 @@ use Rattle.ucdfiles.specs.Tables.{TablesOf, unit_by, units_by}
 use Rattle.decoding.specs.Decoded.{AreDecoded, IsWritten}
 use Rattle.decoding.specs.Offsets.{Spelled, code_units, codes_of, offset_of}
 use Rattle.decoding.specs.declared.reached.Reached.{Reached}
-use Rattle.decoding.proofs.OffsetLemmas.{offset-behind, offset-end, offset-front}
+use Rattle.decoding.proofs.OffsetLemmas.{offset-following, offset-end, offset-front}
 
 -- the offsets of one character more
 pub starts_more : (text : List Spelled) (s : Spelled) (starts : List ℕ) (n at : ℕ) → n ≡ length text → at ≡ code_units text → n < length starts
     → ((k : ℕ) → k < length text → slice_index starts k ≡ offset_of text k)
     → (k : ℕ) → k < length (text ++ s ∷ []) → slice_index (set starts n at) k ≡ offset_of (text ++ s ∷ []) k
 starts_more text s starts n at count is room below k lt = elim (cases_eq k n) [
-  | inl e ↦ ap (slice_index (set starts n at)) e ∙ get_or-set_same starts n at 0 room ∙ is ∙ sym (offset-behind text (s ∷ [])) ∙ ap (offset_of (text ++ s ∷ [])) (sym (e ∙ count))
+  | inl e ↦ ap (slice_index (set starts n at)) e ∙ get_or-set_same starts n at 0 room ∙ is ∙ sym (offset-following text (s ∷ [])) ∙ ap (offset_of (text ++ s ∷ [])) (sym (e ∙ count))
   | inr ne ↦
       let fewer : k < length text = omega (arith, length_push text s, count, lt, ne) in
       get_or-set_other starts n k at 0 ne ∙ below k fewer ∙ sym (offset-front text (s ∷ []) k (omega (arith, fewer)))

@@ -20,6 +20,6 @@ BeginNoChar bytes = (rest : List ℕ) → StartsWithNoChar (bytes ++ rest)
 -- a character begins at the offset: `found` is the character and the offset after it
 pub record IsSpelled (bytes : List ℕ) (at : ℕ) (found : ℕ × ℕ) : Type 0 where
   pub scalar : IsScalar found.0
-  pub behind : found.1 ≡ at + length (encode_utf8 found.0)
+  pub following : found.1 ≡ at + length (encode_utf8 found.0)
   pub inside : found.1 ≤ length bytes
   pub spelled : take found.1 bytes ≡ take at bytes ++ encode_utf8 found.0

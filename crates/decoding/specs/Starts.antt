@@ -25,7 +25,7 @@ pub record AreOffsets (count : ℕ) (starts : List ℕ) : Type 0 where
   pub rising : (j k : ℕ) → j < k → k ≤ count → slice_index starts j < slice_index starts k
 
 -- the breaks are the offsets with these indices
-pub record AreFound (starts breaks indices : List ℕ) : Type 0 where
+pub record AreIndicesOf (starts breaks indices : List ℕ) : Type 0 where
   pub found : map (slice_index starts) indices ≡ breaks
   pub inside : All (λ k. k < length starts) indices
 

@@ -4,7 +4,7 @@
 #[derive(Clone, Copy)]
 pub enum Faults {
     /// The text is rejected.
-    Refused,
+    Rejected,
     /// They are read as U+FFFD.
     Replaced,
 }

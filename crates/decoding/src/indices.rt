@@ -81,9 +81,9 @@ pub fn index_of(starts: &[u32], at: usize) -> Option<usize>
     let Ok(at) = u32::try_from(at) else {
         return None;
     };
-    let behind = count_up_to(starts, at);
-    if behind == starts.len() {
+    let following = count_up_to(starts, at);
+    if following == starts.len() {
         return None;
     }
-    Some(behind - 1)
+    Some(following - 1)
 }

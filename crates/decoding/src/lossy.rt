@@ -47,7 +47,7 @@ fn fill_chunk(
     units: &mut [Unit],
     starts: &mut [u32],
 ) -> Reached
-    requires left { before.code_units < length bytes.now }
+    requires remaining { before.code_units < length bytes.now }
     requires few { before.characters ≤ before.code_units }
     requires units { length bytes.now ≤ length units.old }
     requires starts { length bytes.now < length starts.old }

@@ -63,21 +63,21 @@ pub fn char_at(bytes: &[u8], at: usize) -> Option<(char, usize)>
     ensures { MatchOption result (StartsWithNoChar (drop at bytes.now)) (IsSpelled bytes.now at) }
 {
     let x = bytes[at];
-    let left = bytes.len() - at;
+    let remaining = bytes.len() - at;
     if x < 0x80 {
         Some((char::from(x), at + 1))
     } else if x < 0xE0 {
-        if left < 2 {
+        if remaining < 2 {
             return None;
         }
         Some((of_two(x, bytes[at + 1])?, at + 2))
     } else if x < 0xF0 {
-        if left < 3 {
+        if remaining < 3 {
             return None;
         }
         Some((of_three(x, bytes[at + 1], bytes[at + 2])?, at + 3))
     } else {
-        if left < 4 {
+        if remaining < 4 {
             return None;
         }
         let c = of_four(x, bytes[at + 1], bytes[at + 2], bytes[at + 3])?;

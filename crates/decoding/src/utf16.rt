@@ -6,7 +6,7 @@ ghost use Rattle.std.specs.Char.Utf16.{utf16_chars};
 ghost use Rattle.decoding.specs.Decoded.{AreDecoded};
 ghost use Rattle.decoding.specs.Encodings.{utf16_text, IsFirstLone, IsUtf16};
 ghost use Rattle.decoding.specs.Offsets.{code_units};
-ghost use Rattle.decoding.specs.declared.fault.Faults.TheVariants.{Refused};
+ghost use Rattle.decoding.specs.declared.fault.Faults.TheVariants.{Rejected};
 
 use crate::fault::Faults;
 use ucdfiles::tables::Tables;
@@ -16,7 +16,7 @@ use units::bracket::Unit;
 pub fn char_at(text: &[u16], at: usize) -> (Option<char>, usize)
     requires { at < length text.now }
     ensures first { utf16_chars (drop at text.now) ≡ result.0 ∷ utf16_chars (drop result.1 text.now) }
-    ensures behind { result.1 ≡ at + length (encode_utf16 (unwrap_or result.0 0xFFFD)) }
+    ensures following { result.1 ≡ at + length (encode_utf16 (unwrap_or result.0 0xFFFD)) }
     ensures inside { result.1 ≤ length text.now }
     ensures forward { at < result.1 }
 {
@@ -37,8 +37,8 @@ pub fn char_at(text: &[u16], at: usize) -> (Option<char>, usize)
 
 /// Returns what a character or an unpaired surrogate, given as none, is read as, or none if it is rejected.
 fn read(found: Option<char>, faults: Faults) -> Option<char>
-    ensures { MatchOption result ((found ≡ None) × (faults ≡ Refused))
-        (λ c. (c ≡ unwrap_or found 0xFFFD) × (faults ≡ Refused → found ≡ Some c)) }
+    ensures { MatchOption result ((found ≡ None) × (faults ≡ Rejected))
+        (λ c. (c ≡ unwrap_or found 0xFFFD) × (faults ≡ Rejected → found ≡ Some c)) }
 {
     match (found, faults) {
         (None, Faults::Replaced) => Some(char::REPLACEMENT_CHARACTER),
@@ -60,24 +60,24 @@ pub fn decode_utf16(
     requires small { length text.now < 2 ^ 32 }
     ensures units_len { length units.new ≡ length units.old }
     ensures starts_len { length starts.new ≡ length starts.old }
-    ensures fault { IfErr result (λ at. (faults ≡ Refused) × IsFirstLone text.now at) }
-    ensures well_formed { OnOk result (faults ≡ Refused → IsUtf16 text.now) }
+    ensures fault { IfErr result (λ at. (faults ≡ Rejected) × IsFirstLone text.now at) }
+    ensures well_formed { OnOk result (faults ≡ Rejected → IsUtf16 text.now) }
     ensures decoded { IfOk result (λ count.
         AreDecoded tables.now (utf16_text text.now) count units.new starts.new) }
     ensures whole { OnOk result (code_units (utf16_text text.now) ≡ length text.now) }
 {
-    let lent = tables.units();
+    let borrowed = tables.units();
     let mut count = 0;
     let mut at = 0;
     while at < text.len() {
-        let (found, behind) = char_at(text, at);
+        let (found, following) = char_at(text, at);
         let Some(c) = read(found, faults) else {
             return Err(at);
         };
-        lent.write_unit(c, &mut units[count]);
+        borrowed.write_unit(c, &mut units[count]);
         starts[count] = at as u32;
         count += 1;
-        at = behind;
+        at = following;
     }
     starts[count] = at as u32;
     Ok(count)

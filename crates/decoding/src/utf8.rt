@@ -32,11 +32,11 @@ pub(crate) fn fill_str(
     ensures written { (front : List Spelled) → IsWritten tables.now front before units.old starts.old
         → IsWritten tables.now (front ++ utf8_text text.now) result units.new starts.new }
 {
-    let lent = tables.units();
+    let borrowed = tables.units();
     let mut characters = before.characters;
     let mut code_units = before.code_units;
     for c in text.chars() {
-        lent.write_unit(c, &mut units[characters]);
+        borrowed.write_unit(c, &mut units[characters]);
         starts[characters] = code_units as u32;
         characters += 1;
         code_units += c.len_utf8();
@@ -84,10 +84,10 @@ fn test_chars(bytes: &[u8], from: usize, end: usize) -> Result<usize, usize>
 {
     let mut at = from;
     while at < end {
-        let Some((_, behind)) = char_at(bytes, at) else {
+        let Some((_, following)) = char_at(bytes, at) else {
             return Err(at);
         };
-        at = behind;
+        at = following;
     }
     Ok(at)
 }
@@ -124,15 +124,15 @@ fn decode_well_formed(
     ensures starts_len { length starts.new ≡ length starts.old }
     ensures decoded { AreDecoded tables.now (utf8_text bytes.now) result units.new starts.new }
 {
-    let lent = tables.units();
+    let borrowed = tables.units();
     let mut count = 0;
     let mut at = 0;
     while at < bytes.len() {
-        let (c, behind) = known_char_at(bytes, at);
-        lent.write_unit(c, &mut units[count]);
+        let (c, following) = known_char_at(bytes, at);
+        borrowed.write_unit(c, &mut units[count]);
         starts[count] = at as u32;
         count += 1;
-        at = behind;
+        at = following;
     }
     starts[count] = at as u32;
     count

@@ -10,7 +10,7 @@ fn paragraph_count(text: &[Unit]) -> usize {
 }
 
 #[test]
-fn cuts_behind_separators(rt: HostRuntime) -> Result<(), Fail> {
+fn cuts_after_separators(rt: HostRuntime) -> Result<(), Fail> {
     let text = units_of(&rt, rt.alloc(), "L B B R")?;
     assert_eq!(rt; paragraph_count(&text), 3);
     Ok(())

@@ -23,7 +23,7 @@ use units::steps::Steps;
 
 /// The engine's results for a paragraph before the rules of its sequences.
 #[derive(Drop)]
-pub struct Found {
+pub struct Results {
     /// The isolates (BD9).
     pub map: IsolateMap,
     /// The paragraph's level (P2, P3).
@@ -35,12 +35,12 @@ pub struct Found {
 }
 
 /// Makes the buffers for a paragraph of `n` positions, without results.
-fn rooms(alloc: Global, n: usize) -> Result<Found, Memory>
+fn rooms(alloc: Global, n: usize) -> Result<Results, Memory>
     ensures map { IfOk result (λ found. room found.map ≡ n) }
     ensures explicit { IfOk result (λ found. length found.explicit ≡ n) }
     ensures sequences { IfOk result (λ found. found.sequences.room ≡ n) }
 {
-    Ok(Found {
+    Ok(Results {
         map: IsolateMap::with_room(alloc, n)?,
         level: ParaLevel::Zero,
         explicit: Explicit::with_room(alloc, n)?,
@@ -50,7 +50,7 @@ fn rooms(alloc: Global, n: usize) -> Result<Found, Memory>
 
 /// Finds all these results and counts steps from the blank. The buffers must have the capacity for the paragraph.
 fn find<L: Ledger>(
-    found: &mut Found,
+    found: &mut Results,
     para: &[Unit],
     direction: Direction,
     limits: Limits,
@@ -84,13 +84,13 @@ fn find<L: Ledger>(
 }
 
 /// Returns the results for these units, which must be a paragraph.
-pub fn found_in(
+pub fn located_in(
     rt: &impl Abort,
     alloc: Global,
     para: &[Unit],
     direction: Direction,
     limits: Limits,
-) -> Result<Found, Memory>
+) -> Result<Results, Memory>
     ensures map { IfOk result (λ found. room found.map ≡ length para.now) }
     ensures explicit { IfOk result (λ found. length found.explicit ≡ length para.now) }
     ensures sequences { IfOk result (λ found. found.sequences.extent ≡ length para.now) }
@@ -111,7 +111,7 @@ pub fn sequences_in(
 ) -> Result<Sequences, Memory>
     ensures { IfOk result (λ sequences. sequences.extent ≡ length para.now) }
 {
-    let found = found_in(rt, alloc, para, direction, limits)?;
+    let found = located_in(rt, alloc, para, direction, limits)?;
     Ok(found.sequences)
 }
 

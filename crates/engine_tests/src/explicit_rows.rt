@@ -1,7 +1,7 @@
 //! Worked rows of explicit levels (X1 to X9), from the classes of a paragraph.
 ghost use Rattle.std.specs.Prelude.{◌≤◌, ◌<◌, length};
 
-use crate::engine::{Found, found_in};
+use crate::engine::{Results, located_in};
 use crate::given::{plain, push_units};
 use explicit::levels::Explicit;
 use std::alloc::{AllocError, Global};
@@ -235,7 +235,7 @@ fn assert_all_leveled(
 }
 
 /// Checks the results for a row's paragraph of `n` units: the pairs are removed, and the row states the others.
-fn assert_found(rt: &impl Abort, found: &Found, n: usize, row: &Row)
+fn assert_explicit(rt: &impl Abort, found: &Results, n: usize, row: &Row)
     requires { n ≤ length found.now.explicit }
 {
     assert_eq!(rt; found.level, ParaLevel::Zero);
@@ -250,8 +250,8 @@ fn assert_paragraph(
     limits: Limits,
     row: &Row,
 ) -> Result<(), Memory> {
-    let found = found_in(rt, alloc, para, row.direction, limits)?;
-    assert_found(rt, &found, para.len(), row);
+    let found = located_in(rt, alloc, para, row.direction, limits)?;
+    assert_explicit(rt, &found, para.len(), row);
     Ok(())
 }
 

@@ -120,9 +120,9 @@ fn resolve_in_paragraph(
 }
 
 /// The direction of a sequence, its classes before N1 and after N2, and its levels as digits.
-type WalkRow = (Direction, &'static str, &'static str, &'static [u8]);
+type PassRow = (Direction, &'static str, &'static str, &'static [u8]);
 
-const WALK_ROWS: [WalkRow; 6] = [
+const PASS_ROWS: [PassRow; 6] = [
     // runs of neutrals
     (
         Direction::Ltr,
@@ -154,7 +154,7 @@ const WALK_ROWS: [WalkRow; 6] = [
 ];
 
 /// Checks the classes and the levels of a row's sequence.
-fn assert_walk(rt: &impl Abort, alloc: Global, row: WalkRow) -> Result<(), Memory> {
+fn assert_pass(rt: &impl Abort, alloc: Global, row: PassRow) -> Result<(), Memory> {
     let (direction, before, after, shown) = row;
     let mut column = classes(rt, alloc, before)?;
     let mut levels = vec![in alloc; None; column.len()]?;
@@ -164,15 +164,15 @@ fn assert_walk(rt: &impl Abort, alloc: Global, row: WalkRow) -> Result<(), Memor
     Ok(())
 }
 
-fn assert_walk_rows(rt: &impl Abort, alloc: Global, rows: &[WalkRow]) -> Result<(), Memory> {
+fn assert_pass_rows(rt: &impl Abort, alloc: Global, rows: &[PassRow]) -> Result<(), Memory> {
     for row in rows {
-        assert_walk(rt, alloc, *row)?;
+        assert_pass(rt, alloc, *row)?;
     }
     Ok(())
 }
 
 #[test]
 fn neutrals_and_implicit_levels(rt: HostRuntime) -> Result<(), Fail> {
-    assert_walk_rows(&rt, rt.alloc(), &WALK_ROWS)?;
+    assert_pass_rows(&rt, rt.alloc(), &PASS_ROWS)?;
     Ok(())
 }

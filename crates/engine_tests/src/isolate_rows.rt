@@ -2,7 +2,7 @@
 ghost use Rattle.std.specs.Prelude.{◌≤◌, ◌<◌};
 ghost use Rattle.explicit.specs.IsolateMaps.{room};
 
-use crate::engine::found_in;
+use crate::engine::located_in;
 use crate::given::units_of;
 use explicit::isolates::IsolateMap;
 use std::alloc::Global;
@@ -36,7 +36,7 @@ fn assert_isolates(
     para: &[Unit],
     partners: &[Option<usize>],
 ) -> Result<(), Memory> {
-    let found = found_in(rt, alloc, para, Direction::Ltr, Limits::standard())?;
+    let found = located_in(rt, alloc, para, Direction::Ltr, Limits::standard())?;
     assert_partners(rt, &found.map, para.len(), partners);
     Ok(())
 }

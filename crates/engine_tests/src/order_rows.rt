@@ -7,7 +7,7 @@ ghost use Rattle.resolve.specs.Resolved.{HasLevels, KeepsOtherLevels};
 use crate::engine::{only_sequence, sequences_in};
 use crate::given::{assert_shown, units_of};
 use resolve::implicit::implicit;
-use resolve::laws::rules_in_order;
+use resolve::theorems::rules_in_order;
 use resolve::neutral::neutral;
 use resolve::paired::paired;
 use resolve::pairs::{Pairs, bracket_pairs};

@@ -119,7 +119,7 @@ fn removed_in_flat_paragraphs(rt: HostRuntime) -> Result<(), Fail> {
     Ok(())
 }
 
-const PAIRS_BY_WHAT_STANDS_INSIDE: [Row; 5] = [
+const PAIRS_BY_CONTENTS: [Row; 5] = [
     // only the opposite direction
     ("R ( L ) R", Direction::Rtl, b"11211"),
     ("L ( R )", Direction::Ltr, b"0010"),
@@ -131,12 +131,12 @@ const PAIRS_BY_WHAT_STANDS_INSIDE: [Row; 5] = [
 ];
 
 #[test]
-fn pairs_by_what_stands_inside(rt: HostRuntime) -> Result<(), Fail> {
-    assert_rows(&rt, rt.alloc(), &PAIRS_BY_WHAT_STANDS_INSIDE)?;
+fn pairs_by_contents(rt: HostRuntime) -> Result<(), Fail> {
+    assert_rows(&rt, rt.alloc(), &PAIRS_BY_CONTENTS)?;
     Ok(())
 }
 
-const MARKS_BEHIND_BRACKETS: [Row; 3] = [
+const MARKS_AFTER_BRACKETS: [Row; 3] = [
     ("R ( R ) NSM L", Direction::Ltr, b"111110"),
     ("R ( R ) NSM NSM L", Direction::Ltr, b"1111110"),
     // LRO makes the mark L
@@ -148,8 +148,8 @@ const MARKS_BEHIND_BRACKETS: [Row; 3] = [
 ];
 
 #[test]
-fn marks_behind_brackets(rt: HostRuntime) -> Result<(), Fail> {
-    assert_rows(&rt, rt.alloc(), &MARKS_BEHIND_BRACKETS)?;
+fn marks_after_brackets(rt: HostRuntime) -> Result<(), Fail> {
+    assert_rows(&rt, rt.alloc(), &MARKS_AFTER_BRACKETS)?;
     Ok(())
 }
 
@@ -234,6 +234,6 @@ fn assert_limited_rows(rt: &impl Abort, alloc: Global, rows: &[LimitedRow]) -> R
 }
 
 #[test]
-fn limits_that_are_handed_in(rt: HostRuntime) -> Result<(), Fail> {
+fn given_limits(rt: HostRuntime) -> Result<(), Fail> {
     assert_limited_rows(&rt, rt.alloc(), &LIMITED_ROWS)
 }

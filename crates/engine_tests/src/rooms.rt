@@ -9,7 +9,7 @@ use std::process::Abort;
 use units::memory::Memory;
 
 /// Returns the errors of making each kind of buffer for `n` positions.
-fn refusals(alloc: Global, n: usize) -> [Option<Memory>; 5] {
+fn rejections(alloc: Global, n: usize) -> [Option<Memory>; 5] {
     [
         IsolateMap::with_room(alloc, n).err(),
         Explicit::with_room(alloc, n).err(),
@@ -20,8 +20,8 @@ fn refusals(alloc: Global, n: usize) -> [Option<Memory>; 5] {
 }
 
 /// Checks that making each kind of buffer for `n` positions fails with this error, or succeeds without one.
-fn assert_refusals(rt: &impl Abort, alloc: Global, n: usize, refusal: Option<Memory>) {
-    assert_eq!(rt; refusals(alloc, n), [refusal; 5], "for {n}");
+fn assert_refusals(rt: &impl Abort, alloc: Global, n: usize, rejection: Option<Memory>) {
+    assert_eq!(rt; rejections(alloc, n), [rejection; 5], "for {n}");
 }
 
 #[test]
@@ -39,6 +39,6 @@ fn too_much_room(rt: HostRuntime) {
 // To be run with each growth refused in turn: a refused growth makes at most one call fail.
 #[test]
 fn says_that_memory_was_refused(rt: HostRuntime) {
-    let refused = refusals(rt.alloc(), 64).iter().flatten().count();
-    assert!(rt; refused <= 1, "{refused}");
+    let rejected = rejections(rt.alloc(), 64).iter().flatten().count();
+    assert!(rt; rejected <= 1, "{rejected}");
 }

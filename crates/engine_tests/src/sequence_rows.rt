@@ -15,7 +15,7 @@ use units::memory::Memory;
 
 /// The properties of a sequence: its positions, its level, sos and eos.
 #[derive(Clone, Copy)]
-struct Told {
+struct Reported {
     positions: &'static [usize],
     level: u8,
     sos: Class,
@@ -30,16 +30,16 @@ fn after_number(s: &Sequence, k: usize) -> Option<usize>
 }
 
 /// Checks that an iterator returns this position next, or ends if there is none.
-fn assert_next(rt: &impl Abort, walk: &mut Positions, position: Option<usize>) {
-    assert_eq!(rt; walk.next(), position);
+fn assert_next(rt: &impl Abort, pass_over: &mut Positions, position: Option<usize>) {
+    assert_eq!(rt; pass_over.next(), position);
 }
 
 /// Checks that an iterator returns these positions, and then ends.
-fn assert_walk(rt: &impl Abort, walk: &mut Positions, positions: &[usize]) {
+fn assert_pass(rt: &impl Abort, pass_over: &mut Positions, positions: &[usize]) {
     for position in positions {
-        assert_next(rt, walk, Some(*position));
+        assert_next(rt, pass_over, Some(*position));
     }
-    assert_next(rt, walk, None);
+    assert_next(rt, pass_over, None);
 }
 
 /// Checks the position after the one with this number in a sequence of these positions.
@@ -53,30 +53,30 @@ fn assert_after(rt: &impl Abort, s: &Sequence, positions: &[usize], k: usize)
 /// Checks that a sequence has these positions, with `as_slice`, `positions` and `after`.
 fn assert_positions(rt: &impl Abort, s: &Sequence, positions: &[usize]) {
     assert_eq!(rt; s.as_slice().len(), positions.len());
-    assert_walk(rt, &mut s.positions(), positions);
+    assert_pass(rt, &mut s.positions(), positions);
     for k in 0..positions.len() {
         assert_after(rt, s, positions, k);
     }
 }
 
 /// Checks the sos and the eos of a sequence.
-fn assert_ends(rt: &impl Abort, s: &Sequence, told: &Told) {
-    assert_eq!(rt; s.sos(), told.sos);
-    assert_eq!(rt; s.eos(), told.eos);
+fn assert_ends(rt: &impl Abort, s: &Sequence, reported: &Reported) {
+    assert_eq!(rt; s.sos(), reported.sos);
+    assert_eq!(rt; s.eos(), reported.eos);
 }
 
 /// Checks that a sequence has these properties.
-fn assert_sequence(rt: &impl Abort, s: &Sequence, told: &Told) {
-    assert_positions(rt, s, told.positions);
-    assert_eq!(rt; s.level().get(), told.level);
-    assert_ends(rt, s, told);
+fn assert_sequence(rt: &impl Abort, s: &Sequence, reported: &Reported) {
+    assert_positions(rt, s, reported.positions);
+    assert_eq!(rt; s.level().get(), reported.level);
+    assert_ends(rt, s, reported);
 }
 
 /// The names of a paragraph's classes, and its sequences from left to right.
 #[derive(Clone, Copy)]
 struct Row {
     names: &'static str,
-    sequences: &'static [Told],
+    sequences: &'static [Reported],
 }
 
 const ROWS: [Row; 3] = [
@@ -84,19 +84,19 @@ const ROWS: [Row; 3] = [
     Row {
         names: "R ON LRE L PDF ON R",
         sequences: &[
-            Told {
+            Reported {
                 positions: &[0, 1],
                 level: 0,
                 sos: Class::L,
                 eos: Class::L,
             },
-            Told {
+            Reported {
                 positions: &[3],
                 level: 2,
                 sos: Class::L,
                 eos: Class::L,
             },
-            Told {
+            Reported {
                 positions: &[5, 6],
                 level: 0,
                 sos: Class::L,
@@ -108,13 +108,13 @@ const ROWS: [Row; 3] = [
     Row {
         names: "R ON LRI L PDI ON R",
         sequences: &[
-            Told {
+            Reported {
                 positions: &[0, 1, 2, 4, 5, 6],
                 level: 0,
                 sos: Class::L,
                 eos: Class::L,
             },
-            Told {
+            Reported {
                 positions: &[3],
                 level: 2,
                 sos: Class::L,
@@ -126,13 +126,13 @@ const ROWS: [Row; 3] = [
     Row {
         names: "L RLI R",
         sequences: &[
-            Told {
+            Reported {
                 positions: &[0, 1],
                 level: 0,
                 sos: Class::L,
                 eos: Class::L,
             },
-            Told {
+            Reported {
                 positions: &[2],
                 level: 1,
                 sos: Class::R,
@@ -143,10 +143,10 @@ const ROWS: [Row; 3] = [
 ];
 
 /// Checks that these sequences have these properties.
-fn assert_sequences(rt: &impl Abort, sequences: &Sequences, told: &[Told]) {
-    assert_eq!(rt; sequences.count(), told.len());
-    for k in 0..told.len() {
-        assert_sequence(rt, &sequences.get(k), &told[k]);
+fn assert_sequences(rt: &impl Abort, sequences: &Sequences, reported: &[Reported]) {
+    assert_eq!(rt; sequences.count(), reported.len());
+    for k in 0..reported.len() {
+        assert_sequence(rt, &sequences.get(k), &reported[k]);
     }
 }
 

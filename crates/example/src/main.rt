@@ -68,7 +68,7 @@ fn print_cursor(rt: &HostRuntime, room: &Room) -> anyhow::Result<()> {
 fn print_bytes(rt: &HostRuntime, tables: &Tables) -> anyhow::Result<()> {
     let mut room = Room::reserve(rt.alloc(), 16, true)?;
     let ask = Ask {
-        source: Source::Utf8(WORDS.as_bytes(), Faults::Refused),
+        source: Source::Utf8(WORDS.as_bytes(), Faults::Rejected),
         direction: Direction::Rtl,
         breaks: &[],
         limits: Limits::standard(),

@@ -6,7 +6,7 @@ use Rattle.std.proofs.lemmas.List.{drop_more}
 use Rattle.std.proofs.lemmas.List.Sums.{sum_by-cons, sum_by_more, sum_by_more_le}
 use Rattle.units.specs.Paragraphs.{IsCut, SeparatorOnlyLast, joined, paragraphs_of}
 use Rattle.units.specs.declared.bracket.Unit.{Unit as BidiUnit}
-use Rattle.explicit.proofs.LevelsFound.OneCutting.{IsCut-paragraphs_of, joined-paragraphs_of}
+use Rattle.explicit.proofs.LevelsComputed.OneCutting.{IsCut-paragraphs_of, joined-paragraphs_of}
 use Rattle.printing.specs.LevelsText.{printed}
 use Rattle.printing.specs.Fronts.{AppendsFront, FaultLeavesFront}
 use Rattle.printing.specs.declared.fault.PrintFault.{PrintFault}
@@ -29,7 +29,7 @@ total-lengths text = sum-lengths (paragraphs_of text) ∙ ap length (joined-para
 -- start
 pub record HasExplained (old new : Option (List ℕ)) (text : ℕ → List ℕ) (units : List BidiUnit) (rest : List (List BidiUnit)) (k start : ℕ) : Type 0 where
   pub grown : HasPrinted old new text 0 k
-  pub left : drop k (paragraphs_of units) ≡ rest
+  pub remaining : drop k (paragraphs_of units) ≡ rest
   pub within : k ≤ length (paragraphs_of units)
   pub cut : IsCut rest
   pub begins : start ≡ start_of (paragraphs_of units) k
@@ -40,7 +40,7 @@ pub record IsNextParagraph (units : List BidiUnit) (rest others : List (List Bid
   pub inside : k < length (paragraphs_of units)
   pub only_last : SeparatorOnlyLast para
   pub others_cut : IsCut others
-  pub others_left : drop (k + 1) (paragraphs_of units) ≡ others
+  pub others_remain : drop (k + 1) (paragraphs_of units) ≡ others
   pub begins : start ≡ start_of (paragraphs_of units) k
   pub ends : start + length para ≡ start_of (paragraphs_of units) (k + 1)
   pub fits : start + length para ≤ length units
@@ -52,7 +52,7 @@ module _ (text : ℕ → List ℕ) (units : List BidiUnit) where
   pub nothing_explained : (a : Option (List ℕ)) → HasExplained a a text units (paragraphs_of units) 0 0
   nothing_explained a = record {
     grown = nothing_printed a text 0;
-    left = refl;
+    remaining = refl;
     within = omega arith;
     cut = IsCut-paragraphs_of units;
     begins = refl;
@@ -62,9 +62,9 @@ module _ (text : ℕ → List ℕ) (units : List BidiUnit) where
       → HasExplained a b text units rest k start → IsNextParagraph units rest others para k start
   next_paragraph a b rest others para k start e h =
       let paragraphs = paragraphs_of units in
-      let count : length paragraphs - k ≡ suc (length others) = sym (length-drop k paragraphs) ∙ ap length (h.left ∙ e) in
+      let count : length paragraphs - k ≡ suc (length others) = sym (length-drop k paragraphs) ∙ ap length (h.remaining ∙ e) in
       let inside : k < length paragraphs = omega (arith, count) in
-      let more : slice_index_or paragraphs k [] ∷ drop (k + 1) paragraphs ≡ para ∷ others = sym (drop_more paragraphs k [] inside) ∙ h.left ∙ e in
+      let more : slice_index_or paragraphs k [] ∷ drop (k + 1) paragraphs ≡ para ∷ others = sym (drop_more paragraphs k [] inside) ∙ h.remaining ∙ e in
       let here : slice_index_or paragraphs k [] ≡ para = cc more in
       let size : length (slice_index_or paragraphs k []) ≡ length para = ap length here in
       let parts = cut_front rest others para e h.cut in
@@ -73,7 +73,7 @@ module _ (text : ℕ → List ℕ) (units : List BidiUnit) where
         inside = inside;
         only_last = parts.0;
         others_cut = parts.1;
-        others_left = cc more;
+        others_remain = cc more;
         begins = h.begins;
         ends = omega (arith, size, h.begins, sum_by_more length paragraphs k [] inside);
         fits = omega (arith, size, h.begins, sum_by_more_le length paragraphs k [] inside, total-lengths units);
@@ -85,7 +85,7 @@ module _ (text : ℕ → List ℕ) (units : List BidiUnit) where
       let next = next_paragraph a b rest others para k start e h in
       record {
         grown = one_more_printed a b c text 0 k (omega arith) h.grown f;
-        left = next.others_left;
+        remaining = next.others_remain;
         within = omega (arith, next.inside);
         cut = next.others_cut;
         begins = next.ends;
@@ -105,7 +105,7 @@ module _ (text : ℕ → List ℕ) (units : List BidiUnit) where
   pub all_explained : (a b : Option (List ℕ)) (rest : List (List BidiUnit)) (k start : ℕ) → rest ≡ []
       → HasExplained a b text units rest k start → Appends a b (printed text 0 (length (paragraphs_of units)))
   all_explained a b rest k start e h =
-      let count : length (paragraphs_of units) - k ≡ 0 = sym (length-drop k (paragraphs_of units)) ∙ ap length (h.left ∙ e) in
+      let count : length (paragraphs_of units) - k ≡ 0 = sym (length-drop k (paragraphs_of units)) ∙ ap length (h.remaining ∙ e) in
       all_printed a b text 0 k (length (paragraphs_of units)) (omega (arith, count, h.within)) h.grown
 
 pub same_paragraph : (chars : List ℕ) (direction : Direction) (paragraphs : List (List BidiUnit)) (para : List BidiUnit) (number k start : ℕ)

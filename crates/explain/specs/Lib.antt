@@ -4,7 +4,7 @@ pub mod ExplainedRows
 pub mod Feet
 pub mod Headings
 pub mod PositionText
-pub mod SoughtRows
+pub mod WantedRows
 pub mod Searching
 pub mod RowTexts
 pub mod WorkedRows

@@ -14,7 +14,7 @@ use Rattle.explain.specs.Headings.{columns_text}
 use Rattle.rule_columns.specs.Columns.{columns_of}
 use Rattle.rule_columns.specs.Passes.{rewritten, implicit_of, closers_of}
 use Rattle.explain.specs.RowTexts.{row_text}
-use Rattle.explain.specs.SoughtRows.{RowView, characters_of, sought_row}
+use Rattle.explain.specs.WantedRows.{RowView, characters_of, wanted_row}
 use Rattle.explain.specs.declared.row_fault.RowFault.TheVariants.{Malformed, NoRow}
 
 -- a file of two rows
@@ -24,33 +24,33 @@ two_rows = written (codes "@Levels: x 1" ∷ codes "@Reorder: 1" ∷ codes "RLE 
 -- the expected results of its third line
 abbrev neutral_row : RowView
 neutral_row = record {
-  claim = record { text = plain RLE ∷ plain ON ∷ []; directions = Ltr ∷ AutoRtl ∷ []; para_level = None; levels = None ∷ Some 1 ∷ []; order = 1 ∷ [] };
+  expected = record { text = plain RLE ∷ plain ON ∷ []; directions = Ltr ∷ AutoRtl ∷ []; para_level = None; levels = None ∷ Some 1 ∷ []; order = 1 ∷ [] };
   chars = [];
 }
 
 -- the row of a line, with the lists in force there
-pub third_line : sought_row Classes 3 two_rows ≡ Ok neutral_row
+pub third_line : wanted_row Classes 3 two_rows ≡ Ok neutral_row
 unfolding classes_files_compute
 third_line = refl
 
 -- a line that lists levels is not a row, and a line past the last is none
-pub first_line : sought_row Classes 1 two_rows ≡ Err NoRow
+pub first_line : wanted_row Classes 1 two_rows ≡ Err NoRow
 unfolding classes_files_compute
 first_line = refl
 
-pub fifth_line : sought_row Classes 5 two_rows ≡ Err NoRow
+pub fifth_line : wanted_row Classes 5 two_rows ≡ Err NoRow
 unfolding classes_files_compute
 fifth_line = refl
 
 -- a malformed line before the row
-pub malformed_before : sought_row Classes 4 (written (codes "@Levels: 1" ∷ codes "@Reorder: 0" ∷ codes "@Levels: 127" ∷ codes "R; 1" ∷ [])) ≡ Err (Malformed 3 LevelItem)
+pub malformed_before : wanted_row Classes 4 (written (codes "@Levels: 1" ∷ codes "@Reorder: 0" ∷ codes "@Levels: 127" ∷ codes "R; 1" ∷ [])) ≡ Err (Malformed 3 LevelItem)
 unfolding classes_files_compute
 malformed_before = refl
 
 -- and one after it
-pub malformed_behind : sought_row Classes 3 (two_rows ++ codes "@Levels: 127") ≡ Ok neutral_row
+pub malformed_after : wanted_row Classes 3 (two_rows ++ codes "@Levels: 127") ≡ Ok neutral_row
 unfolding classes_files_compute
-malformed_behind = refl
+malformed_after = refl
 
 -- the characters of a row of code points
 pub two_characters : (tables : Bor TablesOf) → characters_of (Characters tables) (codes "05D0 0031;0;0;1 2;1 0 # R EN") ≡ 1488 ∷ 49 ∷ []
@@ -82,7 +82,7 @@ unfolding layouts_compute columns_of rewritten implicit_of closers_of digits
 neutral_printed = refl
 
 -- a row that expects a paragraph level; the expected order is not the defined one
-pub paragraph_printed : row_text 7 (record { claim = record { text = plain R ∷ []; directions = Auto ∷ []; para_level = Some 0; levels = Some 1 ∷ []; order = [] }; chars = 1488 ∷ [] })
+pub paragraph_printed : row_text 7 (record { expected = record { text = plain R ∷ []; directions = Auto ∷ []; para_level = Some 0; levels = Some 1 ∷ []; order = [] }; chars = 1488 ∷ [] })
     ≡ codes "line 7: auto\n"
     ++ codes "paragraph 0 level 1: R at 0\n" ++ columns_text
     ++ codes "0 05D0 R 1 . . . . . . . . . . . . .\n"

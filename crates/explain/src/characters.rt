@@ -1,7 +1,7 @@
 // The characters of a row's text.
 ghost use Rattle.std.specs.Prelude.{◌≡◌, ◌*◌, ◌≤◌, length, vec_capacity};
 ghost use Rattle.units.specs.Text.{longest_line};
-ghost use Rattle.explain.specs.SoughtRows.{characters_of};
+ghost use Rattle.explain.specs.WantedRows.{characters_of};
 
 use bidtests::item::{ReadsItem, character, read_items};
 use bidtests::kind::Kind;

@@ -2,9 +2,9 @@
 ghost use Rattle.std.specs.Prelude.{◌≡◌, ◌≤◌, ◌<◌, ℕ, List, [], OnOk, length};
 ghost use Rattle.bidtests.specs.declared.line_reader.TheConstants.{MOST_UNITS};
 ghost use Rattle.explain.specs.Searching.{SearchesOn, row_or_fault};
-ghost use Rattle.explain.specs.SoughtRows.{Finds};
+ghost use Rattle.explain.specs.WantedRows.{Finds};
 
-use crate::found_row::FoundRow;
+use crate::chosen_row::ChosenRow;
 use crate::row_fault::SearchFault;
 use crate::search::RowSearch;
 use bidtests::kind::Kind;
@@ -50,7 +50,7 @@ pub fn find_row<S: ByteSource>(
     kind: Kind<'_>,
     line: NonZeroU64,
     source: &mut S,
-) -> Result<FoundRow, SearchFault>
+) -> Result<ChosenRow, SearchFault>
     ensures { (given : List ℕ) × S.gives source.old given source.new
         × Finds (S.failures source.new ≡ 1) (S.ended source.new) kind.entry line.value given result }
 {

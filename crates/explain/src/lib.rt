@@ -10,7 +10,7 @@ mod characters;
 mod code;
 pub mod find;
 mod foot;
-pub mod found_row;
+pub mod chosen_row;
 mod heading;
 mod paragraph_text;
 mod position;

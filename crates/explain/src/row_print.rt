@@ -10,17 +10,17 @@ ghost use Rattle.units.specs.Limits.{standard};
 ghost use Rattle.lines.specs.Layouts.{view_of};
 ghost use Rattle.lines.specs.Scratches.{room_of};
 ghost use Rattle.bidtests.specs.Headline.{layout_under};
-ghost use Rattle.bidtests.specs.Readings.{claim_of};
+ghost use Rattle.bidtests.specs.Readings.{expected_of};
 ghost use Rattle.bidtests.specs.Verdicts.{first_of};
 ghost use Rattle.printing.specs.Fronts.{FaultLeavesFront};
 ghost use Rattle.printing.specs.LevelsText.{level_text};
-ghost use Rattle.rows.specs.RowTexts.{behind_blanks};
-ghost use Rattle.explain.specs.RowTexts.{case_heading, case_text, claim_text, levels_lines, para_lines, para_text};
-ghost use Rattle.explain.specs.RowTexts.{row_text, said_line};
+ghost use Rattle.rows.specs.RowTexts.{after_blanks};
+ghost use Rattle.explain.specs.RowTexts.{case_heading, case_text, expected_text, levels_lines, para_lines, para_text};
+ghost use Rattle.explain.specs.RowTexts.{row_text, labelled_line};
 
-use crate::found_row::FoundRow;
+use crate::chosen_row::ChosenRow;
 use crate::print::print_units;
-use bidtests::claim::Claim;
+use bidtests::expected::Expected;
 use bidtests::verdict_line::word_of_direction;
 use lines::breaks::Breaks;
 use lines::lay_out::lay_out_into;
@@ -36,7 +36,7 @@ use units::level::{Direction, Level, ParaLevel};
 /// Writes a line with this name and the level of a paragraph.
 fn print_level_line<W: Write>(w: &mut W, name: &str, level: Option<ParaLevel>) -> io::Result<()>
     ensures { OnOk result (Appends (W.contents w.old) (W.contents w.new)
-        (said_line name.now (para_text (option_map level_of_para level)))) }
+        (labelled_line name.now (para_text (option_map level_of_para level)))) }
 {
     match level {
         Some(level) => writeln!(w, "{name}: {}", level.level().get()),
@@ -83,7 +83,7 @@ fn print_para_lines<W: Write>(
 /// Writes a line with this name and the given levels.
 fn print_levels_line<W: Write>(w: &mut W, name: &str, levels: &[Option<Level>]) -> io::Result<()>
     ensures { OnOk result (Appends (W.contents w.old) (W.contents w.new)
-        (said_line name.now (behind_blanks level_text levels.now))) }
+        (labelled_line name.now (after_blanks level_text levels.now))) }
 {
     write!(w, "{name}:")?;
     print_levels(w, levels)?;
@@ -104,9 +104,9 @@ fn print_levels_lines<W: Write>(
 }
 
 /// Writes the expected order.
-fn print_claimed_order<W: Write>(w: &mut W, order: &[usize]) -> io::Result<()>
+fn print_expected_order<W: Write>(w: &mut W, order: &[usize]) -> io::Result<()>
     ensures { OnOk result (Appends (W.contents w.old) (W.contents w.new)
-        (said_line (codes "claimed order") (behind_blanks decimal order.now))) }
+        (labelled_line (codes "claimed order") (after_blanks decimal order.now))) }
 {
     write!(w, "claimed order:")?;
     print_positions(w, order)?;
@@ -116,7 +116,7 @@ fn print_claimed_order<W: Write>(w: &mut W, order: &[usize]) -> io::Result<()>
 /// Writes the defined order.
 fn print_defined_order<W: Write>(w: &mut W, layout: &Layout<'_>) -> io::Result<()>
     ensures { OnOk result (Appends (W.contents w.old) (W.contents w.new)
-        (said_line (codes "defined order") (behind_blanks decimal (all_orders (view_of layout.now))))) }
+        (labelled_line (codes "defined order") (after_blanks decimal (all_orders (view_of layout.now))))) }
 {
     write!(w, "defined order:")?;
     print_orders(w, layout)?;
@@ -124,31 +124,31 @@ fn print_defined_order<W: Write>(w: &mut W, layout: &Layout<'_>) -> io::Result<(
 }
 
 /// Writes the expected results of a row, beside those of a layout.
-fn print_claim<W: Write>(w: &mut W, claim: Claim<'_>, layout: &Layout<'_>) -> io::Result<()>
+fn print_expected<W: Write>(w: &mut W, expected: Expected<'_>, layout: &Layout<'_>) -> io::Result<()>
     ensures { OnOk result (Appends (W.contents w.old) (W.contents w.new)
-        (claim_text (claim_of claim.entry) (view_of layout.now))) }
+        (expected_text (expected_of expected.entry) (view_of layout.now))) }
 {
-    print_para_lines(w, claim.para_level, layout)?;
-    print_levels_lines(w, claim.levels, layout)?;
-    print_claimed_order(w, claim.order)?;
+    print_para_lines(w, expected.para_level, layout)?;
+    print_levels_lines(w, expected.levels, layout)?;
+    print_expected_order(w, expected.order)?;
     print_defined_order(w, layout)
 }
 
 /// Writes the expected results of a row, beside those that the rules give under the direction.
 fn print_beside<W: Write>(
     w: &mut W,
-    claim: Claim<'_>,
+    expected: Expected<'_>,
     direction: Direction,
     scratch: &mut Scratch,
 ) -> io::Result<()>
-    requires { length claim.text.now ≤ room_of scratch.old }
+    requires { length expected.text.now ≤ room_of scratch.old }
     ensures text { OnOk result (Appends (W.contents w.old) (W.contents w.new)
-        (claim_text (claim_of claim.entry) (layout_under standard (claim_of claim.entry) direction))) }
+        (expected_text (expected_of expected.entry) (layout_under standard (expected_of expected.entry) direction))) }
     ensures room { room_of scratch.new ≡ room_of scratch.old }
 {
-    let breaks = Breaks::new(&[], claim.text.len()).unwrap();
-    lay_out_into(scratch, claim.text, direction, &breaks).unwrap();
-    print_claim(w, claim, &scratch.layout())
+    let breaks = Breaks::new(&[], expected.text.len()).unwrap();
+    lay_out_into(scratch, expected.text, direction, &breaks).unwrap();
+    print_expected(w, expected, &scratch.layout())
 }
 
 /// Writes the line before a case.
@@ -164,21 +164,21 @@ fn print_case<W: Write>(
     alloc: Global,
     w: &mut W,
     number: u64,
-    row: &FoundRow,
+    row: &ChosenRow,
     direction: Direction,
     scratch: &mut Scratch,
 ) -> Result<(), PrintFault>
-    requires { length row.now.claim.text ≤ room_of scratch.old }
+    requires { length row.now.expected.text ≤ room_of scratch.old }
     ensures text { OnOk result (Appends (W.contents w.old) (W.contents w.new)
         (case_text number row.now direction)) }
     ensures fault { IfErr result (FaultLeavesFront
         (case_text number row.now direction) (W.contents w.old) (W.contents w.new)) }
     ensures room { room_of scratch.new ≡ room_of scratch.old }
 {
-    let claim = row.claim();
+    let expected = row.expected();
     print_case_heading(w, number, direction)?;
-    print_units(alloc, w, row.chars(), claim.text, direction)?;
-    print_beside(w, claim, direction, scratch)?;
+    print_units(alloc, w, row.chars(), expected.text, direction)?;
+    print_beside(w, expected, direction, scratch)?;
     Ok(())
 }
 
@@ -187,11 +187,11 @@ fn print_cases<W: Write>(
     alloc: Global,
     w: &mut W,
     number: u64,
-    row: &FoundRow,
+    row: &ChosenRow,
     directions: &[Direction],
     scratch: &mut Scratch,
 ) -> Result<(), PrintFault>
-    requires { length row.now.claim.text ≤ room_of scratch.old }
+    requires { length row.now.expected.text ≤ room_of scratch.old }
     ensures text { OnOk result (Appends (W.contents w.old) (W.contents w.new)
         (flat_map (case_text number row.now) directions.now)) }
     ensures fault { IfErr result (FaultLeavesFront
@@ -216,13 +216,13 @@ pub fn print_row<W: Write>(
     alloc: Global,
     w: &mut W,
     number: u64,
-    row: &FoundRow,
+    row: &ChosenRow,
 ) -> Result<(), PrintFault>
     ensures text { OnOk result (Appends (W.contents w.old) (W.contents w.new) (row_text number row.now)) }
     ensures fault { IfErr result (FaultLeavesFront
         (row_text number row.now) (W.contents w.old) (W.contents w.new)) }
 {
-    let claim = row.claim();
-    let mut scratch = Scratch::reserve(alloc, claim.text.len())?;
-    print_cases(alloc, w, number, row, claim.directions, &mut scratch)
+    let expected = row.expected();
+    let mut scratch = Scratch::reserve(alloc, expected.text.len())?;
+    print_cases(alloc, w, number, row, expected.directions, &mut scratch)
 }

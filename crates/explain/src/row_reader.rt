@@ -5,7 +5,7 @@ ghost use Rattle.bidtests.specs.declared.line_reader.TheConstants.{MOST_UNITS};
 
 use crate::characters::read_characters;
 use crate::row_fault::RowFault;
-use bidtests::claim::Claim;
+use bidtests::expected::Expected;
 use bidtests::kind::Kind;
 use bidtests::line_reader::{Asked, LineReader, MOST_UNITS};
 use std::alloc::Global;
@@ -32,8 +32,8 @@ impl Model for RowReader {
 }
 
 impl RowReader {
-    ghost use Rattle.bidtests.specs.LineReadings.{HasNoList, claim_in};
-    ghost use Rattle.bidtests.specs.Readings.{claim_of};
+    ghost use Rattle.bidtests.specs.LineReadings.{HasNoList, expected_in};
+    ghost use Rattle.bidtests.specs.Readings.{expected_of};
     ghost use Rattle.explain.specs.Searching.{SaysOfRow};
 
     /// Creates a reader before the first line.
@@ -45,17 +45,17 @@ impl RowReader {
         Ok(RowReader { reader, chars })
     }
 
-    /// Reads a line, given the lines before it. Returns what its row asks for if its number is at least `sought`.
+    /// Reads a line, given the lines before it. Returns what its row asks for if its number is at least `wanted`.
     /// `number` is the number of the line.
     pub fn take_line(
         &mut self,
         kind: Kind<'_>,
-        sought: u64,
+        wanted: u64,
         number: u64,
         line: &[u8],
     ) -> Result<Option<Asked>, RowFault>
         requires { length line.now ≤ longest_line }
-        ensures says { SaysOfRow kind.entry sought number line.now self.old self.new result }
+        ensures says { SaysOfRow kind.entry wanted number line.now self.old self.new result }
         ensures fits { IfOk result (λ row. IsSome row → length self.new.reading.text ≤ MOST_UNITS) }
     {
         let row = match self.reader.read_line(kind, line) {
@@ -67,7 +67,7 @@ impl RowReader {
                 });
             }
         };
-        if number < sought {
+        if number < wanted {
             return Ok(None);
         }
         let Some(asked) = row else {
@@ -78,10 +78,10 @@ impl RowReader {
     }
 
     /// Returns the expected results of the row that was read last. `asked` is what it asks for.
-    pub fn claim(&self, asked: Asked) -> Claim<'_>
-        ensures { claim_of result ≡ claim_in self.now.reading asked }
+    pub fn expected(&self, asked: Asked) -> Expected<'_>
+        ensures { expected_of result ≡ expected_in self.now.reading asked }
     {
-        self.reader.claim(asked)
+        self.reader.expected(asked)
     }
 
     /// Returns the characters of the row's text. A row of classes has none.

@@ -1,11 +1,11 @@
 // Searches the bytes of a file for the row of a line.
 ghost use Rattle.std.specs.Prelude.{◌≡◌, ◌≤◌, ◌<◌, ℕ, List, [], ◌++◌, IfOk, IsSome, OnOk, length};
-ghost use Rattle.units.specs.LineAnswers.{CutIsShort};
+ghost use Rattle.units.specs.LineReturns.{CutIsShort};
 ghost use Rattle.bidtests.specs.declared.kind.Kind.{Kind as FileKind};
 ghost use Rattle.bidtests.specs.declared.line_reader.TheConstants.{MOST_UNITS};
 ghost use Rattle.explain.specs.Searching.{SearchComesTo, EndsLast, EndsWith, SaysOfCut, SearchesOn, PieceSettles, row_in};
 
-use crate::found_row::FoundRow;
+use crate::chosen_row::ChosenRow;
 use crate::row_fault::RowFault;
 use crate::row_reader::RowReader;
 use bidtests::kind::Kind;
@@ -19,7 +19,7 @@ use units::memory::Memory;
 /// A search for a row. It stores one line, the text of one row and the lists in force.
 #[derive(Drop)]
 pub struct RowSearch {
-    cutter: LineCut,
+    splitter: LineCut,
     rows: RowReader,
 }
 
@@ -28,23 +28,23 @@ impl Model for RowSearch {
 
     ghost Value = { Searching };
 
-    ghost view = { λ s. record { cutting = s.cutter; rows = s.rows } };
+    ghost view = { λ s. record { cutting = s.splitter; rows = s.rows } };
 }
 
 /// Reads the line that ends at the cut, if one does.
 fn take_cut(
     kind: Kind<'_>,
     rows: &mut RowReader,
-    sought: u64,
+    wanted: u64,
     cut: Cut<'_>,
 ) -> Result<Option<Asked>, RowFault>
     requires { CutIsShort cut }
-    ensures says { SaysOfCut kind.entry sought cut.entry rows.old rows.new result }
+    ensures says { SaysOfCut kind.entry wanted cut.entry rows.old rows.new result }
     ensures fits { IfOk result (λ row. IsSome row → length rows.new.reading.text ≤ MOST_UNITS) }
 {
     match cut {
         Cut::More => Ok(None),
-        Cut::Line { number, text } => rows.take_line(kind, sought, number, text),
+        Cut::Line { number, text } => rows.take_line(kind, wanted, number, text),
         Cut::TooLong { number } => Err(RowFault::Malformed {
             line: number,
             cause: Cause::LineTooLong,
@@ -66,12 +66,12 @@ fn of_last(row: Result<Option<Asked>, RowFault>) -> Result<Asked, RowFault>
 impl RowSearch {
     /// Creates a search before the first byte of a file.
     pub fn new(alloc: Global) -> Result<RowSearch, Memory>
-        ensures { IfOk result (λ search. (kind : FileKind) (sought : ℕ) → 0 < sought
-            → SearchesOn kind sought search []) }
+        ensures { IfOk result (λ search. (kind : FileKind) (wanted : ℕ) → 0 < wanted
+            → SearchesOn kind wanted search []) }
     {
         let rows = RowReader::new(alloc)?;
         Ok(RowSearch {
-            cutter: LineCut::new(),
+            splitter: LineCut::new(),
             rows,
         })
     }
@@ -81,17 +81,17 @@ impl RowSearch {
     fn take_next(
         &mut self,
         kind: Kind<'_>,
-        sought: u64,
+        wanted: u64,
         piece: &[u8],
     ) -> Result<(usize, Option<Asked>), RowFault>
         ensures used { IfOk result (λ taken. taken.0 ≤ length piece.now) }
         ensures some { IfOk result (λ taken. 0 < length piece.now → 0 < taken.0) }
-        ensures comes { (b : List ℕ) → SearchesOn kind.entry sought self.old b
-            → PieceSettles kind.entry sought self.new b piece.now result }
+        ensures comes { (b : List ℕ) → SearchesOn kind.entry wanted self.old b
+            → PieceSettles kind.entry wanted self.new b piece.now result }
         ensures fits { IfOk result (λ taken. IsSome taken.1 → length self.new.rows.reading.text ≤ MOST_UNITS) }
     {
-        let (used, cut) = self.cutter.take(piece);
-        let row = take_cut(kind, &mut self.rows, sought, cut)?;
+        let (used, cut) = self.splitter.take(piece);
+        let row = take_cut(kind, &mut self.rows, wanted, cut)?;
         Ok((used, row))
     }
 
@@ -100,16 +100,16 @@ impl RowSearch {
     pub fn take(
         &mut self,
         kind: Kind<'_>,
-        sought: u64,
+        wanted: u64,
         piece: &[u8],
     ) -> Result<Option<Asked>, RowFault>
-        ensures comes { (b : List ℕ) → SearchesOn kind.entry sought self.old b
-            → SearchComesTo kind.entry sought self.new (b ++ piece.now) result }
+        ensures comes { (b : List ℕ) → SearchesOn kind.entry wanted self.old b
+            → SearchComesTo kind.entry wanted self.new (b ++ piece.now) result }
         ensures fits { IfOk result (λ row. IsSome row → length self.new.rows.reading.text ≤ MOST_UNITS) }
     {
         let mut rest = piece;
         while !rest.is_empty() {
-            let (used, row) = self.take_next(kind, sought, rest)?;
+            let (used, row) = self.take_next(kind, wanted, rest)?;
             if row.is_some() {
                 return Ok(row);
             }
@@ -119,24 +119,24 @@ impl RowSearch {
     }
 
     /// Returns the row that ended the search. `asked` is what it asks for.
-    pub fn found(self, asked: Asked) -> FoundRow
+    pub fn found(self, asked: Asked) -> ChosenRow
         requires { length self.rows.reading.text ≤ MOST_UNITS }
         ensures { result ≡ row_in self.rows asked }
     {
         let RowSearch { rows, .. } = self;
-        FoundRow::new(rows, asked)
+        ChosenRow::new(rows, asked)
     }
 
     /// Takes the end of a file of the given kind. Returns what the wanted row asks for if the unfinished line is that
     /// row. Fails if the row does not exist, or if it or an earlier line is malformed.
-    pub fn finish(&mut self, kind: Kind<'_>, sought: u64) -> Result<Asked, RowFault>
-        ensures ends { (b : List ℕ) → SearchesOn kind.entry sought self.old b
-            → EndsWith kind.entry sought self.new b result }
+    pub fn finish(&mut self, kind: Kind<'_>, wanted: u64) -> Result<Asked, RowFault>
+        ensures ends { (b : List ℕ) → SearchesOn kind.entry wanted self.old b
+            → EndsWith kind.entry wanted self.new b result }
         ensures fits { OnOk result (length self.new.rows.reading.text ≤ MOST_UNITS) }
     {
-        match self.cutter.finish() {
+        match self.splitter.finish() {
             None => Err(RowFault::NoRow),
-            Some((number, text)) => of_last(self.rows.take_line(kind, sought, number, text)),
+            Some((number, text)) => of_last(self.rows.take_line(kind, wanted, number, text)),
         }
     }
 }

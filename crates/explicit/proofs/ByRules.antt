@@ -7,7 +7,7 @@ use Rattle.units.specs.Brackets.{strong_as, same_direction, opposite}
 use Rattle.units.specs.Neutral.{by_sides}
 use Rattle.units.specs.declared.class.Class.{Class}
 use Rattle.units.specs.declared.class.Class.TheVariants.{L, R, AL, EN, ES, ET, AN, CS, NSM, ON, LRI, RLI, FSI, PDI}
-use Rattle.explicit.specs.Flat.{is_flat, is_kept}
+use Rattle.explicit.specs.Flat.{is_flat, is_remaining}
 use Rattle.explicit.specs.Uniform.{may_rise_at_even, may_rise_at_odd}
 
 -- the direction of an even level, and of an odd one
@@ -16,8 +16,8 @@ direction even = cond even L R
 
 -- the own classes that X9 doesn't remove: flat ones that can't rise
 abbrev pub own_stays : Bool → Class → Bool
-own_stays true c = is_flat c && is_kept c && not (may_rise_at_even c)
-own_stays false c = is_flat c && is_kept c && not (may_rise_at_odd c)
+own_stays true c = is_flat c && is_remaining c && not (may_rise_at_even c)
+own_stays false c = is_flat c && is_remaining c && not (may_rise_at_odd c)
 
 -- after W1 and W2: there is no mark
 abbrev pub marked_stays : Bool → Class → Bool
@@ -37,13 +37,13 @@ separated_stays even CS = false
 separated_stays even c = lettered_stays even c
 
 -- after W7 and N0: the direction, and neutrals
-abbrev pub settled_stays : Bool → Class → Bool
-settled_stays even EN = false
-settled_stays even c = separated_stays even c
+abbrev pub resolved_stays : Bool → Class → Bool
+resolved_stays even EN = false
+resolved_stays even c = separated_stays even c
 
-pub own_from : (even : Bool) (c : Class) → is_flat c ≡ true → is_kept c ≡ true → cond even (may_rise_at_even c) (may_rise_at_odd c) ≡ false → own_stays even c ≡ true
-own_from true c flat kept low = rw (flat, kept, low) refl
-own_from false c flat kept low = rw (flat, kept, low) refl
+pub own_from : (even : Bool) (c : Class) → is_flat c ≡ true → is_remaining c ≡ true → cond even (may_rise_at_even c) (may_rise_at_odd c) ≡ false → own_stays even c ≡ true
+own_from true c flat retained low = rw (flat, retained, low) refl
+own_from false c flat retained low = rw (flat, retained, low) refl
 
 taken_stays : (even : Bool) (c : Class) → own_stays even c ≡ true → is_base c ≡ true → marked_stays even (taken_by_mark c) ≡ true
 taken_stays true LRI h base = refl
@@ -109,16 +109,16 @@ strong_is false R p t = refl
 strong_is true _ p t = absurd (cc)
 strong_is false _ p t = absurd (cc)
 
-w7_after : (even : Bool) (c : Class) → separated_stays even c ≡ true → settled_stays even (by_w7 (direction even) c) ≡ true
+w7_after : (even : Bool) (c : Class) → separated_stays even c ≡ true → resolved_stays even (by_w7 (direction even) c) ≡ true
 w7_after true EN q = refl
 w7_after false EN q = absurd (cc)
 w7_after true _ q = q
 w7_after false _ q = q
 
-pub w7_stays : (even : Bool) (strong c : Class) → separated_stays even strong ≡ true → is_strong strong ≡ true → separated_stays even c ≡ true → settled_stays even (by_w7 strong c) ≡ true
+pub w7_stays : (even : Bool) (strong c : Class) → separated_stays even strong ≡ true → is_strong strong ≡ true → separated_stays even c ≡ true → resolved_stays even (by_w7 strong c) ≡ true
 w7_stays even strong c p t q = rw (strong_is even strong p t) (w7_after even c q)
 
-pub not_opposite : (even : Bool) (c : Class) → settled_stays even c ≡ true → same_direction (opposite (direction even)) (strong_as c) ≡ false
+pub not_opposite : (even : Bool) (c : Class) → resolved_stays even c ≡ true → same_direction (opposite (direction even)) (strong_as c) ≡ false
 not_opposite true L q = refl
 not_opposite true R q = absurd (cc)
 not_opposite true EN q = absurd (cc)
@@ -130,7 +130,7 @@ not_opposite false EN q = absurd (cc)
 not_opposite false AN q = absurd (cc)
 not_opposite false _ q = refl
 
-pub not_neutral : (even : Bool) (c : Class) → settled_stays even c ≡ true → is_neutral c ≡ false → c ≡ direction even
+pub not_neutral : (even : Bool) (c : Class) → resolved_stays even c ≡ true → is_neutral c ≡ false → c ≡ direction even
 not_neutral true L q n = refl
 not_neutral false R q n = refl
 not_neutral true _ q n = absurd (cc)
@@ -147,10 +147,10 @@ pub record DirectionStays (even : Bool) : Type 0 where
   pub strong : is_strong (direction even) ≡ true
   pub marked : marked_stays even (direction even) ≡ true
   pub separated : separated_stays even (direction even) ≡ true
-  pub settled : settled_stays even (direction even) ≡ true
+  pub decided : resolved_stays even (direction even) ≡ true
   pub neutral : is_neutral (direction even) ≡ false
   pub outside : lettered_stays even ON ≡ true
 
 pub direction_stays : (even : Bool) → DirectionStays even
-direction_stays true = record { own = refl; base = refl; strong = refl; marked = refl; separated = refl; settled = refl; neutral = refl; outside = refl }
-direction_stays false = record { own = refl; base = refl; strong = refl; marked = refl; separated = refl; settled = refl; neutral = refl; outside = refl }
+direction_stays true = record { own = refl; base = refl; strong = refl; marked = refl; separated = refl; decided = refl; neutral = refl; outside = refl }
+direction_stays false = record { own = refl; base = refl; strong = refl; marked = refl; separated = refl; decided = refl; neutral = refl; outside = refl }

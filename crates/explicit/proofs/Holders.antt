@@ -1,8 +1,8 @@
 pub mod Closing
 pub mod ClosingIsolate
-pub mod EmbeddingsBehind
-pub mod HoldersBehind
-pub mod IsolatesBehind
+pub mod EmbeddingsAfter
+pub mod HoldersAfter
+pub mod IsolatesAfter
 pub mod MatchedIsolates
 pub mod Open
 pub mod OpenEmbeddings

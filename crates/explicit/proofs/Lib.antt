@@ -1,7 +1,7 @@
 pub mod Matched
 pub mod Holders
 pub mod StrongSides
-pub mod LevelsFound
+pub mod LevelsComputed
 pub mod Listed
 pub mod Searches
 pub mod FlatClasses
@@ -12,4 +12,4 @@ pub mod IdleRules
 pub mod Unbracketed
 pub mod ByRules
 pub mod Staying
-pub mod LeftOut
+pub mod Omitted

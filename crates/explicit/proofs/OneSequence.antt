@@ -10,11 +10,11 @@ use Rattle.units.specs.Classes.{class_at, is_removed}
 use Rattle.units.specs.Positions.{positions_from, positions_of, first_from, same_position}
 use Rattle.units.specs.Runs.{LeveledView, SequenceView, leveled_of, size_of, level_of, remains, next_remaining, successor_by, successor, begins_sequence, followed, sequence_from, last_in, level_or_base, direction_of, last_remaining, sequence_at, sequences_of}
 use Rattle.units.specs.declared.class.Class.{Class}
-use Rattle.explicit.specs.Flat.{IsFlat, is_kept, remaining_of, level_sequence, level_sequences, flat_sequences}
+use Rattle.explicit.specs.Flat.{IsFlat, is_remaining, remaining_of, level_sequence, level_sequences, flat_sequences}
 use Rattle.units.proofs.Options.{is_some_false}
 use Rattle.units.proofs.Positions.{first_from_is, first_from_some, length-positions_from, get_or-positions_from}
 use Rattle.std.proofs.lemmas.Simd.{map-map}
-use Rattle.explicit.proofs.Listed.{filter_kept, filter_dropped, filter_alike}
+use Rattle.explicit.proofs.Listed.{filter_passed, filter_dropped, filter_alike}
 use Rattle.explicit.proofs.Searches.{first_from_here, first_from_on}
 use Rattle.explicit.proofs.FlatParagraph.{explicit_of-flat, leveled_class}
 
@@ -46,7 +46,7 @@ module _ (t : LeveledView) (para : ℕ) (u : IsUniform t para) where
   followed_remaining zero start (suc n) e le = refl
   followed_remaining (suc count) start zero e le = absurd (omega arith)
   followed_remaining (suc count) start (suc n) e le =
-      grind (arith, first_from_here, successor_is, filter_kept, first_from_on, filter_dropped, followed_remaining count (start + 1) n, followed_remaining count (start + 1) (suc n))
+      grind (arith, first_from_here, successor_is, filter_passed, first_from_on, filter_dropped, followed_remaining count (start + 1) n, followed_remaining count (start + 1) (suc n))
 
   -- a sequence begins only at the first remaining position
   abbrev follows_one : ℕ → Bool
@@ -61,10 +61,10 @@ module _ (t : LeveledView) (para : ℕ) (u : IsUniform t para) where
   begins_not : (p q : ℕ) → q < size_of t → successor t q ≡ Some p → begins_sequence t p ≡ false
   begins_not p q lt e =
       let within : q < length (positions_of t.levels) = omega (arith, length-positions_from 0 (size_of t)) in
-      let stands : get_or (positions_of t.levels) q 0 ≡ q = get_or-positions_from 0 (size_of t) q 0 lt ∙ omega arith in
+      let represents : get_or (positions_of t.levels) q 0 ≡ q = get_or-positions_from 0 (size_of t) q 0 lt ∙ omega arith in
       let follows : same_position (successor t q) (Some p) ≡ true = ap (λ o. same_position o (Some p)) e ∙ eq-eqb p p refl in
       let some : follows_one p ≡ true =
-      list_any_at (λ r. same_position (successor t r) (Some p)) (positions_of t.levels) q 0 within (ap (λ r. same_position (successor t r) (Some p)) stands ∙ follows) in
+      list_any_at (λ r. same_position (successor t r) (Some p)) (positions_of t.levels) q 0 within (ap (λ r. same_position (successor t r) (Some p)) represents ∙ follows) in
       and_right (remains t p) (not (follows_one p)) (ap not some)
 
   begins_gone : (p : ℕ) → remains t p ≡ false → begins_sequence t p ≡ false
@@ -118,11 +118,11 @@ module _ (t : LeveledView) (para : ℕ) (u : IsUniform t para) where
   first_onward (suc count) start e before =
       elim (cases_Bool (remains t start)) [
         | inl here ↦
-            ap (map (sequence_at t)) (filter_kept (begins_sequence t) start (positions_from (start + 1) count) (begins_here start here before)
+            ap (map (sequence_at t)) (filter_passed (begins_sequence t) start (positions_from (start + 1) count) (begins_here start here before)
             ∙ ap (λ ps. start ∷ ps) (none_later count (start + 1) start (omega arith) (omega arith) here (λ r above below. absurd (omega arith))))
             ∙ ap (λ s. s ∷ []) (sequence_is (suc count) start e here
-            ∙ ap (level_sequence para (size_of t)) (filter_kept (remains t) start (positions_from (start + 1) count) here))
-            ∙ ap (level_sequences para (size_of t)) (sym (filter_kept (remains t) start (positions_from (start + 1) count) here))
+            ∙ ap (level_sequence para (size_of t)) (filter_passed (remains t) start (positions_from (start + 1) count) here))
+            ∙ ap (level_sequences para (size_of t)) (sym (filter_passed (remains t) start (positions_from (start + 1) count) here))
         | inr gone ↦
             ap (map (sequence_at t)) (filter_dropped (begins_sequence t) start (positions_from (start + 1) count) (begins_gone start gone))
             ∙ first_onward count (start + 1) (omega arith) (λ q lt.
@@ -134,17 +134,17 @@ module _ (t : LeveledView) (para : ℕ) (u : IsUniform t para) where
   sequences_of-uniform = first_onward (size_of t) 0 (omega arith) (λ q lt. absurd (omega arith))
 
 -- the levels after X1 to X9 in a flat paragraph
-abbrev level_if_kept : ℕ → Class → Option ℕ
-level_if_kept para c = cond (is_removed c) None (Some para)
+abbrev level_unless_removed : ℕ → Class → Option ℕ
+level_unless_removed para c = cond (is_removed c) None (Some para)
 
-level_of_leveled : (para : ℕ) (c : Class) → option_map (λ (x : ℕ × Class). x.0) (leveled_class para c) ≡ level_if_kept para c
-level_of_leveled para c = elim (cases_Bool (is_removed c)) [ inl gone ↦ rw gone refl | inr kept ↦ rw kept refl ]
+level_of_leveled : (para : ℕ) (c : Class) → option_map (λ (x : ℕ × Class). x.0) (leveled_class para c) ≡ level_unless_removed para c
+level_of_leveled para c = elim (cases_Bool (is_removed c)) [ inl gone ↦ rw gone refl | inr retained ↦ rw retained refl ]
 
-kept_level : (para : ℕ) (c : Class) → is_some (level_if_kept para c) ≡ is_kept c
-kept_level para c = elim (cases_Bool (is_removed c)) [ inl gone ↦ rw gone refl | inr kept ↦ rw kept refl ]
+level_unless_removed_at : (para : ℕ) (c : Class) → is_some (level_unless_removed para c) ≡ is_remaining c
+level_unless_removed_at para c = elim (cases_Bool (is_removed c)) [ inl gone ↦ rw gone refl | inr retained ↦ rw retained refl ]
 
-level_where_kept : (para : ℕ) (c : Class) → is_some (level_if_kept para c) ≡ true → level_if_kept para c ≡ Some para
-level_where_kept para c h = elim (cases_Bool (is_removed c)) [ inl gone ↦ absurd (false≢true (sym (ap (λ b. is_some (cond b None (Some para))) gone) ∙ h)) | inr kept ↦ rw kept refl ]
+level_of_remaining : (para : ℕ) (c : Class) → is_some (level_unless_removed para c) ≡ true → level_unless_removed para c ≡ Some para
+level_of_remaining para c h = elim (cases_Bool (is_removed c)) [ inl gone ↦ absurd (false≢true (sym (ap (λ b. is_some (cond b None (Some para))) gone) ∙ h)) | inr retained ↦ rw retained refl ]
 
 module _ (depth : ℕ) (cs : List Class) (para : ℕ) (flat : IsFlat cs) where
   abbrev t : LeveledView
@@ -156,14 +156,14 @@ module _ (depth : ℕ) (cs : List Class) (para : ℕ) (flat : IsFlat cs) where
   pub size-flat : size_of t ≡ length cs
   size-flat = ap length levels_are ∙ length-map cs (λ c. option_map (λ (x : ℕ × Class). x.0) (leveled_class para c))
 
-  pub level-flat : (p : ℕ) → p < length cs → level_of t p ≡ level_if_kept para (class_at cs p)
+  pub level-flat : (p : ℕ) → p < length cs → level_of t p ≡ level_unless_removed para (class_at cs p)
   level-flat p lt = grind (arith, levels_are, get_or-map, level_of_leveled)
 
-  pub remains-flat : (p : ℕ) → p < length cs → remains t p ≡ is_kept (class_at cs p)
-  remains-flat p lt = ap is_some (level-flat p lt) ∙ kept_level para (class_at cs p)
+  pub remains-flat : (p : ℕ) → p < length cs → remains t p ≡ is_remaining (class_at cs p)
+  remains-flat p lt = ap is_some (level-flat p lt) ∙ level_unless_removed_at para (class_at cs p)
 
   pub uniform-flat : IsUniform t para
-  uniform-flat = grind (arith, level-flat, level_where_kept, false≢true, get_or_past, size-flat)
+  uniform-flat = grind (arith, level-flat, level_of_remaining, false≢true, get_or_past, size-flat)
 
   pub remaining-flat : filter (remains t) (positions_of t.levels) ≡ remaining_of cs
   remaining-flat = grind (arith, size-flat, filter_alike, remains-flat)

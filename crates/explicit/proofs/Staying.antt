@@ -10,7 +10,7 @@ use Rattle.units.specs.Classes.{classes_of, class_at, classes_at, is_removed, is
 use Rattle.units.specs.Positions.{positions_from, positions_of, first_from}
 use Rattle.units.specs.Runs.{SequenceView, direction_of}
 use Rattle.units.specs.Weak.{at_each, class_or, nearest_before, nearest_after, is_any, class_by_run, by_w3, by_w5, by_w6, after_w1, after_w2, after_w3, after_w4, after_w5, after_w6, after_w7, after_weak}
-use Rattle.units.specs.Brackets.{acting_brackets, bracket_pairs_of, closer_of, strong_as, same_direction, opposite, is_found_in, context_before, direction_of_pair, follows_bracket, given_to, with_direction, after_pair, after_paired}
+use Rattle.units.specs.Brackets.{acting_brackets, bracket_pairs_of, closer_of, strong_as, same_direction, opposite, occurs_in, context_before, direction_of_pair, follows_bracket, given_to, with_direction, after_pair, after_paired}
 use Rattle.units.specs.Neutral.{by_sides, after_neutral}
 use Rattle.units.specs.Implicit.{implicit_level, rise_at_even, rise_at_odd}
 use Rattle.units.specs.Limits.{LimitsOf}
@@ -18,16 +18,16 @@ use Rattle.units.specs.Layout.{units_at, no_unit, levels_of_sequence, levels_in,
 use Rattle.units.specs.declared.bracket.Unit.{Unit as BidiUnit}
 use Rattle.units.specs.declared.class.Class.{Class}
 use Rattle.units.specs.declared.class.Class.TheVariants.{L, ON}
-use Rattle.explicit.specs.Flat.{IsFlat, is_kept, remaining_of, level_sequence, level_sequences}
+use Rattle.explicit.specs.Flat.{IsFlat, is_remaining, remaining_of, level_sequence, level_sequences}
 use Rattle.explicit.specs.IdleRules.{HasNone}
-use Rattle.explicit.specs.Uniform.{kept_level, may_rise}
+use Rattle.explicit.specs.Uniform.{level_unless_removed_at, may_rise}
 use Rattle.units.proofs.Positions.{length-positions_from, get_or-positions_from}
 use Rattle.std.proofs.lemmas.Simd.{map-map}
 use Rattle.explicit.proofs.Listed.{map-positions_of}
 use Rattle.explicit.proofs.IdleRules.{at_each_same}
 use Rattle.units.proofs.Lengths.{length-after_paired, length-after_weak, length-classes_of}
 use Rattle.explicit.proofs.WholeLevels.{resolved_levels-flat}
-use Rattle.explicit.proofs.ByRules.{direction, own_stays, marked_stays, lettered_stays, separated_stays, settled_stays, own_from, w1_stays, w2_same, w3_stays, w4_stays, w5_stays, w6_stays, w7_stays, not_opposite, not_neutral, between_same, direction_stays}
+use Rattle.explicit.proofs.ByRules.{direction, own_stays, marked_stays, lettered_stays, separated_stays, resolved_stays, own_from, w1_stays, w2_same, w3_stays, w4_stays, w5_stays, w6_stays, w7_stays, not_opposite, not_neutral, between_same, direction_stays}
 
 -- all classes pass
 abbrev pub AllPass : (Class → Bool) → List Class → Type 0
@@ -100,14 +100,14 @@ after_w5-stays even cs all =
 after_w6-stays : (even : Bool) (cs : List Class) → AllPass (lettered_stays even) cs → AllPass (separated_stays even) (after_w6 cs)
 after_w6-stays even cs all = map-passes (lettered_stays even) (separated_stays even) by_w6 (w6_stays even) cs all
 
-after_w7-stays : (even : Bool) (cs : List Class) → AllPass (separated_stays even) cs → AllPass (settled_stays even) (after_w7 (direction even) cs)
+after_w7-stays : (even : Bool) (cs : List Class) → AllPass (separated_stays even) cs → AllPass (resolved_stays even) (after_w7 (direction even) cs)
 after_w7-stays even cs all =
     let d = direction_stays even in
-    at_each-passes (settled_stays even) _ cs (λ k lt.
+    at_each-passes (resolved_stays even) _ cs (λ k lt.
     let before = nearest_before-passes (separated_stays even) is_strong cs k (direction even) (omega arith) all (d.separated, d.strong) in
     w7_stays even (nearest_before cs is_strong k (direction even)) (class_at cs k) before.0 before.1 (all k L lt))
 
-after_weak-stays : (even : Bool) (cs : List Class) → AllPass (own_stays even) cs → AllPass (settled_stays even) (after_weak (direction even) cs)
+after_weak-stays : (even : Bool) (cs : List Class) → AllPass (own_stays even) cs → AllPass (resolved_stays even) (after_weak (direction even) cs)
 unfolding after_weak
 after_weak-stays even cs all =
     let a : List Class = after_w1 (direction even) cs in
@@ -125,56 +125,56 @@ after_weak-stays even cs all =
     after_w7-stays even g sixth
 
 -- N0: a pair takes the direction or none
-given_to-stays : (even : Bool) (before : List Class) (b : ℕ) (cs : List Class) → AllPass (settled_stays even) cs → AllPass (settled_stays even) (given_to before b (direction even) cs)
+given_to-stays : (even : Bool) (before : List Class) (b : ℕ) (cs : List Class) → AllPass (resolved_stays even) cs → AllPass (resolved_stays even) (given_to before b (direction even) cs)
 given_to-stays even before b cs all =
     let d = direction_stays even in
-    at_each-passes (settled_stays even) (λ k. cond (follows_bracket before b k) (direction even) (class_at cs k)) cs (λ k lt.
-    elim (cases_Bool (follows_bracket before b k)) [ inl marked ↦ rw marked d.settled | inr other ↦ rw other (all k L lt) ])
+    at_each-passes (resolved_stays even) (λ k. cond (follows_bracket before b k) (direction even) (class_at cs k)) cs (λ k lt.
+    elim (cases_Bool (follows_bracket before b k)) [ inl marked ↦ rw marked d.decided | inr other ↦ rw other (all k L lt) ])
 
-none_opposite : (even : Bool) (inside : List Class) → AllPass (settled_stays even) inside → is_found_in inside (opposite (direction even)) ≡ false
+none_opposite : (even : Bool) (inside : List Class) → AllPass (resolved_stays even) inside → occurs_in inside (opposite (direction even)) ≡ false
 none_opposite even inside all =
     list_any_none (λ c. same_direction (opposite (direction even)) (strong_as c)) inside (λ k d lt. not_opposite even (get_or inside k d) (all k d lt))
 
 -- the direction that a pair takes is the embedding one
-direction_of_pair-stays : (even : Bool) (context : Class) (inside : List Class) → AllPass (settled_stays even) inside → (c : Class) → direction_of_pair (direction even) context inside ≡ Some c → c ≡ direction even
+direction_of_pair-stays : (even : Bool) (context : Class) (inside : List Class) → AllPass (resolved_stays even) inside → (c : Class) → direction_of_pair (direction even) context inside ≡ Some c → c ≡ direction even
 direction_of_pair-stays even context inside all c e = grind (arith, none_opposite)
 
-with_direction-stays : (even : Bool) (before cs : List Class) (o c : ℕ) (taken : Option Class) → ((d : Class) → taken ≡ Some d → d ≡ direction even) → AllPass (settled_stays even) cs → AllPass (settled_stays even) (with_direction before cs o c taken)
+with_direction-stays : (even : Bool) (before cs : List Class) (o c : ℕ) (taken : Option Class) → ((d : Class) → taken ≡ Some d → d ≡ direction even) → AllPass (resolved_stays even) cs → AllPass (resolved_stays even) (with_direction before cs o c taken)
 with_direction-stays even before cs o c None same all = all
 with_direction-stays even before cs o c (Some d) same all =
     rw (same d refl) (given_to-stays even before c (given_to before o (direction even) cs) (given_to-stays even before o cs all))
 
-after_pair-stays : (even : Bool) (before cs : List Class) (o : ℕ) (closer : Option ℕ) → AllPass (settled_stays even) cs → AllPass (settled_stays even) (after_pair (direction even) (direction even) before cs o closer)
+after_pair-stays : (even : Bool) (before cs : List Class) (o : ℕ) (closer : Option ℕ) → AllPass (resolved_stays even) cs → AllPass (resolved_stays even) (after_pair (direction even) (direction even) before cs o closer)
 after_pair-stays even before cs o None all = all
 after_pair-stays even before cs o (Some c) all =
     let inside : List Class = slice_range cs (o + 1) c in
-    let passes : AllPass (settled_stays even) inside = All-take (λ x. settled_stays even x ≡ true) (c - (o + 1)) _ (All-drop (λ x. settled_stays even x ≡ true) (o + 1) cs all) in
+    let passes : AllPass (resolved_stays even) inside = All-take (λ x. resolved_stays even x ≡ true) (c - (o + 1)) _ (All-drop (λ x. resolved_stays even x ≡ true) (o + 1) cs all) in
     with_direction-stays even before cs o c (direction_of_pair (direction even) (context_before cs (direction even) o) inside)
     (direction_of_pair-stays even (context_before cs (direction even) o) inside passes) all
 
-pairs-stay : (even : Bool) (before : List Class) (closer : ℕ → Option ℕ) (cs : List Class) (os : List ℕ) → AllPass (settled_stays even) cs → AllPass (settled_stays even) (fold (λ now o. after_pair (direction even) (direction even) before now o (closer o)) cs os)
+pairs-stay : (even : Bool) (before : List Class) (closer : ℕ → Option ℕ) (cs : List Class) (os : List ℕ) → AllPass (resolved_stays even) cs → AllPass (resolved_stays even) (fold (λ now o. after_pair (direction even) (direction even) before now o (closer o)) cs os)
 pairs-stay even before closer cs [] all = all
 pairs-stay even before closer cs (o ∷ os) all =
     pairs-stay even before closer (after_pair (direction even) (direction even) before cs o (closer o)) os (after_pair-stays even before cs o (closer o) all)
 
-after_paired-stays : (even : Bool) (before : List Class) (closer : ℕ → Option ℕ) (cs : List Class) → AllPass (settled_stays even) cs → AllPass (settled_stays even) (after_paired (direction even) (direction even) before closer cs)
+after_paired-stays : (even : Bool) (before : List Class) (closer : ℕ → Option ℕ) (cs : List Class) → AllPass (resolved_stays even) cs → AllPass (resolved_stays even) (after_paired (direction even) (direction even) before closer cs)
 unfolding after_paired
 after_paired-stays even before closer cs all = pairs-stay even before closer cs (positions_of cs) all
 
 -- N1, N2: all take the direction
-after_neutral-stays : (even : Bool) (cs : List Class) → AllPass (settled_stays even) cs → after_neutral (direction even) (direction even) (direction even) cs ≡ map (λ c. direction even) cs
+after_neutral-stays : (even : Bool) (cs : List Class) → AllPass (resolved_stays even) cs → after_neutral (direction even) (direction even) (direction even) cs ≡ map (λ c. direction even) cs
 unfolding after_neutral
 after_neutral-stays even cs all =
     let d = direction_stays even in
     map-positions_of (class_by_run is_neutral (by_sides (direction even)) (direction even) (direction even) cs) (λ c. direction even) L cs
     (λ k lt.
     let outside : not (is_neutral (direction even)) ≡ true = ap not d.neutral in
-    let before = nearest_before-passes (settled_stays even) (λ c. not (is_neutral c)) cs k (direction even) (omega arith) all (d.settled, outside) in
-    let after = nearest_after-passes (settled_stays even) (λ c. not (is_neutral c)) cs k (direction even) lt all (d.settled, outside) in
-    let left : nearest_before cs (λ c. not (is_neutral c)) k (direction even) ≡ direction even = not_neutral even _ before.0 (not-true _ before.1) in
+    let before = nearest_before-passes (resolved_stays even) (λ c. not (is_neutral c)) cs k (direction even) (omega arith) all (d.decided, outside) in
+    let after = nearest_after-passes (resolved_stays even) (λ c. not (is_neutral c)) cs k (direction even) lt all (d.decided, outside) in
+    let remaining : nearest_before cs (λ c. not (is_neutral c)) k (direction even) ≡ direction even = not_neutral even _ before.0 (not-true _ before.1) in
     let right : nearest_after cs (λ c. not (is_neutral c)) k (direction even) ≡ direction even = not_neutral even _ after.0 (not-true _ after.1) in
     elim (cases_Bool (is_neutral (class_at cs k))) [
-      | inl neutral ↦ rw (neutral, left, right) (between_same even)
+      | inl neutral ↦ rw (neutral, remaining, right) (between_same even)
       | inr strong ↦ rw strong (not_neutral even (class_at cs k) (all k L lt) strong)
     ])
 
@@ -201,17 +201,17 @@ remaining_pass kind keep f start (suc count) h = grind (arith, remaining_pass ki
 abbrev one_level : ℕ → List ℕ → List (ℕ × ℕ)
 one_level para ps = zip ps (map (λ (p : ℕ). para) ps)
 
-found_before : (para : ℕ) (keep : ℕ → Bool) (start count p : ℕ) → p < start → value_beside (one_level para (filter keep (positions_from start count))) p ≡ None
-found_before para keep start zero p lt = refl
-found_before para keep start (suc count) p lt = grind (arith, ne_eqb, found_before para keep (start + 1) count p)
+level_outside : (para : ℕ) (keep : ℕ → Bool) (start count p : ℕ) → p < start → value_beside (one_level para (filter keep (positions_from start count))) p ≡ None
+level_outside para keep start zero p lt = refl
+level_outside para keep start (suc count) p lt = grind (arith, ne_eqb, level_outside para keep (start + 1) count p)
 
-found_kept : (para : ℕ) (keep : ℕ → Bool) (start count p : ℕ) → start ≤ p → p < start + count → value_beside (one_level para (filter keep (positions_from start count))) p ≡ cond (keep p) (Some para) None
-found_kept para keep start zero p ge lt = absurd (omega arith)
-found_kept para keep start (suc count) p ge lt =
-    grind (arith, eq-eqb, found_before, ne_eqb, found_kept para keep (start + 1) count p)
+level_inside : (para : ℕ) (keep : ℕ → Bool) (start count p : ℕ) → start ≤ p → p < start + count → value_beside (one_level para (filter keep (positions_from start count))) p ≡ cond (keep p) (Some para) None
+level_inside para keep start zero p ge lt = absurd (omega arith)
+level_inside para keep start (suc count) p ge lt =
+    grind (arith, eq-eqb, level_outside, ne_eqb, level_inside para keep (start + 1) count p)
 
-kept_or_none : (para : ℕ) (c : Class) → cond (is_kept c) (Some para) None ≡ kept_level para c
-kept_or_none para c = elim (cases_Bool (is_removed c)) [ inl gone ↦ rw gone refl | inr kept ↦ rw kept refl ]
+level_or_none : (para : ℕ) (c : Class) → cond (is_remaining c) (Some para) None ≡ level_unless_removed_at para c
+level_or_none para c = elim (cases_Bool (is_removed c)) [ inl gone ↦ rw gone refl | inr retained ↦ rw retained refl ]
 
 module _ (limits : LimitsOf) (us : List BidiUnit) (para : ℕ) where
   abbrev even : Bool
@@ -222,33 +222,33 @@ module _ (limits : LimitsOf) (us : List BidiUnit) (para : ℕ) where
       let weak : List Class = after_weak (direction even) before in
       let closer : ℕ → Option ℕ = closer_of (bracket_pairs_of limits.brackets (acting_brackets (units_at us s.positions) weak)) in
       let paired : List Class = after_paired (direction even) (direction even) before closer weak in
-      let settled : AllPass (settled_stays even) paired = after_paired-stays even before closer weak (after_weak-stays even before own) in
+      let decided : AllPass (resolved_stays even) paired = after_paired-stays even before closer weak (after_weak-stays even before own) in
       let n : length paired ≡ length before = length-after_paired (direction even) (direction even) before closer weak ∙ length-after_weak (direction even) before in
       rw (l, sos, eos) (
-      ap (map (implicit_level para)) (after_neutral-stays even paired settled)
+      ap (map (implicit_level para)) (after_neutral-stays even paired decided)
       ∙ map-map (implicit_level para) (λ (c : Class). direction even) paired
       ∙ ap (λ k. map (λ (c : Class). k) paired) (own_level para)
       ∙ one_value para paired before n
       )
 
-  one_level_found : (extent : ℕ) (ps : List ℕ) → AllPass (own_stays even) (classes_at (classes_of us) ps) → flat_map (levels_in limits.brackets us (classes_of us)) (level_sequences para extent ps) ≡ one_level para ps
-  one_level_found extent [] own = refl
-  one_level_found extent (p ∷ ps) own =
+  levels_are_one_level : (extent : ℕ) (ps : List ℕ) → AllPass (own_stays even) (classes_at (classes_of us) ps) → flat_map (levels_in limits.brackets us (classes_of us)) (level_sequences para extent ps) ≡ one_level para ps
+  levels_are_one_level extent [] own = refl
+  levels_are_one_level extent (p ∷ ps) own =
       append-nil (levels_in limits.brackets us (classes_of us) (level_sequence para extent (p ∷ ps)))
       ∙ ap (zip (p ∷ ps)) (levels_stay (level_sequence para extent (p ∷ ps)) (classes_at (classes_of us) (p ∷ ps)) refl refl refl own
       ∙ map-map (λ (c : Class). para) (class_at (classes_of us)) (p ∷ ps))
 
-  pub resolved_levels-uniform : IsFlat (classes_of us) → HasNone (may_rise para) (classes_of us) → resolved_levels limits us para ≡ map (λ unit. kept_level para unit.class) us
+  pub resolved_levels-uniform : IsFlat (classes_of us) → HasNone (may_rise para) (classes_of us) → resolved_levels limits us para ≡ map (λ unit. level_unless_removed_at para unit.class) us
   resolved_levels-uniform flat none =
       let cs : List Class = classes_of us in
       let n : length cs ≡ length us = length-classes_of us in
       let own : AllPass (own_stays even) (classes_at cs (remaining_of cs)) =
-      remaining_pass (own_stays even) (λ p. is_kept (class_at cs p)) (class_at cs) 0 (length cs)
-      (λ p lt kept. own_from even (class_at cs p) (flat p L (omega arith)) kept (none p L (omega arith))) in
+      remaining_pass (own_stays even) (λ p. is_remaining (class_at cs p)) (class_at cs) 0 (length cs)
+      (λ p lt retained. own_from even (class_at cs p) (flat p L (omega arith)) retained (none p L (omega arith))) in
       resolved_levels-flat limits us para flat
-      ∙ ap (λ found. map (value_beside found) (positions_of us)) (one_level_found (length cs) (remaining_of cs) own)
-      ∙ map-positions_of (value_beside (one_level para (remaining_of cs))) (λ (u : BidiUnit). kept_level para u.class) no_unit us
+      ∙ ap (λ found. map (value_beside found) (positions_of us)) (levels_are_one_level (length cs) (remaining_of cs) own)
+      ∙ map-positions_of (value_beside (one_level para (remaining_of cs))) (λ (u : BidiUnit). level_unless_removed_at para u.class) no_unit us
       (λ k lt.
-      found_kept para (λ p. is_kept (class_at cs p)) 0 (length cs) k (omega arith) (omega arith)
-      ∙ kept_or_none para (class_at cs k)
-      ∙ ap (kept_level para) (get_or-map (λ (u : BidiUnit). u.class) us k no_unit L lt))
+      level_inside para (λ p. is_remaining (class_at cs p)) 0 (length cs) k (omega arith) (omega arith)
+      ∙ level_or_none para (class_at cs k)
+      ∙ ap (level_unless_removed_at para) (get_or-map (λ (u : BidiUnit). u.class) us k no_unit L lt))

@@ -12,22 +12,22 @@ use Rattle.units.specs.Layout.{current_of, levels_in, value_beside, resolved_lev
 use Rattle.units.specs.declared.bracket.Unit.{Unit as BidiUnit}
 use Rattle.units.specs.declared.class.Class.{Class}
 use Rattle.units.specs.declared.class.Class.TheVariants.{BN}
-use Rattle.explicit.specs.Flat.{IsFlat, is_kept, remaining_of, level_sequences, flat_sequences}
+use Rattle.explicit.specs.Flat.{IsFlat, is_remaining, remaining_of, level_sequences, flat_sequences}
 use Rattle.std.proofs.lemmas.Simd.{map-map}
 use Rattle.explicit.proofs.Listed.{map_filter}
 use Rattle.explicit.proofs.FlatParagraph.{explicit_of-flat, leveled_class}
 use Rattle.explicit.proofs.OneSequence.{sequences_of-flat}
 
 -- the current class of a position that remains is its own
-current_class : (para : ℕ) (c : Class) → is_kept c ≡ true → option_map_or (λ (x : ℕ × Class). x.1) (leveled_class para c) BN ≡ c
-current_class para c kept = grind (arith, false≢true)
+current_class : (para : ℕ) (c : Class) → is_remaining c ≡ true → option_map_or (λ (x : ℕ × Class). x.1) (leveled_class para c) BN ≡ c
+current_class para c retained = grind (arith, false≢true)
 
 module _ (depth : ℕ) (cs : List Class) (para : ℕ) (flat : IsFlat cs) where
-  current_at : (p : ℕ) → is_kept (class_at cs p) ≡ true → class_at (current_of (explicit_of depth cs para)) p ≡ class_at cs p
-  current_at p kept = grind (arith, explicit_of-flat, map-map, get_or-map, current_class, get_or_past, length-map)
+  current_at : (p : ℕ) → is_remaining (class_at cs p) ≡ true → class_at (current_of (explicit_of depth cs para)) p ≡ class_at cs p
+  current_at p retained = grind (arith, explicit_of-flat, map-map, get_or-map, current_class, get_or_past, length-map)
 
   pub current-remaining : classes_at (current_of (explicit_of depth cs para)) (remaining_of cs) ≡ classes_at cs (remaining_of cs)
-  current-remaining = map_filter (λ p. is_kept (class_at cs p)) (class_at (current_of (explicit_of depth cs para))) (class_at cs) current_at (positions_of cs)
+  current-remaining = map_filter (λ p. is_remaining (class_at cs p)) (class_at (current_of (explicit_of depth cs para))) (class_at cs) current_at (positions_of cs)
 
 -- the same classes give the same levels
 levels_by_current : (most_open : ℕ) (us : List BidiUnit) (current own : List Class) (para extent : ℕ) (ps : List ℕ) → classes_at current ps ≡ classes_at own ps → flat_map (levels_in most_open us current) (level_sequences para extent ps) ≡ flat_map (levels_in most_open us own) (level_sequences para extent ps)

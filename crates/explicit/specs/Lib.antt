@@ -9,11 +9,11 @@ pub mod Stretches
 pub mod Stops
 pub mod ExplicitLevels
 pub mod LeveledClasses
-pub mod Laws
+pub mod Theorems
 pub mod WantedLevels
 pub mod IsolateNesting
 pub mod Leveled
 pub mod Flat
 pub mod IdleRules
 pub mod Uniform
-pub mod FlatLaws
+pub mod FlatTheorems

@@ -18,10 +18,10 @@ noted LeftToRight c = LeftToRight
 noted RightToLeft c = RightToLeft
 
 -- the first strong class is R or AL
-abbrev pub found_right_to_left : Side → Bool
-found_right_to_left Unknown = false
-found_right_to_left LeftToRight = false
-found_right_to_left RightToLeft = true
+abbrev pub is_right_to_left_side : Side → Bool
+is_right_to_left_side Unknown = false
+is_right_to_left_side LeftToRight = false
+is_right_to_left_side RightToLeft = true
 
 -- the side of the strong class at this position, if there is one
 abbrev pub side_at : List Class → Option ℕ → Side

@@ -5,16 +5,16 @@ use Rattle.units.specs.Explicit.{wants_odd}
 use Rattle.units.specs.Isolates.{begins_right_to_left, first_strong}
 use Rattle.units.specs.declared.class.Class.{Class}
 use Rattle.units.specs.declared.class.Class.TheVariants.{FSI}
-use Rattle.explicit.specs.OpenInitiators.{left_open, opened}
+use Rattle.explicit.specs.OpenInitiators.{still_open, opened}
 use Rattle.explicit.specs.StatusStacks.{Represents, is_taken, entry_at, state_within, leveled_in}
 use Rattle.explicit.specs.declared.status.Status.{Status}
 use Rattle.explicit.specs.declared.status.StatusStack.{StatusStack}
 
--- X6a, X7: the new stack represents the initiators that `left` leaves open
+-- X6a, X7: the new stack represents the initiators that `remaining` leaves open
 abbrev pub Closes : (List Class → List ℕ → List ℕ) → StatusStack → StatusStack → Type 0
-Closes left old new =
+Closes remaining old new =
     (depth : ℕ) (cs : List Class) (para_level : ℕ) (qs : List ℕ)
-    → Represents depth cs para_level qs old → Represents depth cs para_level (left cs qs) new
+    → Represents depth cs para_level qs old → Represents depth cs para_level (remaining cs qs) new
 
 -- X2 to X5c: an initiator of this class, which asks for an odd level or not, is opened up to this depth
 abbrev pub OpensAsking : ℕ → Class → Bool → StatusStack → StatusStack → Type 0
@@ -40,8 +40,8 @@ TakesInitiator entry old new =
     → Represents depth cs para_level qs old → Represents depth cs para_level (p ∷ qs) new
 
 -- X2 to X5c: an overflow initiator is counted, of an isolate or of an embedding
-abbrev pub RefusesInitiator : Bool → StatusStack → StatusStack → Type 0
-RefusesInitiator is_isolate old new =
+abbrev pub CountsOverflow : Bool → StatusStack → StatusStack → Type 0
+CountsOverflow is_isolate old new =
     (depth : ℕ) (cs : List Class) (para_level : ℕ) (qs : List ℕ) (p : ℕ)
     → is_taken depth cs para_level p qs ≡ false → is_isolate ≡ is_isolate_initiator (class_at cs p)
     → Represents depth cs para_level qs old → Represents depth cs para_level (p ∷ qs) new
@@ -62,14 +62,14 @@ GivesLeveledInside stack class leveled =
 
 -- X2 to X9: if a position p of this class leaves these initiators open, then this is its level and its current class,
 -- or none if it is removed, and the new stack represents what is open after p
-pub record IsPassed (depth : ℕ) (cs : List Class) (para_level : ℕ) (left : List ℕ) (p : ℕ) (class : Class)
+pub record IsPassed (depth : ℕ) (cs : List Class) (para_level : ℕ) (remaining : List ℕ) (p : ℕ) (class : Class)
     (leveled : Option (ℕ × Class)) (new : StatusStack) : Type 0 where
-  pub kept : Represents depth cs para_level (opened cs p left) new
-  pub found : leveled ≡ leveled_in (state_within depth cs para_level left) para_level class
+  pub retained : Represents depth cs para_level (opened cs p remaining) new
+  pub found : leveled ≡ leveled_in (state_within depth cs para_level remaining) para_level class
 
 -- X2 to X9: the position of this class closes what it closes, and opens what it opens up to this depth
 abbrev pub Passes : ℕ → ℕ → Class → Bool → Option (ℕ × Class) → StatusStack → StatusStack → Type 0
 Passes depth para_level class right_to_left leveled old new =
     (cs : List Class) (qs : List ℕ) (p : ℕ) → class ≡ class_at cs p → IsSideOf class cs p right_to_left
     → Represents depth cs para_level qs old
-    → IsPassed depth cs para_level (left_open cs class qs) p class leveled new
+    → IsPassed depth cs para_level (still_open cs class qs) p class leveled new

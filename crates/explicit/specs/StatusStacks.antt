@@ -44,24 +44,24 @@ taken_isolates depth cs para_level (q ∷ qs) =
     cond (is_taken depth cs para_level q qs) (cond (is_isolate cs q) 1 0) 0 + taken_isolates depth cs para_level qs
 
 -- X5a to X5c: the overflow isolate count
-abbrev pub refused_isolates : ℕ → List Class → ℕ → List ℕ → ℕ
-refused_isolates depth cs para_level [] = 0
-refused_isolates depth cs para_level (q ∷ qs) =
-    cond (is_taken depth cs para_level q qs) 0 (cond (is_isolate cs q) 1 0) + refused_isolates depth cs para_level qs
+abbrev pub overflow_isolates_of : ℕ → List Class → ℕ → List ℕ → ℕ
+overflow_isolates_of depth cs para_level [] = 0
+overflow_isolates_of depth cs para_level (q ∷ qs) =
+    cond (is_taken depth cs para_level q qs) 0 (cond (is_isolate cs q) 1 0) + overflow_isolates_of depth cs para_level qs
 
 -- X2 to X5: the overflow embedding count, which leaves out embeddings inside overflow isolates
-abbrev pub refused_embeddings : ℕ → List Class → ℕ → List ℕ → ℕ
-refused_embeddings depth cs para_level [] = 0
-refused_embeddings depth cs para_level (q ∷ qs) =
-    cond (is_taken depth cs para_level q qs || (is_isolate cs q || nat_lt 0 (refused_isolates depth cs para_level qs)))
+abbrev pub overflow_embeddings_of : ℕ → List Class → ℕ → List ℕ → ℕ
+overflow_embeddings_of depth cs para_level [] = 0
+overflow_embeddings_of depth cs para_level (q ∷ qs) =
+    cond (is_taken depth cs para_level q qs || (is_isolate cs q || nat_lt 0 (overflow_isolates_of depth cs para_level qs)))
     0 1
-    + refused_embeddings depth cs para_level qs
+    + overflow_embeddings_of depth cs para_level qs
 
 -- X1 to X8: the stack represents these initiators
 pub record Represents (depth : ℕ) (cs : List Class) (para_level : ℕ) (qs : List ℕ) (n : StatusStack) : Type 0 where
   pub entries : n.entries.items ≡ entries_of depth cs para_level qs
-  pub overflow_isolates : n.overflow_isolates ≡ refused_isolates depth cs para_level qs
-  pub overflow_embeddings : n.overflow_embeddings ≡ refused_embeddings depth cs para_level qs
+  pub overflow_isolates : n.overflow_isolates ≡ overflow_isolates_of depth cs para_level qs
+  pub overflow_embeddings : n.overflow_embeddings ≡ overflow_embeddings_of depth cs para_level qs
   pub valid_isolates : n.valid_isolates ≡ taken_isolates depth cs para_level qs
 
 -- X6a: the entries before the last isolate's, or none
@@ -94,17 +94,17 @@ leveled_in s para_level own =
 -- X1 to X5c: the overflow initiators are inside all valid ones, and the entries are those of the paragraph and of each
 -- valid initiator. The three counts count the overflow isolates, the overflow embeddings outside of these, and the
 -- valid isolates.
-pub record IsRefusedTail (depth : ℕ) (cs : List Class) (para_level : ℕ) (refused taken : List ℕ) : Type 0 where
+pub record IsOverflowTail (depth : ℕ) (cs : List Class) (para_level : ℕ) (rejected taken : List ℕ) : Type 0 where
   pub sound : (state_within depth cs para_level taken).sound ≡ true
-  pub entries : entries_of depth cs para_level (refused ++ taken) ≡ entries_of depth cs para_level taken
+  pub entries : entries_of depth cs para_level (rejected ++ taken) ≡ entries_of depth cs para_level taken
   pub one_each : length (entries_of depth cs para_level taken) ≡ length taken + 1
-  pub overflow_isolates : refused_isolates depth cs para_level (refused ++ taken) ≡ count_by (is_isolate cs) refused
-  pub overflow_embeddings : refused_embeddings depth cs para_level (refused ++ taken)
-      ≡ suffix_len (λ q. not (is_isolate cs q)) refused
-  pub valid_isolates : taken_isolates depth cs para_level (refused ++ taken) ≡ count_by (is_isolate cs) taken
+  pub overflow_isolates : overflow_isolates_of depth cs para_level (rejected ++ taken) ≡ count_by (is_isolate cs) rejected
+  pub overflow_embeddings : overflow_embeddings_of depth cs para_level (rejected ++ taken)
+      ≡ suffix_len (λ q. not (is_isolate cs q)) rejected
+  pub valid_isolates : taken_isolates depth cs para_level (rejected ++ taken) ≡ count_by (is_isolate cs) taken
 
 -- X1: the initiators around p, the outermost first, are first the valid ones and then the overflow ones
-abbrev pub EndsInRefused : ℕ → List Class → ℕ → ℕ → Type 0
-EndsInRefused depth cs para_level p =
-    (refused : List ℕ) × (taken : List ℕ)
-    × (chain cs p ≡ reverse taken ++ reverse refused) × IsRefusedTail depth cs para_level refused taken
+abbrev pub EndsInOverflow : ℕ → List Class → ℕ → ℕ → Type 0
+EndsInOverflow depth cs para_level p =
+    (rejected : List ℕ) × (taken : List ℕ)
+    × (chain cs p ≡ reverse taken ++ reverse rejected) × IsOverflowTail depth cs para_level rejected taken

@@ -10,18 +10,18 @@ HasNoFormatting cs from end = (p : ℕ) → from ≤ p → p < end → is_isolat
 
 -- no isolate begins or ends at a position of this class, and the class is not strong if a strong class is looked for
 abbrev pub is_passed : Bool → Class → Bool
-is_passed sought c = not (is_isolate_formatting c || (sought && is_strong c))
+is_passed wanted c = not (is_isolate_formatting c || (wanted && is_strong c))
 
 -- the pass skips each position from this one on, before the end
 abbrev pub ArePassed : Bool → List Class → ℕ → ℕ → Type 0
-ArePassed sought cs from end = (p : ℕ) → from ≤ p → p < end → is_passed sought (class_at cs p) ≡ true
+ArePassed wanted cs from end = (p : ℕ) → from ≤ p → p < end → is_passed wanted (class_at cs p) ≡ true
 
 -- p is the first position from this one on that the pass doesn't skip
-pub record IsNextStop (sought : Bool) (cs : List Class) (from p : ℕ) : Type 0 where
+pub record IsNextStop (wanted : Bool) (cs : List Class) (from p : ℕ) : Type 0 where
   pub later : from ≤ p
   pub within : p < length cs
-  pub stops : is_passed sought (class_at cs p) ≡ false
-  pub first : ArePassed sought cs from p
+  pub stops : is_passed wanted (class_at cs p) ≡ false
+  pub first : ArePassed wanted cs from p
 
 -- the partners, with those of the positions from this one on, before the end, removed
 abbrev pub without_partners : ℕ → ℕ → List (Option ℕ) → List (Option ℕ)

@@ -26,7 +26,7 @@ impl<'a> Model for Paragraphs<'a> {
 }
 
 impl<'a> Paragraphs<'a> {
-    #[tactic(auto, using(crate::proofs::LevelsFound::OneCutting::no_more_paragraphs))]
+    #[tactic(auto, using(crate::proofs::LevelsComputed::OneCutting::no_more_paragraphs))]
     pub(crate) fn new(text: &'a [Unit]) -> Paragraphs<'a>
         ensures pieces { result ≡ paragraphs_of text.now }
         ensures no_more { length result ≤ length text.now }

@@ -84,7 +84,7 @@ impl IsolateMap {
     /// the PDI at `p`, or none (BD9). `p` is a position of the paragraph that the map was filled from.
     pub fn partner(&self, p: usize) -> Option<usize>
         requires { p < room self.now }
-        ensures kept { result ≡ slice_index_or self.now.partners p None }
+        ensures retained { result ≡ slice_index_or self.now.partners p None }
         ensures matched { (cs : List Class) → IsFilledFrom self.now cs → p < length cs → result ≡ partner_of cs p }
     {
         self.partners[p].get()
@@ -156,10 +156,10 @@ fn is_formatting_in_four(para: &[Unit], p: usize) -> bool
 
 // Returns whether the pass over isolates skips a class: no isolate begins or ends there, and the class is not strong if
 // the pass looks for a strong class.
-fn is_passed(class: Class, sought: bool) -> bool
-    ensures { result ≡ is_passed sought class }
+fn is_passed(class: Class, wanted: bool) -> bool
+    ensures { result ≡ is_passed wanted class }
 {
-    !(is_isolate_formatting(class) || sought && class.is_strong())
+    !(is_isolate_formatting(class) || wanted && class.is_strong())
 }
 
 // Removes the partners of the positions from `from` on, before `end`. Each is a step.
@@ -185,7 +185,7 @@ fn clear<L: Ledger>(
 fn pass_fours<L: Ledger>(
     para: &[Unit],
     from: usize,
-    sought: bool,
+    wanted: bool,
     partners: &mut [OptionalPosition],
     steps: &mut Steps<L>,
 ) -> usize
@@ -194,12 +194,12 @@ fn pass_fours<L: Ledger>(
     ensures later { from ≤ result }
     ensures within { result ≤ length para.now }
     ensures passed { HasNoFormatting (classes_of para.now) from result }
-    ensures seeks { sought ≡ true → result ≡ from }
+    ensures seeks { wanted ≡ true → result ≡ from }
     ensures partners { partners.new ≡ without_partners from result partners.old }
     ensures steps { steps.new + from ≡ steps.old + result }
 {
     let mut p = from;
-    while !sought && para.len() - p >= 4 && !is_formatting_in_four(para, p) {
+    while !wanted && para.len() - p >= 4 && !is_formatting_in_four(para, p) {
         clear(partners, p, p + 4, steps);
         p += 4;
     }
@@ -207,28 +207,28 @@ fn pass_fours<L: Ledger>(
 }
 
 // Returns the next position, from `from` on, at which an isolate begins or ends, or at which there is a strong class if
-// `sought`. Removes the partners of this position and of those before it. Each of these positions is a step.
+// `wanted`. Removes the partners of this position and of those before it. Each of these positions is a step.
 fn next_stop<L: Ledger>(
     para: &[Unit],
     from: usize,
-    sought: bool,
+    wanted: bool,
     partners: &mut [OptionalPosition],
     steps: &mut Steps<L>,
 ) -> Option<usize>
     requires from { from ≤ length para.now }
     requires room { length para.now ≤ length partners.old }
-    ensures found { IfSome result (λ p. IsNextStop sought (classes_of para.now) from p) }
-    ensures none { IsNone result → ArePassed sought (classes_of para.now) from (length para.now) }
+    ensures found { IfSome result (λ p. IsNextStop wanted (classes_of para.now) from p) }
+    ensures none { IsNone result → ArePassed wanted (classes_of para.now) from (length para.now) }
     ensures partners { IfSome result (λ p. partners.new ≡ without_partners from (p + 1) partners.old) }
     ensures all_partners { IsNone result → partners.new ≡ without_partners from (length para.now) partners.old }
     ensures steps { IfSome result (λ p. steps.new + from ≡ steps.old + (p + 1)) }
     ensures all_steps { IsNone result → steps.new + from ≡ steps.old + length para.now }
 {
-    let start = pass_fours(para, from, sought, partners, steps);
+    let start = pass_fours(para, from, wanted, partners, steps);
     for p in start..para.len() {
         steps.tick();
         partners[p] = OptionalPosition::none();
-        if !is_passed(para[p].class, sought) {
+        if !is_passed(para[p].class, wanted) {
             return Some(p);
         }
     }
@@ -257,12 +257,12 @@ fn match_partners<L: Ledger>(
     let mut outside = Side::Unknown;
     let mut depth = 0;
     let mut from = 0;
-    let mut sought = true;
-    while let Some(p) = next_stop(para, from, sought, partners, steps) {
+    let mut wanted = true;
+    while let Some(p) = next_stop(para, from, wanted, partners, steps) {
         let class = para[p].class;
         let is_strong = class.is_strong();
         from = p + 1;
-        sought = !is_strong;
+        wanted = !is_strong;
         if class.is_isolate_initiator() {
             openers[depth] = p as u32;
             depth += 1;

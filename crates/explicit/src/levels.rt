@@ -66,7 +66,7 @@ impl Explicit {
     /// current class, or none if it is removed (X1 to X9). `p` is a position of the paragraph of that call.
     pub fn at(&self, p: usize) -> Option<(Level, Class)>
         requires { p < length self.now }
-        ensures kept { result ≡ slice_index_or self.now p None }
+        ensures retained { result ≡ slice_index_or self.now p None }
         ensures found { IsExplicitAt self.now p result }
         ensures within { IsWithinDepth self.now p result }
     {

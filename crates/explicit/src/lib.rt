@@ -5,9 +5,9 @@ ghost use Rattle.std.specs.Prelude.{◌≡◌, ◌≤◌, length};
 ghost use Rattle.units.specs.Paragraphs.{paragraphs_of};
 
 pub mod cutting;
-pub mod flat_laws;
+pub mod flat_theorems;
 pub mod isolates;
-pub mod laws;
+pub mod theorems;
 pub mod leveled_class;
 pub mod levels;
 pub mod para_level;

@@ -1,6 +1,6 @@
 //! The side of the first strong class directly inside an isolate, or outside of all (P2, P3).
 ghost use Rattle.std.specs.Prelude.{◌≡◌};
-ghost use Rattle.explicit.specs.Sides.{noted, found_right_to_left};
+ghost use Rattle.explicit.specs.Sides.{noted, is_right_to_left_side};
 
 use units::class::Class;
 
@@ -26,7 +26,7 @@ impl Side {
 
     /// Returns whether the first strong class is R or AL.
     pub fn is_right_to_left(self) -> bool
-        ensures { result ≡ found_right_to_left self }
+        ensures { result ≡ is_right_to_left_side self }
     {
         matches!(self, Side::RightToLeft)
     }

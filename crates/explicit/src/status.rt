@@ -4,7 +4,7 @@ ghost use Rattle.units.specs.Classes.{is_isolate_initiator};
 ghost use Rattle.units.specs.declared.class.Class.{Class};
 ghost use Rattle.explicit.specs.OpenInitiators.{after_pdi, after_pdf};
 ghost use Rattle.explicit.specs.StatusStacks.{Represents, IsReachedStack, before_isolate, entry_count};
-ghost use Rattle.explicit.specs.StackChanges.{Closes, Opens, OpensAsking, Passes, TakesInitiator, RefusesInitiator, IsInnermost, GivesLeveledInside};
+ghost use Rattle.explicit.specs.StackChanges.{Closes, Opens, OpensAsking, Passes, TakesInitiator, CountsOverflow, IsInnermost, GivesLeveledInside};
 ghost use Rattle.explicit.specs.Stretches.{leveled_by_status};
 
 use crate::leveled_class::LeveledClass;
@@ -187,9 +187,9 @@ impl StatusStack {
     }
 
     // X2 to X5c: counts an overflow initiator. An overflow embedding inside an overflow isolate is not counted.
-    fn refuse(&mut self, is_isolate: bool)
+    fn reject(&mut self, is_isolate: bool)
         requires { IsReachedStack self.old }
-        ensures opened { RefusesInitiator is_isolate self.old self.new }
+        ensures opened { CountsOverflow is_isolate self.old self.new }
         ensures size { entry_count self.new ≡ entry_count self.old }
     {
         if is_isolate {
@@ -201,7 +201,7 @@ impl StatusStack {
 
     // X2 to X5c: opens an initiator that is inside no overflow initiator. `odd` says whether it asks for an odd level.
     fn open_sound(&mut self, class: Class, odd: bool, depth: u8)
-        requires kept { IsReachedStack self.old }
+        requires retained { IsReachedStack self.old }
         requires within { depth ≤ 125 }
         requires sound { (self.old.overflow_isolates == 0 && self.old.overflow_embeddings == 0) ≡ true }
         ensures opened { OpensAsking depth class odd self.old self.new }
@@ -216,13 +216,13 @@ impl StatusStack {
                 is_isolate: class.is_isolate_initiator(),
             });
         } else {
-            self.refuse(class.is_isolate_initiator());
+            self.reject(class.is_isolate_initiator());
         }
     }
 
     // X2 to X5c: opens an initiator. Inside an overflow initiator the level that it asks for doesn't matter.
     fn open(&mut self, class: Class, right_to_left: bool, depth: u8)
-        requires kept { IsReachedStack self.old }
+        requires retained { IsReachedStack self.old }
         requires within { depth ≤ 125 }
         ensures opened { Opens depth class right_to_left self.old self.new }
         ensures size { entry_count self.new ≤ entry_count self.old + 1 }
@@ -230,7 +230,7 @@ impl StatusStack {
         if self.is_sound() {
             self.open_sound(class, asks_odd(class, right_to_left), depth);
         } else {
-            self.refuse(class.is_isolate_initiator());
+            self.reject(class.is_isolate_initiator());
         }
     }
 
@@ -246,7 +246,7 @@ impl StatusStack {
         depth: u8,
         steps: &mut Steps<L>,
     ) -> LeveledClass
-        requires kept { IsReachedStack self.old }
+        requires retained { IsReachedStack self.old }
         requires within { depth ≤ 125 }
         ensures passed { Passes depth base class right_to_left result self.old self.new }
         ensures least_steps { steps.old ≤ steps.new }

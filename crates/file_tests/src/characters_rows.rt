@@ -26,8 +26,8 @@ fn expect(
     verdict: Verdict,
 ) -> Result<(), TableFault> {
     for size in [bytes.len(), 1, 7] {
-        let answer = characters_fed(alloc, bytes, size)?;
-        assert_eq!(rt; answer, verdict, "in pieces of {size}");
+        let outcome = characters_fed(alloc, bytes, size)?;
+        assert_eq!(rt; outcome, verdict, "in pieces of {size}");
     }
     Ok(())
 }
@@ -108,7 +108,7 @@ fn pair_judged(alloc: Global, limits: Limits) -> Result<Verdict, TableFault> {
 
 /// BD16: if no bracket can be open, no pair counts; if one can be open, the pair counts.
 #[test]
-fn the_open_brackets_are_as_many_as_are_handed_in(rt: HostRuntime) -> Result<(), Fail> {
+fn the_given_number_of_open_brackets_is_used(rt: HostRuntime) -> Result<(), Fail> {
     for (brackets, verdict) in [
         (0, wrong(1, Direction::Ltr, Place::Levels(3))),
         (1, yes(1, 1)),

@@ -23,8 +23,8 @@ pub const WRONG_UNDER_RTL_VERDICT: Verdict = Verdict::Wrong {
 /// Expects this verdict on the bytes, in pieces of several sizes.
 fn expect(rt: &impl Abort, alloc: Global, bytes: &[u8], verdict: Verdict) -> Result<(), Memory> {
     for size in [bytes.len(), 1, 4, 7] {
-        let answer = classes_fed(alloc, bytes, size)?;
-        assert_eq!(rt; answer, verdict, "in pieces of {size}");
+        let outcome = classes_fed(alloc, bytes, size)?;
+        assert_eq!(rt; outcome, verdict, "in pieces of {size}");
     }
     Ok(())
 }
@@ -162,7 +162,7 @@ fn limited(alloc: Global, limits: Limits, bytes: &[u8]) -> Result<Verdict, Memor
 
 /// X4: at depth 1 the LRE, which asks for level 2, overflows; at the depth of the standard it doesn't.
 #[test]
-fn the_depth_is_that_which_is_handed_in(rt: HostRuntime) -> Result<(), Fail> {
+fn the_given_depth_is_used(rt: HostRuntime) -> Result<(), Fail> {
     let alloc = rt.alloc();
     let at_one = b"@Levels: x x 1\n@Reorder: 2\nRLE LRE R; 2\n";
     let at_most = b"@Levels: x x 3\n@Reorder: 2\nRLE LRE R; 2\n";

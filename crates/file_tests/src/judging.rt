@@ -74,8 +74,8 @@ fn lines_up_to_the_longest(rt: HostRuntime) -> Result<(), Memory> {
     let too_long = malformed(1, Cause::LineTooLong);
     for end in [b"".as_slice(), b"\n"] {
         for (count, verdict) in [(65_535, yes(0, 0)), (65_536, too_long)] {
-            let answer = letters_between(rt.alloc(), b"#", count, end)?;
-            assert_eq!(&rt; answer, verdict, "{count}");
+            let outcome = letters_between(rt.alloc(), b"#", count, end)?;
+            assert_eq!(&rt; outcome, verdict, "{count}");
         }
     }
     Ok(())
@@ -91,8 +91,8 @@ fn a_line_without_end(rt: HostRuntime) -> Result<(), Memory> {
 
 #[test]
 fn sources_are_read_to_the_end(rt: HostRuntime) -> Result<(), Memory> {
-    let answer = classes_judged(rt.alloc(), &mut SliceSource::new(WRONG_UNDER_RTL))?;
-    assert_eq!(&rt; answer, Ok(WRONG_UNDER_RTL_VERDICT));
+    let outcome = classes_judged(rt.alloc(), &mut SliceSource::new(WRONG_UNDER_RTL))?;
+    assert_eq!(&rt; outcome, Ok(WRONG_UNDER_RTL_VERDICT));
     Ok(())
 }
 

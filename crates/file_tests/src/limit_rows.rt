@@ -9,7 +9,7 @@ fn a_depth_from_1_to_125_and_up_to_63_brackets_are_allowed(rt: HostRuntime) {
 }
 
 #[test]
-fn a_depth_that_is_not_allowed_is_told_before_too_many_brackets(rt: HostRuntime) {
+fn a_depth_that_is_not_allowed_is_reported_before_too_many_brackets(rt: HostRuntime) {
     for (depth, brackets, fault) in [
         (0, 64, LimitFault::Depth),
         (126, 0, LimitFault::Depth),

@@ -17,13 +17,13 @@ const CHARACTERS_FILE: &[u8] = b"0061;0;0;0;0\n0061;0;1;0;0\n";
 #[test]
 fn a_reader_is_read_up_to_its_limit(rt: HostRuntime) -> Result<(), Memory> {
     for most in 0..=28 {
-        let answer = classes_judged(rt.alloc(), &mut ReaderSource::new(CLASSES_FILE, most))?;
+        let outcome = classes_judged(rt.alloc(), &mut ReaderSource::new(CLASSES_FILE, most))?;
         let expected = if most == 28 {
             Ok(wrong(3, Direction::Rtl, Place::Levels(0)))
         } else {
             Err(ReadFault)
         };
-        assert_eq!(&rt; answer, expected, "{most}");
+        assert_eq!(&rt; outcome, expected, "{most}");
     }
     Ok(())
 }
@@ -32,8 +32,8 @@ fn a_reader_is_read_up_to_its_limit(rt: HostRuntime) -> Result<(), Memory> {
 fn a_failed_read_leaves_no_verdict_on_characters(rt: HostRuntime) -> Result<(), TableFault> {
     for count in 0..=CHARACTERS_FILE.len() {
         let mut source = CutSource::new(CHARACTERS_FILE, count);
-        let answer = characters_judged(rt.alloc(), &mut source)?;
-        assert_eq!(&rt; answer, Err(ReadFault), "{count}");
+        let outcome = characters_judged(rt.alloc(), &mut source)?;
+        assert_eq!(&rt; outcome, Err(ReadFault), "{count}");
     }
     Ok(())
 }

@@ -69,8 +69,8 @@ fn says_first_that_the_source_failed(rt: HostRuntime) -> Result<(), Fail> {
         for count in [28, 4096, 9000] {
             assert!(rt; count <= file.len());
             let mut source = CutSource::new(&file, count);
-            let answer = printed(alloc, &mut source, &mut Failing { kind })?;
-            assert_eq!(rt; answer, Err(ReportFault::Read { written }), "{count}");
+            let outcome = printed(alloc, &mut source, &mut Failing { kind })?;
+            assert_eq!(rt; outcome, Err(ReportFault::Read { written }), "{count}");
         }
     }
     Ok(())
@@ -84,8 +84,8 @@ fn says_whether_all_was_written_before_the_source_failed(rt: HostRuntime) -> Res
     for count in [0, 27, 28, 4096, 9000] {
         assert!(rt; count <= file.len());
         let mut out = Vec::new(alloc);
-        let answer = printed(alloc, &mut CutSource::new(&file, count), &mut out)?;
-        assert_eq!(rt; answer, Err(ReportFault::Read { written }), "{count}");
+        let outcome = printed(alloc, &mut CutSource::new(&file, count), &mut out)?;
+        assert_eq!(rt; outcome, Err(ReportFault::Read { written }), "{count}");
     }
     Ok(())
 }
@@ -97,9 +97,9 @@ fn says_else_that_a_write_failed(rt: HostRuntime) -> Result<(), Fail> {
         let file = wrong_rows(alloc, rows)?;
         for kind in KINDS {
             let mut source = SliceSource::new(&file);
-            let answer = printed(alloc, &mut source, &mut Failing { kind })?;
-            assert_eq!(rt; answer, Err(ReportFault::Write), "{rows}");
-            assert_eq!(rt; source.most_left(), 0);
+            let outcome = printed(alloc, &mut source, &mut Failing { kind })?;
+            assert_eq!(rt; outcome, Err(ReportFault::Write), "{rows}");
+            assert_eq!(rt; source.most_remaining(), 0);
         }
     }
     Ok(())
@@ -112,8 +112,8 @@ fn reads_no_further_where_nobody_reads(rt: HostRuntime) -> Result<(), Fail> {
     let file = wrong_rows(alloc, 3000)?;
     let mut source = SliceSource::new(&file);
     let kind = ErrorKind::BrokenPipe;
-    let answer = printed(alloc, &mut source, &mut Failing { kind })?;
-    assert_eq!(rt; answer, Err(ReportFault::NobodyReads));
-    assert_eq!(rt; source.most_left(), 15_023 - 4096);
+    let outcome = printed(alloc, &mut source, &mut Failing { kind })?;
+    assert_eq!(rt; outcome, Err(ReportFault::NobodyReads));
+    assert_eq!(rt; source.most_remaining(), 15_023 - 4096);
     Ok(())
 }

@@ -36,15 +36,15 @@ impl Read for Failing {
 }
 
 /// Reads into the buffer once for each expected result, and compares the results.
-fn answers(
+fn outcomes(
     rt: &impl Abort,
     source: &mut impl ByteSource,
     buf: &mut [u8],
     expected: &[Result<usize, SourceFault>],
 ) {
-    for answer in expected {
+    for outcome in expected {
         assert!(rt; !buf.is_empty());
-        assert_eq!(rt; source.read(buf), *answer);
+        assert_eq!(rt; source.read(buf), *outcome);
     }
 }
 
@@ -52,14 +52,14 @@ fn answers(
 fn a_reader_of_as_many_bytes_as_allowed_is_read_to_its_end(rt: HostRuntime) {
     let mut source = ReaderSource::new(b"abc".as_slice(), 3);
     let expected = [Ok(2), Ok(1), Ok(0), Ok(0)];
-    answers(&rt, &mut source, &mut [0; 2], &expected);
+    outcomes(&rt, &mut source, &mut [0; 2], &expected);
     assert_eq!(rt; source.failures(), 0);
 }
 
 #[test]
 fn a_byte_past_the_limit_is_a_failure(rt: HostRuntime) {
     let mut source = ReaderSource::new(b"abcd".as_slice(), 3);
-    answers(&rt, &mut source, &mut [0; 2], &[Ok(2), Err(SourceFault)]);
+    outcomes(&rt, &mut source, &mut [0; 2], &[Ok(2), Err(SourceFault)]);
     assert_eq!(rt; source.failures(), 1);
     assert_eq!(rt; source.unread(), Unread::TooLarge);
 }
@@ -74,7 +74,7 @@ fn an_error_of_the_reader_says_why_it_failed(rt: HostRuntime) {
         (io::ErrorKind::Interrupted, Unread::Other),
     ] {
         let mut source = ReaderSource::new(Failing { kind }, 100);
-        answers(&rt, &mut source, &mut [0; 8], &[Err(SourceFault)]);
+        outcomes(&rt, &mut source, &mut [0; 8], &[Err(SourceFault)]);
         assert_eq!(rt; source.unread(), unread);
     }
 }
@@ -82,9 +82,9 @@ fn an_error_of_the_reader_says_why_it_failed(rt: HostRuntime) {
 #[test]
 fn an_error_of_the_reader_is_a_failure_for_good(rt: HostRuntime) {
     let mut source = ReaderSource::new(Interrupted { reads: 0 }, 100);
-    answers(&rt, &mut source, &mut [0; 8], &[Ok(3)]);
+    outcomes(&rt, &mut source, &mut [0; 8], &[Ok(3)]);
     assert_eq!(rt; source.failures(), 0);
     let failed = [Err(SourceFault), Err(SourceFault)];
-    answers(&rt, &mut source, &mut [0; 8], &failed);
+    outcomes(&rt, &mut source, &mut [0; 8], &failed);
     assert_eq!(rt; source.failures(), 1);
 }

@@ -43,8 +43,8 @@ const LINES: [(Verdict, &[u8]); 4] = [
 fn prints_each_form_of_verdict(rt: HostRuntime) {
     for (verdict, line) in LINES {
         let mut out = Vec::new(rt.alloc());
-        let answer = print_verdict(&mut out, &verdict);
-        assert!(rt; answer.is_ok());
+        let outcome = print_verdict(&mut out, &verdict);
+        assert!(rt; outcome.is_ok());
         assert_eq!(rt; out.as_slice(), line);
     }
 }

@@ -3,6 +3,6 @@ pub mod CasesReturned
 mod FileFaults
 mod LineLengths
 mod VerdictsBy
-pub mod LevelBytesWalk
+pub mod LevelBytesWritten
 pub mod LineRunLists
 pub mod LinesInBytes

@@ -25,5 +25,5 @@ written_bytes room start end count counted column column2 levels levels2 order o
       column2 = column2;
       line = line;
       bytes = ap (λ (m : ℕ). take m levels2) (sym all) ∙ writes.written (omega (arith, n, fits)) ∙ ap (λ (m : ℕ). map level_byte (take m column2)) is;
-      behind = ap (λ (m : ℕ). drop m levels2) (sym all) ∙ writes.behind ∙ ap (λ (m : ℕ). drop m levels) all;
+      following = ap (λ (m : ℕ). drop m levels2) (sym all) ∙ writes.following ∙ ap (λ (m : ℕ). drop m levels) all;
     }

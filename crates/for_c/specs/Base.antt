@@ -5,7 +5,7 @@ use Rattle.units.specs.Layout.{para_levels_of}
 use Rattle.ucdfiles.specs.Tables.{TablesOf}
 use Rattle.sources.specs.Sources.{SourceOf, IsFirstFault, IsWellFormed, units_of}
 use Rattle.room.specs.BaseLevels.{base_level}
-use Rattle.room.specs.StaysLeft.{all_stay_left}
+use Rattle.room.specs.StaysAtZero.{all_stay_at_zero}
 use Rattle.room.specs.Written.{WritesWhole}
 use Rattle.room.specs.declared.fault.LayoutFault.TheVariants.{IllFormed}
 use Rattle.for_c.specs.Directions.{direction_numbered}
@@ -33,7 +33,7 @@ RejectsBase source number error =
 -- the text is well formed, and this number, 1 or 0, says whether its classes stay at level 0
 abbrev pub IsLeftToRight : TablesOf → SourceOf → ℕ → Type 0
 IsLeftToRight tables source number =
-    IsWellFormed source × (number ≡ (if all_stay_left (classes_of (units_of tables source)) then 1 else 0))
+    IsWellFormed source × (number ≡ (if all_stay_at_zero (classes_of (units_of tables source)) then 1 else 0))
 
 -- the number is a direction, the text is well formed, and the levels of its paragraphs are counted, and written to the
 -- front whole or not at all

@@ -11,16 +11,16 @@ use Rattle.for_c.specs.Runs.{run_for_c}
 use Rattle.for_c.specs.declared.runs.BidiRun.{BidiRun}
 
 -- a run as C gets it, in units of the text's source or in positions of its characters
-abbrev pub run_told : RoomOf → Bool → VisualRun → BidiRun
-run_told room true run = run_for_c (run_in room run)
-run_told room false run = run_for_c run
+abbrev pub returned_run : RoomOf → Bool → VisualRun → BidiRun
+returned_run room true run = run_for_c (run_in room run)
+returned_run room false run = run_for_c run
 
 -- L2: the runs of a line are counted, and written so if all fit
 pub record PutsRuns (room : RoomOf) (in_units : Bool) (line : OrderedLine) (count : ℕ) (out : List BidiRun) : Type 0 where
   pub runs : List VisualRun
   pub are : AreRunsOf line runs
   pub counted : count ≡ length runs
-  pub written : count ≤ length out → take count out ≡ map (run_told room in_units) runs
+  pub written : count ≤ length out → take count out ≡ map (returned_run room in_units) runs
 
 -- L2: these are the runs of the line with the number k, in its paragraph
 pub record AreRunsAt (room : RoomOf) (k : ℕ) (runs : List VisualRun) : Type 0 where
@@ -34,4 +34,4 @@ pub record WritesRuns (room : RoomOf) (in_units : Bool) (k counted : ℕ) (old n
   pub runs : List VisualRun
   pub are : k < length room.layout.lines → AreRunsAt room k runs
   pub none : length room.layout.lines ≤ k → runs ≡ []
-  pub writes : WritesWhole (map (run_told room in_units) runs) counted old new
+  pub writes : WritesWhole (map (returned_run room in_units) runs) counted old new

@@ -4,7 +4,7 @@ use Rattle.std.specs.Char.{IsScalar}
 use Rattle.unicode_normalization.specs.Decompose.{decompose_canonical}
 use Rattle.units.specs.declared.bracket.Bracket.{Bracket}
 use Rattle.units.specs.declared.bracket.Bracket.TheVariants.{No, Open, Close}
-use Rattle.ucdfiles.specs.Tables.{TablesOf, bracket_by, glyph_by}
+use Rattle.ucdfiles.specs.Tables.{TablesOf, bracket_by, mirror_by}
 
 -- one of the two brackets opens and the other closes, and their keys are equal
 abbrev pub are_paired : Bracket → Bracket → Bool
@@ -28,7 +28,7 @@ if_paired tables bracket (Some image) = if are_paired bracket (bracket_by tables
 
 -- the mirrored character of what a character is canonically equivalent to, if the bracket pairs with it
 abbrev pub mirrored_partner : TablesOf → ℕ → Bracket → Option ℕ
-mirrored_partner tables c bracket = if_paired tables bracket (glyph_by tables.mirrors (canonical_of c))
+mirrored_partner tables c bracket = if_paired tables bracket (mirror_by tables.mirrors (canonical_of c))
 
 -- the code point is a bracket that pairs with this one; it is the mirrored one, if that pairs with it, and else the
 -- least

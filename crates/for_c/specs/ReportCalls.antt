@@ -12,7 +12,7 @@ use Rattle.for_c.specs.declared.table_report.TableReport.{TableReport}
 use Rattle.for_c.specs.declared.wrong_case.BidiWrongCase.{BidiWrongCase}
 
 -- the report can take bytes, or the end of its file: that has not ended, and no wrong case remains
-pub record IsReady (report : TableReport) : Type 0 where
+pub record AcceptsBytes (report : TableReport) : Type 0 where
   pub unended : report.ended ≡ false
   pub none : cases_left report ≡ []
 
@@ -31,7 +31,7 @@ Takes old new piece =
 -- a call that passes a piece of a file: if it succeeds, the report has taken that many bytes of it, and fewer than all
 -- only if wrong cases remain; else the report is unchanged, for a reason
 pub record TakesBytes (piece : List ℕ) (old new : TableReport) (result : Result ℕ CallError) : Type 0 where
-  pub ready : OnOk result (IsReady old)
+  pub accepts : OnOk result (AcceptsBytes old)
   pub takes : IfOk result (λ used. Takes old new (take used piece))
   pub used : IfOk result (λ used. used ≤ length piece)
   pub stops : IfOk result (λ used. used < length piece → 0 < length (cases_left new))
@@ -67,7 +67,7 @@ Ends old new counts =
 -- a call that passes the end of a file: if it succeeds, the report has ended with these counts; else the report is
 -- unchanged, for a reason
 pub record EndsReport (old new : TableReport) (result : Result BidiCounts CallError) : Type 0 where
-  pub ready : OnOk result (IsReady old)
+  pub accepts : OnOk result (AcceptsBytes old)
   pub ends : IfOk result (Ends old new)
   pub unchanged : OnErr result (new ≡ old)
   pub reason : IfErr result (RejectsBytes old)

@@ -2,7 +2,7 @@
 use Rattle.std.specs.Prelude.{ℕ, Option, Some, None}
 use Rattle.bidtests.specs.declared.verdict.Cause.{Cause}
 use Rattle.report.specs.FileReports.{FileReport}
-use Rattle.report.specs.declared.tally.Tally.{Tally}
+use Rattle.report.specs.declared.case_counts.CaseCounts.{CaseCounts}
 use Rattle.report.specs.declared.wrong_case.Item.{Item}
 use Rattle.report.specs.declared.wrong_case.Item.TheVariants.{Ended, Removed, Level, Position}
 use Rattle.report.specs.declared.wrong_case.WrongCase.{WrongCase}
@@ -40,7 +40,7 @@ malformed_cause None = 0
 malformed_cause (Some m) = cause_number m.1
 
 -- counts, and the first malformed line
-abbrev pub counts_for_c : Tally → Option (ℕ × Cause) → BidiCounts
+abbrev pub counts_for_c : CaseCounts → Option (ℕ × Cause) → BidiCounts
 counts_for_c t malformed = record {
   rows = t.rows;
   cases = t.cases;
@@ -59,4 +59,4 @@ counts_for_c t malformed = record {
 
 -- the counts of a report
 abbrev pub counts_for_report : FileReport → BidiCounts
-counts_for_report report = counts_for_c report.tally report.malformed
+counts_for_report report = counts_for_c report.case_counts report.malformed

@@ -42,7 +42,7 @@ pub record WritesLineBytes (room : RoomOf) (start end : ℕ) (levels levels2 ord
   pub column2 : List (Option ℕ)
   pub line : WritesLineOf room start end column column2 order order2 shown
   pub bytes : take (end - start) levels2 ≡ map level_byte (take (end - start) column2)
-  pub behind : drop (end - start) levels2 ≡ drop (end - start) levels
+  pub following : drop (end - start) levels2 ≡ drop (end - start) levels
 
 -- no line of the text is written to so many places, for this reason
 abbrev pub RejectsLineOf : RoomOf → ℕ → ℕ → ℕ → CallError → Type 0

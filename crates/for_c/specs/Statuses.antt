@@ -66,13 +66,13 @@ place_named (Ok done) before = before
 place_named (Err error) before = place_of error
 
 -- a call returns the status of an outcome for which `IsSo` holds
-pub record Answers (IsSo : Outcome → Type 0) (status : ℕ) : Type 0 where
+pub record ReturnsStatus (IsSo : Outcome → Type 0) (status : ℕ) : Type 0 where
   pub outcome : Outcome
   pub coded : status ≡ status_of outcome
   pub so : IsSo outcome
 
 -- a call returns the status of an outcome for which `IsSo` holds, and the value that it names follows from the outcome
-pub record AnswersNaming {A : Type 0} (named : Outcome → A → A) (IsSo : Outcome → Type 0) (status : ℕ) (before after : A) : Type 0 where
+pub record ReturnsStatusNaming {A : Type 0} (named : Outcome → A → A) (IsSo : Outcome → Type 0) (status : ℕ) (before after : A) : Type 0 where
   pub outcome : Outcome
   pub coded : status ≡ status_of outcome
   pub place : after ≡ named outcome before

@@ -4,7 +4,7 @@ ghost use Rattle.for_c.specs.ReportNumbers.{counts_for_c, malformed_cause, malfo
 
 use crate::verdict::number_of_cause;
 use bidtests::verdict::Cause;
-use report::tally::Tally;
+use report::case_counts::CaseCounts;
 
 /// The counts of a report on a file up to its first malformed line, each at most 2^64 - 1, and that line.
 #[repr(C)]
@@ -50,22 +50,22 @@ fn malformed_for_c(malformed: Option<(u64, Cause)>) -> (u64, u32)
 }
 
 /// Returns counts as C gets them, with the first malformed line and its cause.
-pub(crate) fn counts_for_c(tally: &Tally, first_malformed: Option<(u64, Cause)>) -> BidiCounts
-    ensures { result ≡ counts_for_c tally.now first_malformed }
+pub(crate) fn counts_for_c(case_counts: &CaseCounts, first_malformed: Option<(u64, Cause)>) -> BidiCounts
+    ensures { result ≡ counts_for_c case_counts.now first_malformed }
 {
     let (malformed, cause) = malformed_for_c(first_malformed);
     BidiCounts {
-        rows: tally.rows,
-        cases: tally.cases,
-        wrong_rows: tally.wrong_rows,
-        wrong_cases: tally.wrong_cases,
-        ltr: tally.by_direction.ltr,
-        rtl: tally.by_direction.rtl,
-        auto: tally.by_direction.auto,
-        auto_rtl: tally.by_direction.auto_rtl,
-        para_level: tally.by_part.para_level,
-        levels: tally.by_part.levels,
-        order: tally.by_part.order,
+        rows: case_counts.rows,
+        cases: case_counts.cases,
+        wrong_rows: case_counts.wrong_rows,
+        wrong_cases: case_counts.wrong_cases,
+        ltr: case_counts.by_direction.ltr,
+        rtl: case_counts.by_direction.rtl,
+        auto: case_counts.by_direction.auto,
+        auto_rtl: case_counts.by_direction.auto_rtl,
+        para_level: case_counts.by_part.para_level,
+        levels: case_counts.by_part.levels,
+        order: case_counts.by_part.order,
         malformed,
         cause,
     }

@@ -2,7 +2,7 @@
 ghost use Rattle.std.specs.Prelude.{◌≡◌, ◌≤◌, length};
 ghost use Rattle.visual.specs.VisualRuns.{IsInOrder};
 ghost use Rattle.room.specs.Rooms.{characters_in};
-ghost use Rattle.for_c.specs.LineRuns.{PutsRuns, WritesRuns, run_told};
+ghost use Rattle.for_c.specs.LineRuns.{PutsRuns, WritesRuns, returned_run};
 
 use crate::runs::{BidiRun, run_for_c};
 use room::room::Room;
@@ -12,10 +12,10 @@ use visual::line_runs::{Runs, put};
 use visual::runs::VisualRun;
 
 /// Returns a run as C gets it, in units of the text's source or in positions of its characters.
-fn run_told(room: &Room, in_units: bool, run: VisualRun) -> BidiRun
+fn returned_run(room: &Room, in_units: bool, run: VisualRun) -> BidiRun
     requires forward { run.start ≤ run.end }
     requires inside { run.end ≤ characters_in room.now }
-    ensures { result ≡ run_told room.now in_units run }
+    ensures { result ≡ returned_run room.now in_units run }
 {
     room.offsets_rise();
     if in_units {
@@ -35,7 +35,7 @@ fn put_runs(room: &Room, line: &OrderedLine<'_>, in_units: bool, out: &mut [Bidi
 {
     let mut count = 0;
     for run in Runs::of(*line) {
-        put(out, count, run_told(room, in_units, run));
+        put(out, count, returned_run(room, in_units, run));
         count += 1;
     }
     count

@@ -2,7 +2,7 @@
 ghost use Rattle.std.specs.Prelude.{◌≡◌, Some, IfOk, IfErr};
 ghost use Rattle.std.specs.Char.{IsScalar};
 ghost use Rattle.std.specs.Option.{unwrap_or};
-ghost use Rattle.ucdfiles.specs.Tables.{glyph_by};
+ghost use Rattle.ucdfiles.specs.Tables.{mirror_by};
 ghost use Rattle.sources.specs.ClassNumbers.{class_numbered};
 ghost use Rattle.for_c.specs.Properties.{IsBracketOf, IsClassOf, IsUnitOf, RejectsCode, bracket_number};
 
@@ -86,7 +86,7 @@ pub fn bracket_of(tables: &Tables, code: u32) -> Result<u8, CallError>
 /// Returns the mirrored character of a code point (L4), or the code point if it has none or isn't a scalar value.
 pub fn mirror_image(tables: &Tables, code: u32) -> u32
     ensures other { (IsScalar code → ⊥) → result ≡ code }
-    ensures image { IsScalar code → result ≡ unwrap_or (glyph_by tables.now.mirrors code) code }
+    ensures image { IsScalar code → result ≡ unwrap_or (mirror_by tables.now.mirrors code) code }
 {
     let Some(c) = char::from_u32(code) else {
         return code;

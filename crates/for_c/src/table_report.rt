@@ -2,7 +2,7 @@
 ghost use Rattle.std.specs.Prelude.{◌≡◌, ◌↔◌, ◌≤◌, ◌<◌, [], true, false, IfErr, IfOk, MatchOption, OnOk, length, take};
 ghost use Rattle.std.specs.Option.{option_map};
 ghost use Rattle.std.specs.Arc.{arc_value};
-ghost use Rattle.for_c.specs.ReportCalls.{Ends, EndsReport, IsReady, RejectsBytes, Returns, ReturnsNext, Takes};
+ghost use Rattle.for_c.specs.ReportCalls.{Ends, EndsReport, AcceptsBytes, RejectsBytes, Returns, ReturnsNext, Takes};
 ghost use Rattle.for_c.specs.ReportCalls.{TakesBytes};
 ghost use Rattle.for_c.specs.TableReports.{HasReported, cases_left};
 
@@ -66,8 +66,8 @@ impl TableReport {
 
     /// Tests whether it can take bytes, or the end of its file. Fails with `NoReport` if the file has ended, and else
     /// with `CasesLeft` if it has wrong cases that it has not yet returned.
-    fn check_ready(&self) -> Result<(), CallError>
-        ensures ready { OnOk result (IsReady self.now) }
+    fn check_accepts(&self) -> Result<(), CallError>
+        ensures accepts { OnOk result (AcceptsBytes self.now) }
         ensures reason { IfErr result (RejectsBytes self.now) }
     {
         if self.ended {
@@ -113,7 +113,7 @@ impl TableReport {
     pub fn feed(&mut self, piece: &[u8]) -> Result<usize, CallError>
         ensures { TakesBytes piece.now self.old self.new result }
     {
-        self.check_ready()?;
+        self.check_accepts()?;
         Ok(self.take_piece(piece))
     }
 
@@ -146,7 +146,7 @@ impl TableReport {
         self.state.finish(kind_by(&self.tables));
         self.returned = 0;
         self.ended = true;
-        counts_for_c(&self.state.tally(), self.state.malformed())
+        counts_for_c(&self.state.case_counts(), self.state.malformed())
     }
 
     /// Takes the end of the file. Returns the counts of the whole file. Afterwards it has the wrong cases of a last
@@ -157,7 +157,7 @@ impl TableReport {
     pub fn finish(&mut self) -> Result<BidiCounts, CallError>
         ensures { EndsReport self.old self.new result }
     {
-        self.check_ready()?;
+        self.check_accepts()?;
         Ok(self.end())
     }
 }

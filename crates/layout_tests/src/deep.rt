@@ -58,14 +58,14 @@ fn overflows(rt: HostRuntime) -> Result<(), Fail> {
 }
 
 /// Lays out 63 LRE and then these units. They stay at level 124, in this order.
-fn stays_behind_embeddings(
+fn stays_after_embeddings(
     rt: &impl Abort,
     alloc: Global,
-    behind: &str,
+    following: &str,
     order: &[usize],
 ) -> Result<(), Fail> {
     let mut text = vec![in alloc; unit(Class::LRE); 63]?;
-    append_units(&mut text, behind)?;
+    append_units(&mut text, following)?;
     let mut expected = Vec::new(alloc);
     repeated(&mut expected, 63, 127)?;
     repeated(&mut expected, order.len(), 124)?;
@@ -75,13 +75,13 @@ fn stays_behind_embeddings(
 /// X5a: an isolate initiator inside an overflow of embeddings overflows too. The units inside it stay at level 124.
 #[test]
 fn isolates_inside_an_overflow(rt: HostRuntime) -> Result<(), Fail> {
-    stays_behind_embeddings(&rt, rt.alloc(), "RLI L", &[63, 64])
+    stays_after_embeddings(&rt, rt.alloc(), "RLI L", &[63, 64])
 }
 
 /// X6a: the PDI of an initiator that overflowed closes nothing else.
 #[test]
 fn pdis_inside_an_overflow(rt: HostRuntime) -> Result<(), Fail> {
-    stays_behind_embeddings(&rt, rt.alloc(), "RLI PDI L", &[63, 64, 65])
+    stays_after_embeddings(&rt, rt.alloc(), "RLI PDI L", &[63, 64, 65])
 }
 
 /// Appends the characters `a(x)ya`, where x and y are Hebrew letters, then `n` opening brackets, x, `n` closing ones,
@@ -225,7 +225,7 @@ fn level_by_depth(rt: &impl Abort, room: &mut Scratch, depth: u8, level: u8) -> 
 
 /// X4: at depth 1 the LRE, which requests level 2, overflows. One `Scratch` serves all depths.
 #[test]
-fn lays_out_by_the_limits_that_are_handed_in(rt: HostRuntime) -> Result<(), Fail> {
+fn lays_out_with_the_given_limits(rt: HostRuntime) -> Result<(), Fail> {
     let mut room = Scratch::with_room(rt.alloc(), 3)?;
     for (depth, level) in [(1, 1), (2, 3), (125, 3)] {
         level_by_depth(&rt, &mut room, depth, level)?;

@@ -5,7 +5,7 @@ ghost use Rattle.std.specs.Prelude.{◌≡◌, OnOk};
 use crate::given::{levels, numbers, shows, unit, units_of};
 use lines::alone::{SEARCH_STEPS, SpanFault};
 use lines::breaks::{BreakFault, Breaks};
-use lines::lay_out::{TooLong, break_anew_into, lay_out_into, line_alone_into};
+use lines::lay_out::{TooLong, set_lines_into, lay_out_into, line_alone_into};
 use lines::layout::Layout;
 use lines::scratch::{RoomFault, Scratch};
 use std::alloc::Global;
@@ -83,27 +83,27 @@ fn no_growth_comes_after_making(rt: HostRuntime) -> Result<(), Fail> {
 }
 
 /// Lays out this text on one line, rebreaks it before the second letter, and then rebreaks it to one line.
-fn breaks_anew(rt: &impl Abort, room: &mut Scratch) -> Result<(), Fail> {
+fn sets_lines(rt: &impl Abort, room: &mut Scratch) -> Result<(), Fail> {
     let text = [unit(Class::R), unit(Class::WS), unit(Class::R)];
     let whole = Breaks::new(&[], text.len())?;
     lay_out_into(room, &text, Direction::Ltr, &whole)?;
     let at = [2];
     let broken = Breaks::new(&at, text.len())?;
-    break_anew_into(room, &text, &broken);
+    set_lines_into(room, &text, &broken);
     let layout = room.layout();
     assert_eq!(rt; layout.line_count(), 2);
     line_shows(rt, &layout, 0, &[Level::new(1), Level::new(0)], &[0, 1]);
     line_shows(rt, &layout, 1, &[Level::new(1)], &[2]);
-    break_anew_into(room, &text, &whole);
+    set_lines_into(room, &text, &whole);
     let levels = [Level::new(1), Level::new(1), Level::new(1)];
     line_shows(rt, &room.layout(), 0, &levels, &[2, 1, 0]);
     Ok(())
 }
 
 #[test]
-fn breaks_a_text_anew(rt: HostRuntime) -> Result<(), Fail> {
+fn sets_lines_of_a_text(rt: HostRuntime) -> Result<(), Fail> {
     let mut room = Scratch::with_room(rt.alloc(), 3)?;
-    breaks_anew(&rt, &mut room)
+    sets_lines(&rt, &mut room)
 }
 
 /// Lays out this text on one line, and then its first letter and the space as a line alone. The layout in the `Scratch`
@@ -118,13 +118,13 @@ fn lays_out_alone(rt: &impl Abort, room: &mut Scratch) -> Result<(), Fail> {
     assert_eq!(rt; shown, Ok(2));
     assert_eq!(rt; levels, [Level::new(1), Level::new(0)]);
     assert_eq!(rt; order, [0, 1]);
-    let held = [Level::new(1), Level::new(1), Level::new(1)];
-    line_shows(rt, &room.layout(), 0, &held, &[2, 1, 0]);
+    let stored = [Level::new(1), Level::new(1), Level::new(1)];
+    line_shows(rt, &room.layout(), 0, &stored, &[2, 1, 0]);
     Ok(())
 }
 
 /// Rejects a line that ends after the end of this text. The lists are unchanged.
-fn refuses_alone(rt: &impl Abort, room: &mut Scratch) -> Result<(), Fail> {
+fn rejects_line_alone(rt: &impl Abort, room: &mut Scratch) -> Result<(), Fail> {
     let text = [unit(Class::R), unit(Class::WS), unit(Class::R)];
     let whole = Breaks::new(&[], text.len())?;
     lay_out_into(room, &text, Direction::Ltr, &whole)?;
@@ -153,15 +153,15 @@ fn counts_a_search_through_the_paragraphs_as_25_steps(rt: HostRuntime) {
 fn lays_out_one_line_alone(rt: HostRuntime) -> Result<(), Fail> {
     let mut room = Scratch::with_room(rt.alloc(), 3)?;
     lays_out_alone(&rt, &mut room)?;
-    refuses_alone(&rt, &mut room)
+    rejects_line_alone(&rt, &mut room)
 }
 
 /// Rejects a text of three units at a capacity of two, and then lays out a text of two.
-fn refuses_then_lays_out(rt: &impl Abort, room: &mut Scratch) -> Result<(), Fail> {
+fn fails_then_lays_out(rt: &impl Abort, room: &mut Scratch) -> Result<(), Fail> {
     let long = [unit(Class::R), unit(Class::WS), unit(Class::R)];
     let breaks = Breaks::new(&[], long.len())?;
-    let answer = lay_out_into(room, &long, Direction::Ltr, &breaks);
-    assert_eq!(rt; answer, Err(TooLong));
+    let outcome = lay_out_into(room, &long, Direction::Ltr, &breaks);
+    assert_eq!(rt; outcome, Err(TooLong));
     let text = [unit(Class::L), unit(Class::L)];
     let expected = [Level::new(0), Level::new(0)];
     shows(rt, room, &text, Direction::Ltr, &expected, &[0, 1])
@@ -170,7 +170,7 @@ fn refuses_then_lays_out(rt: &impl Abort, room: &mut Scratch) -> Result<(), Fail
 #[test]
 fn lays_out_after_too_long(rt: HostRuntime) -> Result<(), Fail> {
     let mut room = Scratch::with_room(rt.alloc(), 2)?;
-    refuses_then_lays_out(&rt, &mut room)
+    fails_then_lays_out(&rt, &mut room)
 }
 
 /// Lays out a Hebrew letter and a digit, a separator, and a Latin letter, with this break.
@@ -226,7 +226,7 @@ fn break_shows(
 }
 
 #[test]
-fn a_break_behind_a_separator_adds_nothing(rt: HostRuntime) -> Result<(), Fail> {
+fn a_break_after_a_separator_adds_nothing(rt: HostRuntime) -> Result<(), Fail> {
     break_shows(&rt, rt.alloc(), 3, &[("1 2 1", "2 1 0"), ("0", "3")])
 }
 
@@ -237,7 +237,7 @@ fn a_break_begins_a_line(rt: HostRuntime) -> Result<(), Fail> {
 }
 
 #[test]
-fn refuses_too_much_room(rt: HostRuntime) {
+fn rejects_too_large_capacity(rt: HostRuntime) {
     assert_eq!(rt;
         Scratch::with_room(rt.alloc(), 16_777_217).err(),
         Some(RoomFault::TooBig)

@@ -16,10 +16,10 @@ use Rattle.units.specs.Reordering.{para_level_at}
 use Rattle.units.specs.declared.bracket.Unit.{Unit as BidiUnit}
 use Rattle.units.specs.declared.class.Class.{Class}
 use Rattle.units.specs.declared.level.Direction.{Direction}
-use Rattle.explicit.proofs.LevelsFound.OneCutting.{IsCut-paragraphs_of, joined-paragraphs_of}
+use Rattle.explicit.proofs.LevelsComputed.OneCutting.{IsCut-paragraphs_of, joined-paragraphs_of}
 use Rattle.paragraph.specs.Resolvers.{StaysAt}
-use Rattle.paragraph.proofs.FlatLevels.{kept_stays, levels_are_kept}
-use Rattle.lines.specs.Kept.{keeps_own_level}
+use Rattle.paragraph.proofs.FlatLevels.{unchanged_stays, levels_are_unchanged}
+use Rattle.lines.specs.Unchanged.{keeps_own_level}
 use Rattle.lines.specs.Spaces.{AreAtParas}
 use Rattle.lines.proofs.Separators.{count-cons}
 use Rattle.lines.proofs.TextLevels.{para_level, para_levels}
@@ -100,4 +100,4 @@ module _ (limits : LimitsOf) (direction : Direction) where
   -- paragraphs that keep their levels have them at each remaining position
   pub all_stay : (pieces : List (List BidiUnit)) → list_all (keeps_own_level direction) pieces ≡ true → All (Stays limits direction) pieces
   all_stay [] keeps = All-nil (Stays limits direction)
-  all_stay (us ∷ pieces) keeps = grind (arith, and_parts, kept_stays, levels_are_kept, all_stay pieces)
+  all_stay (us ∷ pieces) keeps = grind (arith, and_parts, unchanged_stays, levels_are_unchanged, all_stay pieces)

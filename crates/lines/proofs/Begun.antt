@@ -7,7 +7,7 @@ use Rattle.units.specs.declared.bracket.Unit.{Unit as BidiUnit}
 use Rattle.units.specs.declared.class.Class.{Class}
 use Rattle.units.specs.Classes.{class_at, classes_of, is_separator}
 use Rattle.lines.specs.LineEnds.{AreAllParagraphEnds, AreParagraphEnds, paragraph_start}
-use Rattle.lines.proofs.ParagraphFound.{counted_paragraphs}
+use Rattle.lines.proofs.ParagraphSearch.{counted_paragraphs}
 use Rattle.lines.proofs.TextEnd.{counted_step}
 use Rattle.lines.proofs.Unsegmented.{at_most_one, counted_up_to}
 

@@ -13,5 +13,5 @@ known_level false levels start end level para e u = tt
 
 -- a fact about a known level holds if the level is known
 pub where_known : {P : Type 0} (known : Bool) (para : ParaLevel) (level : Option ParaLevel) → level ≡ then_some known para → IfSome level (λ _. P) → known ≡ true → P
-where_known {P} true para level e said is = subst (λ o. IfSome o (λ _. P)) e said
-where_known {P} false para level e said is = cc
+where_known {P} true para level e noted is = subst (λ o. IfSome o (λ _. P)) e noted
+where_known {P} false para level e noted is = cc

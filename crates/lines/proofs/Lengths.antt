@@ -10,9 +10,9 @@ use Rattle.units.specs.declared.level.Direction.{Direction}
 use Rattle.lines.proofs.TextEnd.{length-after_resets}
 use Rattle.units.proofs.Lengths.{length-resolved_levels}
 
-module _ (f : List BidiUnit → List (Option ℕ)) (kept : (us : List BidiUnit) → length (f us) ≡ length us) where
+module _ (f : List BidiUnit → List (Option ℕ)) (unchanged : (us : List BidiUnit) → length (f us) ≡ length us) where
   length-begun : (unit : BidiUnit) (pieces : List (List BidiUnit)) → length (flat_map f (begin_with unit pieces)) ≡ suc (length (flat_map f pieces))
-  length-begun unit [] = omega (arith, length-append (f (unit ∷ [])) [], kept (unit ∷ []))
+  length-begun unit [] = omega (arith, length-append (f (unit ∷ [])) [], unchanged (unit ∷ []))
   length-begun unit (piece ∷ pieces) = grind (arith, length-append)
 
   length-paragraphs : (text : List BidiUnit) → length (flat_map f (paragraphs_of text)) ≡ length text

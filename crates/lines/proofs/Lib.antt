@@ -12,8 +12,8 @@ pub mod BreakAt
 pub mod Lengths
 pub mod LineEnd
 pub mod TextEnd
-pub mod KeptLevels
-pub mod KeptResolved
+pub mod UnchangedLevels
+pub mod ResolvedUnchanged
 pub mod RemovedLevels
 pub mod CutLines
 pub mod LineEnds
@@ -21,7 +21,7 @@ pub mod NextLine
 pub mod ParagraphLines
 pub mod LinesWritten
 pub mod LinesRead
-pub mod Law
+pub mod Theorem
 pub mod Uniform
 pub mod Whole
 pub mod Joining
@@ -29,10 +29,10 @@ pub mod RunChains
 pub mod RunLinking
 pub mod RunWriting
 pub mod LineAlone
-pub mod ParagraphFound
+pub mod ParagraphSearch
 pub mod OneUnit
 pub mod OrderAlone
-pub mod LineHeld
+pub mod LineStored
 pub mod KnownLevels
 pub mod Unsegmented
 pub mod Begun

@@ -16,8 +16,8 @@ pub ends_more : (own : List Class) (breaks : List ℕ) (lines start end : ℕ) (
 ends_more own breaks lines start end bounds bound e room cut is = grind (arith, get_or-set_other, get_or-set_same)
 
 -- writing the end of an order changes no end of a line
-pub end_kept : (bounds : List Bound) (i order k : ℕ) → i < length bounds → (bound_at (set bounds i (record { position = (bound_at bounds i).position; order = order })) k).position ≡ (bound_at bounds k).position
-end_kept bounds i order k room = grind (arith, get_or-set_same, get_or-set_other)
+pub end_unchanged : (bounds : List Bound) (i order k : ℕ) → i < length bounds → (bound_at (set bounds i (record { position = (bound_at bounds i).position; order = order })) k).position ≡ (bound_at bounds k).position
+end_unchanged bounds i order k room = grind (arith, get_or-set_same, get_or-set_other)
 
 -- the same line, with its ends read from elsewhere
 pub cut_read : (test : ℕ → Bool) (start end from to stop : ℕ) → from ≡ start → to ≡ end → EndsLineAt test start end stop → EndsLineAt test from to stop

@@ -15,8 +15,8 @@ use Rattle.units.specs.declared.class.Class.{Class}
 use Rattle.lines.specs.declared.bounds.Bound.{Bound}
 use Rattle.lines.specs.Bounds.{first_bound, bound_at, line_between, line_in, lines_in, Follows, AreBounds}
 use Rattle.lines.specs.LineEnds.{EndsLineAt}
-use Rattle.lines.proofs.CutLines.{lines_left, lines_left-next}
-use Rattle.lines.proofs.Law.{line_order-places}
+use Rattle.lines.proofs.CutLines.{remaining_lines, remaining_lines-next}
+use Rattle.lines.proofs.Theorem.{line_order-places}
 use Rattle.units.proofs.Positions.{positions_from-next}
 
 -- the lines before the position start are written
@@ -26,7 +26,7 @@ pub record Filling (levels : List (Option ℕ)) (test : ℕ → Bool) (start : �
   pub fits : length orders ≤ start
   pub bounded : AreBounds levels orders bounds
   pub last : bound_at bounds (length bounds - 1) ≡ record { position = start; order = length orders }
-  pub lines : lines_in orders bounds ++ lines_left levels test start (length levels) (length levels - start) ≡ lines_left levels test 0 (length levels) (length levels)
+  pub lines : lines_in orders bounds ++ remaining_lines levels test start (length levels) (length levels - start) ≡ remaining_lines levels test 0 (length levels) (length levels)
 
 one_inside : (limit k : ℕ) → k < 1 → (bound_at (first_bound ∷ []) k).position ≤ limit
 one_inside limit zero h = omega arith
@@ -39,14 +39,14 @@ one_written limit (suc k) h = absurd (omega arith)
 pub filling_start : (levels : List (Option ℕ)) (test : ℕ → Bool) → Filling levels test 0 [] (first_bound ∷ [])
 filling_start levels test = grind (arith, one_inside, one_written)
 
-bound_kept : (bounds : List Bound) (bound : Bound) (k : ℕ) → k < length bounds → bound_at (bounds ++ bound ∷ []) k ≡ bound_at bounds k
-bound_kept bounds bound k h = get_or-append bounds (bound ∷ []) first_bound k h
+bound_unchanged : (bounds : List Bound) (bound : Bound) (k : ℕ) → k < length bounds → bound_at (bounds ++ bound ∷ []) k ≡ bound_at bounds k
+bound_unchanged bounds bound k h = get_or-append bounds (bound ∷ []) first_bound k h
 
 bound_new : (bounds : List Bound) (bound : Bound) (k : ℕ) → k ≡ length bounds → bound_at (bounds ++ bound ∷ []) k ≡ bound
 bound_new bounds bound k h = ap (bound_at (bounds ++ bound ∷ [])) h ∙ get_or-append_seam bounds bound [] first_bound
 
-range_kept : (orders more : List ℕ) (a b : ℕ) → b ≤ length orders → slice_range (orders ++ more) a b ≡ slice_range orders a b
-range_kept orders more a b h =
+range_unchanged : (orders more : List ℕ) (a b : ℕ) → b ≤ length orders → slice_range (orders ++ more) a b ≡ slice_range orders a b
+range_unchanged orders more a b h =
     between_is (orders ++ more) a b ∙ ap (drop a) (take-append-le b orders more h) ∙ sym (between_is orders a b)
 
 range_new : (orders more : List ℕ) → slice_range (orders ++ more) (length orders) (length orders + length more) ≡ more
@@ -56,8 +56,8 @@ map_same : (f g : ℕ → LineLayout) (start count : ℕ) → ((k : ℕ) → sta
 map_same f g start zero same = refl
 map_same f g start (suc count) same = grind (arith, map_same f g (start + 1) count)
 
-line_kept : (orders more : List ℕ) (from to : Bound) → to.order ≤ length orders → line_between (orders ++ more) from to ≡ line_between orders from to
-line_kept orders more from to h = grind (arith, range_kept)
+line_unchanged : (orders more : List ℕ) (from to : Bound) → to.order ≤ length orders → line_between (orders ++ more) from to ≡ line_between orders from to
+line_unchanged orders more from to h = grind (arith, range_unchanged)
 
 -- the lines with one more line
 pub lines_in-more : (levels : List (Option ℕ)) (orders more : List ℕ) (bounds : List Bound) (start end : ℕ) → AreBounds levels orders bounds → bound_at bounds (length bounds - 1) ≡ record { position = start; order = length orders } → lines_in (orders ++ more) (bounds ++ record { position = end; order = length orders + length more } ∷ []) ≡ lines_in orders bounds ++ record { start = start; end = end; order = more } ∷ []
@@ -69,10 +69,10 @@ lines_in-more levels orders more bounds start end b last =
     let e : length bounds2 - 1 ≡ suc n = omega (arith, length-append bounds (bound ∷ []), b.some) in
     let same : (k : ℕ) → 0 ≤ k → k < 0 + n → line_in orders2 bounds2 k ≡ line_in orders bounds k =
     λ k low high.
-    ap (λ from. line_between orders2 from (bound_at bounds2 (k + 1))) (bound_kept bounds bound k (omega arith))
-    ∙ ap (line_between orders2 (bound_at bounds k)) (bound_kept bounds bound (k + 1) (omega arith))
-    ∙ line_kept orders more (bound_at bounds k) (bound_at bounds (k + 1)) (b.written (k + 1) (omega arith)) in
-    let from : bound_at bounds2 n ≡ record { position = start; order = length orders } = bound_kept bounds bound n (omega (arith, b.some)) ∙ last in
+    ap (λ from. line_between orders2 from (bound_at bounds2 (k + 1))) (bound_unchanged bounds bound k (omega arith))
+    ∙ ap (line_between orders2 (bound_at bounds k)) (bound_unchanged bounds bound (k + 1) (omega arith))
+    ∙ line_unchanged orders more (bound_at bounds k) (bound_at bounds (k + 1)) (b.written (k + 1) (omega arith)) in
+    let from : bound_at bounds2 n ≡ record { position = start; order = length orders } = bound_unchanged bounds bound n (omega (arith, b.some)) ∙ last in
     let to : bound_at bounds2 (n + 1) ≡ bound = bound_new bounds bound (n + 1) (omega (arith, b.some)) in
     let line : List ℕ → LineLayout = λ order. record { start = start; end = end; order = order } in
     let here : line_in orders2 bounds2 n ≡ line more =
@@ -97,23 +97,23 @@ bounds_more levels orders more bounds start end le within places b last =
       rising = λ k h. elim (cases_lt (k + 1) (length bounds)) [
         | inl l ↦
             let P : Bound → Bound → Type 0 = λ x y. Follows x y in
-            subst (λ x. Follows x (bound_at bounds2 (k + 1))) (sym (bound_kept bounds bound k (omega arith)))
-            (subst (Follows (bound_at bounds k)) (sym (bound_kept bounds bound (k + 1) l)) (b.rising k l))
+            subst (λ x. Follows x (bound_at bounds2 (k + 1))) (sym (bound_unchanged bounds bound k (omega arith)))
+            (subst (Follows (bound_at bounds k)) (sym (bound_unchanged bounds bound (k + 1) l)) (b.rising k l))
         | inr l ↦
             let same : k ≡ n = omega (arith, b.some) in
-            let from : bound_at bounds2 k ≡ record { position = start; order = length orders } = bound_kept bounds bound k (omega (arith, b.some)) ∙ ap (bound_at bounds) same ∙ last in
+            let from : bound_at bounds2 k ≡ record { position = start; order = length orders } = bound_unchanged bounds bound k (omega (arith, b.some)) ∙ ap (bound_at bounds) same ∙ last in
             let to : bound_at bounds2 (k + 1) ≡ bound = bound_new bounds bound (k + 1) (omega (arith, b.some)) in
             subst (λ x. Follows x (bound_at bounds2 (k + 1))) (sym from)
             (subst (Follows (record { position = start; order = length orders })) (sym to) (record { position = le; order = omega arith }))
       ];
       inside = λ k h. elim (cases_lt k (length bounds)) [
-        | inl l ↦ let i = b.inside k l in subst (λ x. x.position ≤ length levels) (sym (bound_kept bounds bound k l)) i
+        | inl l ↦ let i = b.inside k l in subst (λ x. x.position ≤ length levels) (sym (bound_unchanged bounds bound k l)) i
         | inr l ↦ subst (λ x. x.position ≤ length levels) (sym (bound_new bounds bound k (omega arith))) within
       ];
       written = λ k h. elim (cases_lt k (length bounds)) [
         | inl l ↦
             let w = b.written k l in
-            subst (λ x. x.order ≤ length (orders ++ more)) (sym (bound_kept bounds bound k l)) (omega (arith, length-append orders more))
+            subst (λ x. x.order ≤ length (orders ++ more)) (sym (bound_unchanged bounds bound k l)) (omega (arith, length-append orders more))
         | inr l ↦ subst (λ x. x.order ≤ length (orders ++ more)) (sym (bound_new bounds bound k (omega arith))) (omega (arith, length-append orders more))
       ];
       places = All-append (λ p. p < length levels) orders more b.places places;
@@ -127,7 +127,7 @@ filling_next levels test start end orders bounds c fits f =
     let count : length bounds2 ≡ length bounds + 1 = omega (arith, length-append bounds (bound ∷ [])) in
     let last : length bounds2 - 1 ≡ length bounds = omega arith in
     let at_end : ℕ → Bound = λ n. record { position = end; order = n } in
-    let rest = lines_left levels test end (length levels) (length levels - end) in
+    let rest = remaining_lines levels test end (length levels) (length levels - end) in
     record {
       inside = c.within;
       few = omega (arith, f.few, c.above);
@@ -139,7 +139,7 @@ filling_next levels test start end orders bounds c fits f =
       lines =
           ap (λ ls. ls ++ rest) (lines_in-more levels orders more bounds start end f.bounded f.last)
           ∙ append_assoc (lines_in orders bounds) (line_of levels start end ∷ []) rest
-          ∙ ap (λ ls. lines_in orders bounds ++ ls) (sym (lines_left-next levels test start end (length levels) c))
+          ∙ ap (λ ls. lines_in orders bounds ++ ls) (sym (remaining_lines-next levels test start end (length levels) c))
           ∙ f.lines;
     }
 
@@ -154,10 +154,10 @@ filling_more levels test start end orders orders2 bounds bounds2 c written few b
     (filling_next levels test start end orders bounds c (omega arith) f))
 
 -- at the start, all lines of the text remain
-all_left : (levels : List (Option ℕ)) (own : List Class) (breaks : List ℕ) → length own ≡ length levels → lines_left levels (begins_line own breaks) 0 (length levels) (length levels) ≡ lines_cut_at levels (cuts_of own breaks)
-all_left [] own breaks same = refl
-all_left (level ∷ levels) own breaks same = grind arith
+all_lines_remaining : (levels : List (Option ℕ)) (own : List Class) (breaks : List ℕ) → length own ≡ length levels → remaining_lines levels (begins_line own breaks) 0 (length levels) (length levels) ≡ lines_cut_at levels (cuts_of own breaks)
+all_lines_remaining [] own breaks same = refl
+all_lines_remaining (level ∷ levels) own breaks same = grind arith
 
 -- at the end of the text, all lines are written
 pub filling_end : (levels : List (Option ℕ)) (own : List Class) (breaks : List ℕ) (start : ℕ) (orders : List ℕ) (bounds : List Bound) → length own ≡ length levels → start ≡ length levels → Filling levels (begins_line own breaks) start orders bounds → lines_in orders bounds ≡ lines_cut_at levels (cuts_of own breaks)
-filling_end levels own breaks start orders bounds same done f = grind (arith, append-nil, all_left)
+filling_end levels own breaks start orders bounds same done f = grind (arith, append-nil, all_lines_remaining)

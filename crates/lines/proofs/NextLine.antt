@@ -11,7 +11,7 @@ use Rattle.lines.proofs.BreakAt.{is_break_at, is_break_none, rising_le}
 
 -- at the start of the text no break has been passed
 pub passed_none : (at : List ℕ) (len : ℕ) → AreBreaks at len → BreaksArePassed at 0 0
-passed_none at len breaks = record { behind = λ k h some. absurd (omega arith); ahead = λ h. let i = breaks.inside 0 h in i.after_start }
+passed_none at len breaks = record { following = λ k h some. absurd (omega arith); ahead = λ h. let i = breaks.inside 0 h in i.after_start }
 
 -- the limit is the next break, or the end of the text
 pub record IsLimit (at : List ℕ) (passed len limit : ℕ) : Type 0 where
@@ -26,7 +26,7 @@ limit_above at passed len start limit q below l = grind arith
 no_break : (at : List ℕ) (passed start len limit p : ℕ) → AreBreaks at len → BreaksArePassed at passed start → IsLimit at passed len limit → start < p → p < limit → is_break at p ≡ false
 no_break at passed start len limit p breaks q l low high =
     is_break_none at p (λ k h e. elim (cases_lt k passed) [
-      | inl below ↦ let b = q.behind k below h in omega arith
+      | inl below ↦ let b = q.following k below h in omega arith
       | inr above ↦
           let some : passed < length at = omega arith in
           let there : passed + (k - passed) ≡ k = omega arith in

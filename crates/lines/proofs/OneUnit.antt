@@ -8,11 +8,11 @@ use Rattle.units.specs.Layout.{no_unit}
 use Rattle.units.specs.Limits.{LimitsOf}
 use Rattle.units.specs.declared.bracket.Unit.{Unit as BidiUnit}
 use Rattle.units.specs.declared.level.Direction.{Direction}
-use Rattle.paragraph.specs.Resolvers.{IsKeptUnit, keeps_unit}
-use Rattle.paragraph.specs.declared.one_unit.KeptUnit.{KeptUnit}
+use Rattle.paragraph.specs.Resolvers.{IsRemainingUnit, keeps_unit}
+use Rattle.paragraph.specs.declared.one_unit.RemainingUnit.{RemainingUnit}
 use Rattle.lines.specs.Bounds.{bound_at, first_bound}
 use Rattle.lines.specs.Columns.{levels_filled, para_ends_filled, paras_filled}
-use Rattle.lines.specs.Kept.{each_keeps_level}
+use Rattle.lines.specs.Unchanged.{each_keeps_level}
 use Rattle.lines.specs.LineEnds.{AreAllLineEnds, AreAllParagraphEnds}
 use Rattle.lines.specs.ResolvedTexts.{IsResolved, one_unit}
 use Rattle.lines.specs.declared.bounds.Bound.{Bound}
@@ -39,13 +39,13 @@ line_one unit bounds first last breaks = record {
   last = last;
 }
 
-pub is_resolved : (text : List BidiUnit) (direction : Direction) (kept : KeptUnit) (columns : TextColumns) (bounds : List Bound) →
-    length text ≡ 1 → IsKeptUnit direction (get_or text 0 no_unit) kept → paras_filled 1 columns ≡ kept.para ∷ [] → para_ends_filled 1 columns ≡ 1 ∷ [] →
-    levels_filled 1 columns ≡ kept.level ∷ [] → bound_at bounds 0 ≡ first_bound → (bound_at bounds 1).position ≡ 1 →
+pub is_resolved : (text : List BidiUnit) (direction : Direction) (unchanged : RemainingUnit) (columns : TextColumns) (bounds : List Bound) →
+    length text ≡ 1 → IsRemainingUnit direction (get_or text 0 no_unit) unchanged → paras_filled 1 columns ≡ unchanged.para ∷ [] → para_ends_filled 1 columns ≡ 1 ∷ [] →
+    levels_filled 1 columns ≡ unchanged.level ∷ [] → bound_at bounds 0 ≡ first_bound → (bound_at bounds 1).position ≡ 1 →
     (limits : LimitsOf) (breaks : List ℕ) → IsResolved limits text direction breaks one_unit columns bounds
-is_resolved [] direction kept columns bounds one k p e l first last limits breaks = absurd (omega arith)
-is_resolved (unit ∷ second ∷ others) direction kept columns bounds one k p e l first last limits breaks = absurd (omega arith)
-is_resolved (unit ∷ []) direction kept columns bounds one k p e l first last limits breaks = record {
+is_resolved [] direction unchanged columns bounds one k p e l first last limits breaks = absurd (omega arith)
+is_resolved (unit ∷ second ∷ others) direction unchanged columns bounds one k p e l first last limits breaks = absurd (omega arith)
+is_resolved (unit ∷ []) direction unchanged columns bounds one k p e l first last limits breaks = record {
   paras = ap (map level_of_para) p ∙ ap (λ (n : ℕ). n ∷ []) k.para;
   para_ends = subst (AreAllParagraphEnds (unit ∷ [])) (sym e) (ends_one unit);
   few = omega arith;

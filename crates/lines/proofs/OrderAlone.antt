@@ -3,7 +3,7 @@ use Rattle.std.proofs.Common.{◌≡◌, ℕ, ◌+◌, ◌-◌, ◌<◌, ◌≤�
 use Rattle.std.specs.Prelude.{fold, map, slice_range}
 use Rattle.std.proofs.lemmas.List.{ext_get_or}
 use Rattle.std.proofs.lemmas.List.Edits.{get_or-between, length-between}
-use Rattle.units.specs.Reordering.{is_even_level, least_of, line_order, order_from, placed, placed_if, stands_before}
+use Rattle.units.specs.Reordering.{is_even_level, least_of, line_order, order_from, placed, placed_if, precedes}
 use Rattle.lines.specs.LinePositions.{IsAmong}
 use Rattle.lines.proofs.LineOrder.{order_from-in_order}
 
@@ -29,20 +29,20 @@ module _ (all : List (Option ℕ)) (start : ℕ) (line : List (Option ℕ)) (a :
       ∙ a.same (i + k) (omega arith)
       ∙ sym (get_or-between line i (j + 1) k None (omega arith)))
 
-  before_same : (i j : ℕ) → i ≤ j → j < length line → stands_before all (start + i) (start + j) ≡ stands_before line i j
+  before_same : (i j : ℕ) → i ≤ j → j < length line → precedes all (start + i) (start + j) ≡ precedes line i j
   before_same i j le lt = ap (λ (xs : List (Option ℕ)). is_even_level (fold least_of None xs)) (range_same i j le lt)
 
   placed_same_by : (b : Bool) (i j : ℕ) (js ks : List ℕ) → ks ≡ map moved (placed line i js) → cond b ((start + i) ∷ (start + j) ∷ map moved js) ((start + j) ∷ ks) ≡ map moved (cond b (i ∷ j ∷ js) (j ∷ placed line i js))
   placed_same_by true i j js ks e = refl
   placed_same_by false i j js ks e = ap (λ xs. (start + j) ∷ xs) e
 
-  placed_same : (i : ℕ) (js : List ℕ) → ((j : ℕ) → IsAmong js j → stands_before all (start + i) (start + j) ≡ stands_before line i j) → placed all (start + i) (map moved js) ≡ map moved (placed line i js)
+  placed_same : (i : ℕ) (js : List ℕ) → ((j : ℕ) → IsAmong js j → precedes all (start + i) (start + j) ≡ precedes line i j) → placed all (start + i) (map moved js) ≡ map moved (placed line i js)
   placed_same i [] same = refl
   placed_same i (j ∷ js) same =
       ap (λ b. cond b ((start + i) ∷ (start + j) ∷ map moved js) ((start + j) ∷ placed all (start + i) (map moved js))) (same j (inl refl))
-      ∙ placed_same_by (stands_before line i j) i j js (placed all (start + i) (map moved js)) (placed_same i js (λ k h. same k (inr h)))
+      ∙ placed_same_by (precedes line i j) i j js (placed all (start + i) (map moved js)) (placed_same i js (λ k h. same k (inr h)))
 
-  placed_if_same : (o : Option ℕ) (i : ℕ) (js : List ℕ) → ((j : ℕ) → IsAmong js j → stands_before all (start + i) (start + j) ≡ stands_before line i j) → placed_if all (start + i) o (map moved js) ≡ map moved (placed_if line i o js)
+  placed_if_same : (o : Option ℕ) (i : ℕ) (js : List ℕ) → ((j : ℕ) → IsAmong js j → precedes all (start + i) (start + j) ≡ precedes line i j) → placed_if all (start + i) o (map moved js) ≡ map moved (placed_if line i o js)
   placed_if_same None i js same = refl
   placed_if_same (Some v) i js same = placed_same i js same
 

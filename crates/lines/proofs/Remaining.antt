@@ -11,9 +11,9 @@ use Rattle.lines.proofs.Turns.{ListsRemaining, Ordered}
 use Rattle.units.proofs.Positions.{positions_from-next}
 
 -- a position is written after the first `count` items, and is one more item if the flag is set
-pub kept : (order : List ℕ) (count count2 position : ℕ) (b : Bool) → count < length order → count2 ≡ count + bool_byte b → take count2 (set order count position) ≡ take count order ++ cond b (position ∷ []) []
-kept order count count2 position true h e = ap (λ n. take n (set order count position)) e ∙ take_more_set order count position h
-kept order count count2 position false h e = grind (arith, take-set, append-nil)
+pub unchanged : (order : List ℕ) (count count2 position : ℕ) (b : Bool) → count < length order → count2 ≡ count + bool_byte b → take count2 (set order count position) ≡ take count order ++ cond b (position ∷ []) []
+unchanged order count count2 position true h e = ap (λ n. take n (set order count position)) e ∙ take_more_set order count position h
+unchanged order count count2 position false h e = grind (arith, take-set, append-nil)
 
 some_level : (o : Option ℕ) → is_some o ≡ true → (v : ℕ) × (o ≡ Some v)
 some_level None h = cc

@@ -15,7 +15,7 @@ use Rattle.units.specs.declared.class.Class.TheVariants.{L}
 use Rattle.units.specs.declared.level.Direction.{Direction}
 use Rattle.units.specs.declared.level.Direction.TheVariants.{Auto, Ltr, Rtl, AutoRtl}
 use Rattle.explicit.proofs.Matched.AtMostOne.{at_most_one}
-use Rattle.explicit.proofs.LevelsFound.OneCutting.{IsCut-paragraphs_of, joined-paragraphs_of}
+use Rattle.explicit.proofs.LevelsComputed.OneCutting.{IsCut-paragraphs_of, joined-paragraphs_of}
 use Rattle.paragraph.proofs.Unresolved.{resolved_none}
 use Rattle.units.proofs.Lengths.{length-resolved_levels}
 use Rattle.lines.proofs.TextEnd.{get_or-after_resets}

@@ -42,13 +42,13 @@ len us = length-map us (λ u. u.class)
 
 module _ (us : List BidiUnit) (paras : List ParaLevel) {at : List ℕ} {old : List (Option ℕ)} where
   -- before the first step
-  pub walk_start : (separators : ℕ) → length old ≡ length us → AreBreaks at (length us) → separators ≡ count_by is_separator (classes_of us) → Resetting (classes_of us) at (map level_of_para paras) old (length old) (length at) separators true old
-  walk_start separators all breaks count = resetting_start (classes_of us) at (map level_of_para paras) old separators (len us ∙ sym all) (subst (AreBreaks at) (sym (len us)) breaks) count
+  pub pass_start : (separators : ℕ) → length old ≡ length us → AreBreaks at (length us) → separators ≡ count_by is_separator (classes_of us) → Resetting (classes_of us) at (map level_of_para paras) old (length old) (length at) separators true old
+  pass_start separators all breaks count = resetting_start (classes_of us) at (map level_of_para paras) old separators (len us ∙ sym all) (subst (AreBreaks at) (sym (len us)) breaks) count
 
   module _ {position ahead paragraph : ℕ} {resets : Bool} {levels : List (Option ℕ)} (before : Resetting (classes_of us) at (map level_of_para paras) old position ahead paragraph resets levels) where
     -- after the last step
-    pub walk_end : (breaks : List ℕ) → position ≡ 0 → at ≡ breaks → levels ≡ levels_reset us breaks paras old
-    walk_end breaks none same =
+    pub pass_end : (breaks : List ℕ) → position ≡ 0 → at ≡ breaks → levels ≡ levels_reset us breaks paras old
+    pass_end breaks none same =
         resetting_end (classes_of us) at (map level_of_para paras) old ahead paragraph resets levels (subst (λ n. Resetting (classes_of us) at (map level_of_para paras) old n ahead paragraph resets levels) none before)
         ∙ ap (λ bs. after_resets (classes_of us) bs (map level_of_para paras) old) same
 
@@ -58,8 +58,8 @@ module _ (us : List BidiUnit) (paras : List ParaLevel) {at : List ℕ} {old : Li
           let there : position - 1 + 1 ≡ position = omega (arith, some) in
           subst (λ n. Resetting (classes_of us) at (map level_of_para paras) old n ahead paragraph resets levels) (sym there) before
 
-      read_at : (test : Class → Bool) (d : BidiUnit) (answer : Bool) → answer ≡ test (get_or us (position - 1) d).class → answer ≡ test (class_at (classes_of us) (position - 1))
-      read_at test d answer e = e ∙ ap test (sym (class_read us (position - 1) d (omega (arith, some, within))))
+      read_at : (test : Class → Bool) (d : BidiUnit) (outcome : Bool) → outcome ≡ test (get_or us (position - 1) d).class → outcome ≡ test (class_at (classes_of us) (position - 1))
+      read_at test d outcome e = e ∙ ap test (sym (class_read us (position - 1) d (omega (arith, some, within))))
 
       -- the separators before the position are those that were counted, without the position itself
       pub counted_back : (d : BidiUnit) (less : ℕ) (ends : Bool) → ends ≡ is_separator (get_or us (position - 1) d).class → less ≡ bool_byte ends → less + count_by is_separator (take (position - 1) (classes_of us)) ≡ paragraph
@@ -91,9 +91,9 @@ module _ (us : List BidiUnit) (paras : List ParaLevel) {at : List ℕ} {old : Li
             let index : paragraph - less ≡ count_by is_separator (take p own) = omega arith in
             let para : ℕ = level_of_para (slice_index_or paras (paragraph - less) Zero) in
             let value : para ≡ para_level_at own ps p = ap (λ i. level_of_para (slice_index_or paras i Zero)) index ∙ sym (get_or-map level_of_para paras (count_by is_separator (take p own)) Zero 0 counted_here) in
-            let held : level ≡ get_or levels p None = read ∙ get_or_default levels p level None (omega (arith, before.len, before.all, len us, some, within)) in
+            let stored : level ≡ get_or levels p None = read ∙ get_or_default levels p level None (omega (arith, before.len, before.all, len us, some, within)) in
             let written : set levels p put ≡ set levels p (reset_to (resets2 && may_reset (class_at own p)) para (get_or levels p None)) =
-            ap (set levels p) (is ∙ ap (λ b. reset_to (resets2 && b) para level) (m ∙ ap may_reset (sym class)) ∙ ap (reset_to (resets2 && may_reset (class_at own p)) para) held) in
+            ap (set levels p) (is ∙ ap (λ b. reset_to (resets2 && b) para level) (m ∙ ap may_reset (sym class)) ∙ ap (reset_to (resets2 && may_reset (class_at own p)) para) stored) in
             let more : Resetting own at ps old p (ahead - cond broken 1 0) (paragraph - cond ends 1 0) resets2 (set levels p put) =
             resetting_more own at ps old p ahead paragraph para ends broken resets resets2 levels (set levels p put) (subst (AreBreaks at) (sym (len us)) breaks) (omega (arith, len us, some, within)) (read_at is_separator d ends e) says hit
             (flag ∙ ap (λ k. resets_before k (ends || broken || resets)) (sym class)) value written lower in

@@ -12,7 +12,7 @@ use Rattle.units.specs.Paragraphs.{IsCut, SeparatorOnlyLast, joined, paragraphs_
 use Rattle.units.specs.declared.bracket.Unit.{Unit as BidiUnit}
 use Rattle.units.specs.declared.level.Direction.{Direction}
 use Rattle.units.specs.declared.level.ParaLevel.{ParaLevel}
-use Rattle.explicit.proofs.LevelsFound.OneCutting.{joined-paragraphs_of, IsCut-paragraphs_of}
+use Rattle.explicit.proofs.LevelsComputed.OneCutting.{joined-paragraphs_of, IsCut-paragraphs_of}
 
 -- the level of a paragraph
 abbrev pub para_level : Direction → List BidiUnit → ℕ
@@ -27,16 +27,16 @@ pub record IsWritten (limits : LimitsOf) (text : List BidiUnit) (direction : Dir
   pub cut : IsCut rest
   pub ahead : start + length (joined rest) ≡ length text
   pub few : length paras ≤ start
-  pub found_paras : map level_of_para paras ++ map (para_level direction) rest ≡ para_levels_of text direction
-  pub found_levels : take start levels ++ flat_map (para_levels limits direction) rest ≡ text_levels limits text direction
+  pub all_para_levels : map level_of_para paras ++ map (para_level direction) rest ≡ para_levels_of text direction
+  pub computed_levels : take start levels ++ flat_map (para_levels limits direction) rest ≡ text_levels limits text direction
 
 pub written_none : (limits : LimitsOf) (text : List BidiUnit) (direction : Direction) (levels : List (Option ℕ)) → IsWritten limits text direction 0 [] levels (paragraphs_of text)
 written_none limits text direction levels = record {
   cut = IsCut-paragraphs_of text;
   ahead = omega (arith, ap length (joined-paragraphs_of text));
   few = omega arith;
-  found_paras = refl;
-  found_levels = refl;
+  all_para_levels = refl;
+  computed_levels = refl;
 }
 
 map-push : (paras : List ParaLevel) (level : ParaLevel) (rest : List ℕ) → map level_of_para (paras ++ (level ∷ [])) ++ rest ≡ map level_of_para paras ++ (level_of_para level ∷ rest)
@@ -66,10 +66,10 @@ module _ {limits : LimitsOf} {text : List BidiUnit} {direction : Direction} {sta
     all_written = omega (arith, w.ahead)
 
     pub written_paras : map level_of_para paras ≡ para_levels_of text direction
-    written_paras = sym (append-nil (map level_of_para paras)) ∙ w.found_paras
+    written_paras = sym (append-nil (map level_of_para paras)) ∙ w.all_para_levels
 
     pub written_levels : take (length text) levels ≡ text_levels limits text direction
-    written_levels = ap (λ (n : ℕ). take n levels) (sym all_written) ∙ sym (append-nil (take start levels)) ∙ w.found_levels
+    written_levels = ap (λ (n : ℕ). take n levels) (sym all_written) ∙ sym (append-nil (take start levels)) ∙ w.computed_levels
 
 -- the written parts are those of the layout
 pub laid_out : (limits : LimitsOf) (text : List BidiUnit) (direction : Direction) (breaks : List ℕ) (paras : List ℕ) (resolved levels front : List (Option ℕ)) (lines : List LineLayout) →

@@ -13,7 +13,7 @@ use Rattle.units.specs.Classes.{class_at, classes_of, is_line_separator, is_sepa
 use Rattle.paragraph.specs.ClassSets.{is_class}
 use Rattle.lines.specs.LineEnds.{AreAllParagraphEnds, AreParagraphEnds, paragraph_start}
 use Rattle.lines.specs.Spaces.{HasNoSegments, has_segments}
-use Rattle.lines.proofs.ParagraphFound.{counted_paragraphs}
+use Rattle.lines.proofs.ParagraphSearch.{counted_paragraphs}
 use Rattle.units.specs.Paragraphs.{paragraphs_of}
 use Rattle.lines.proofs.Separators.{paragraph_at}
 use Rattle.lines.proofs.TextEnd.{counted_step}

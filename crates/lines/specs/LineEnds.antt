@@ -37,7 +37,7 @@ pub record EndsLineAt (test : ℕ → Bool) (start end stop : ℕ) : Type 0 wher
 
 -- exactly the breaks up to the position have been passed
 pub record BreaksArePassed (breaks : List ℕ) (passed position : ℕ) : Type 0 where
-  pub behind : (k : ℕ) → k < passed → k < length breaks → slice_index breaks k ≤ position
+  pub following : (k : ℕ) → k < passed → k < length breaks → slice_index breaks k ≤ position
   pub ahead : passed < length breaks → position < slice_index breaks passed
 
 -- the bounds after the first one are the ends of the lines of the text up to the position, in order

@@ -46,7 +46,7 @@ pub record SeparatesWithin (text : List BidiUnit) (start end : ℕ) : Type 0 whe
   pub separates : is_separator (class_at (classes_of text) at) ≡ true
 
 -- the text has no line from start up to end, for this reason; if there are several reasons, for the first of them
-abbrev pub RefusesSpan : List BidiUnit → ℕ → ℕ → SpanFault → Type 0
-RefusesSpan text start end NotForward = end ≤ start
-RefusesSpan text start end BeyondText = (start < end) × (length text < end)
-RefusesSpan text start end CrossesParagraph = (start < end) × (end ≤ length text) × SeparatesWithin text start end
+abbrev pub RejectsSpan : List BidiUnit → ℕ → ℕ → SpanFault → Type 0
+RejectsSpan text start end NotForward = end ≤ start
+RejectsSpan text start end BeyondText = (start < end) × (length text < end)
+RejectsSpan text start end CrossesParagraph = (start < end) × (end ≤ length text) × SeparatesWithin text start end

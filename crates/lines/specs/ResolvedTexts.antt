@@ -6,7 +6,7 @@ use Rattle.units.specs.Limits.{LimitsOf}
 use Rattle.units.specs.declared.bracket.Unit.{Unit as BidiUnit}
 use Rattle.units.specs.declared.level.Direction.{Direction}
 use Rattle.lines.specs.Columns.{levels_filled, para_ends_filled, paras_filled}
-use Rattle.lines.specs.Kept.{each_keeps_level}
+use Rattle.lines.specs.Unchanged.{each_keeps_level}
 use Rattle.lines.specs.LineEnds.{AreAllLineEnds, AreAllParagraphEnds}
 use Rattle.lines.specs.declared.bounds.Bound.{Bound}
 use Rattle.lines.specs.declared.columns.TextColumns.{TextColumns}

@@ -8,9 +8,9 @@ use Rattle.units.specs.declared.level.Direction.{Direction}
 use Rattle.units.specs.declared.level.ParaLevel.{ParaLevel}
 use Rattle.lines.specs.Bounds.{AreBounds}
 use Rattle.lines.specs.Columns.{bounds_filled, levels_filled, lines_filled, orders_filled, para_ends_filled, paras_filled, resolved_filled}
-use Rattle.lines.specs.Kept.{each_keeps_level}
+use Rattle.lines.specs.Unchanged.{each_keeps_level}
 use Rattle.lines.specs.LineEnds.{AreAllParagraphEnds}
-use Rattle.lines.specs.LinesAlone.{IsLineIn, IsLineLaidOut, RefusesSpan, breaks_around}
+use Rattle.lines.specs.LinesAlone.{IsLineIn, IsLineLaidOut, RejectsSpan, breaks_around}
 use Rattle.lines.specs.declared.alone.SpanFault.{SpanFault}
 use Rattle.lines.specs.declared.scratch.Scratch.{Scratch}
 
@@ -62,7 +62,7 @@ pub record HoldsText (limits : LimitsOf) (text : List BidiUnit) (direction : Dir
 pub record LeavesLayout {T E : Type 0} (limits : LimitsOf) (text : List BidiUnit) (direction : Direction) (breaks : List ℕ) (old new : Scratch) (done : Result T E) : Type 0 where
   pub room : room_of new ≡ room_of old
   pub too_long : IsErr done ↔ (room_of old < length text)
-  pub kept : OnErr done (new ≡ old)
+  pub unchanged : OnErr done (new ≡ old)
   pub filled : OnOk done (IsFilled new)
   pub laid_out : OnOk done (layout_in new ≡ layout_of limits text direction breaks)
   pub holds : OnOk done (HoldsText limits text direction new)
@@ -72,8 +72,8 @@ abbrev pub HoldsSomeLayoutOf : List BidiUnit → Scratch → Type 0
 HoldsSomeLayoutOf text scratch = (limits : LimitsOf) × (direction : Direction) × HoldsText limits text direction scratch
 
 -- it contains this text, and each paragraph of the text keeps its level
-abbrev pub HoldsLightText : List BidiUnit → Scratch → Type 0
-HoldsLightText text scratch =
+abbrev pub HoldsUniformText : List BidiUnit → Scratch → Type 0
+HoldsUniformText text scratch =
     (limits : LimitsOf) × (direction : Direction) × HoldsText limits text direction scratch × (each_keeps_level text direction ≡ true)
 
 -- for each direction and all limits: if the old one contained this text, so does the new one
@@ -83,15 +83,15 @@ StillHoldsText text old new =
 
 -- L1, L2: for each direction and all limits: if the old scratch contained this text, the layout is that with these
 -- breaks
-abbrev pub IsBrokenAnew : List BidiUnit → List ℕ → Scratch → TextLayout → Type 0
-IsBrokenAnew text breaks old layout =
+abbrev pub HasSetLines : List BidiUnit → List ℕ → Scratch → TextLayout → Type 0
+HasSetLines text breaks old layout =
     (limits : LimitsOf) (direction : Direction) → HoldsText limits text direction old → layout ≡ layout_of limits text direction breaks
 
 -- after a text is rebroken: the scratch has the same capacity, a layout with these breaks, and the same text
 pub record LeavesLines (text : List BidiUnit) (breaks : List ℕ) (old new : Scratch) : Type 0 where
   pub room : room_of new ≡ room_of old
   pub filled : IsFilled new
-  pub laid_out : IsBrokenAnew text breaks old (layout_in new)
+  pub laid_out : HasSetLines text breaks old (layout_in new)
   pub holds : StillHoldsText text old new
 
 -- L1, L2: for each direction and all limits with which the scratch contains this text, and for all breaks that make a
@@ -116,13 +116,13 @@ pub record WritesLine (text : List BidiUnit) (start end : ℕ) (scratch : Scratc
   pub taken : IsLineIn text (breaks_around start end) start end
   pub line : IsLineAlone text start end scratch (take (end - start) levels2) (take shown order2)
   pub few : shown ≤ end - start
-  pub levels_behind : drop (end - start) levels2 ≡ drop (end - start) levels
-  pub order_behind : drop (end - start) order2 ≡ drop (end - start) order
+  pub levels_after : drop (end - start) levels2 ≡ drop (end - start) levels
+  pub order_after : drop (end - start) order2 ≡ drop (end - start) order
 
 -- after a line is laid out alone: it is written, or there is an error and nothing is written; the scratch contains the
 -- same as before
 pub record LeavesLine (text : List BidiUnit) (start end : ℕ) (old new : Scratch) (levels levels2 : List (Option ℕ)) (order order2 : List ℕ) (shown : Result ℕ SpanFault) : Type 0 where
-  pub line : MatchResult shown (WritesLine text start end old levels levels2 order order2) (RefusesSpan text start end)
-  pub kept_levels : OnErr shown (levels2 ≡ levels)
-  pub kept_order : OnErr shown (order2 ≡ order)
+  pub line : MatchResult shown (WritesLine text start end old levels levels2 order order2) (RejectsSpan text start end)
+  pub levels_stay : OnErr shown (levels2 ≡ levels)
+  pub order_stays : OnErr shown (order2 ≡ order)
   pub holds : HoldsTheSame old new

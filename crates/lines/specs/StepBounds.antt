@@ -4,12 +4,12 @@ use Rattle.paragraph.specs.StepBounds.{driver_steps}
 
 -- P1 to I2 at most, if each paragraph keeps its level: one step each to find paragraphs, to find their contents, to
 -- divide lines, and to write levels
-abbrev pub light_text_steps : ℕ
-light_text_steps = 1 + 1 + 1 + 1
+abbrev pub uniform_text_steps : ℕ
+uniform_text_steps = 1 + 1 + 1 + 1
 
 -- P1 to I2 at most: the rules take the other steps
 abbrev pub text_steps : ℕ
-text_steps = light_text_steps + driver_steps
+text_steps = uniform_text_steps + driver_steps
 
 -- L2 at most, to link the runs of a line: each position is visited, and a run is joined, starts a stretch and ends one
 abbrev pub linking_steps : ℕ
@@ -20,16 +20,16 @@ abbrev pub order_steps : ℕ
 order_steps = linking_steps + 2
 
 -- L2 at most, if a line is known to have one level: its remaining positions are found, and written
-abbrev pub light_order_steps : ℕ
-light_order_steps = 1 + 1
+abbrev pub uniform_order_steps : ℕ
+uniform_order_steps = 1 + 1
 
 -- L2 at most, over all lines: each line adds a step, and has at least one position
 abbrev pub line_steps : ℕ
 line_steps = order_steps + 1
 
 -- the same, if the levels are known
-abbrev pub light_line_steps : ℕ
-light_line_steps = light_order_steps + 1
+abbrev pub uniform_line_steps : ℕ
+uniform_line_steps = uniform_order_steps + 1
 
 -- L1 and L2 at most
 abbrev pub arranging_steps : ℕ
@@ -40,8 +40,8 @@ abbrev pub layout_steps : ℕ
 layout_steps = text_steps + 1 + arranging_steps
 
 -- the same, if each paragraph keeps its level
-abbrev pub light_layout_steps : ℕ
-light_layout_steps = light_text_steps + light_line_steps
+abbrev pub uniform_layout_steps : ℕ
+uniform_layout_steps = uniform_text_steps + uniform_line_steps
 
 -- P1 to L2 at least: contents are found, levels are written, and the order is written
 abbrev pub least_layout_steps : ℕ
@@ -57,8 +57,8 @@ abbrev pub breaking_steps : ℕ
 breaking_steps = cutting_steps + 1 + arranging_steps
 
 -- the same, if each paragraph keeps its level
-abbrev pub light_breaking_steps : ℕ
-light_breaking_steps = cutting_steps + light_line_steps
+abbrev pub uniform_breaking_steps : ℕ
+uniform_breaking_steps = cutting_steps + uniform_line_steps
 
 -- L1 and L2 at least, if a text is rebroken: its levels before L1 are restored, or its remaining positions are found,
 -- and the order is written
@@ -71,8 +71,8 @@ abbrev pub line_alone_steps : ℕ
 line_alone_steps = 1 + 1 + order_steps + 1
 
 -- the same, if each paragraph keeps its level
-abbrev pub light_line_alone_steps : ℕ
-light_line_alone_steps = 1 + light_order_steps + 1
+abbrev pub uniform_line_alone_steps : ℕ
+uniform_line_alone_steps = 1 + uniform_order_steps + 1
 
 -- the same at least: the levels are copied, and put in order
 abbrev pub least_line_alone_steps : ℕ

@@ -5,9 +5,9 @@ ghost use Rattle.units.specs.Isolates.{level_of_para};
 ghost use Rattle.units.specs.declared.level.ParaLevel.{ParaLevel as Para};
 ghost use Rattle.units.specs.Reordering.{line_order};
 ghost use Rattle.lines.specs.LineEnds.{AreAllParagraphEnds, Rises};
-ghost use Rattle.lines.specs.LinesAlone.{HasParaLevel, IsLineIn, IsLineOfParagraph, IsWithinParagraph, RefusesSpan};
+ghost use Rattle.lines.specs.LinesAlone.{HasParaLevel, IsLineIn, IsLineOfParagraph, IsWithinParagraph, RejectsSpan};
 ghost use Rattle.lines.specs.LinePositions.{IsAtOneLevel};
-ghost use Rattle.lines.specs.StepBounds.{light_order_steps, order_steps};
+ghost use Rattle.lines.specs.StepBounds.{uniform_order_steps, order_steps};
 ghost use Rattle.lines.specs.Spaces.{levels_reset};
 
 use crate::breaks::Breaks;
@@ -55,7 +55,7 @@ pub(crate) fn paragraph_of_line<L: Ledger>(
     steps: &mut Steps<L>,
 ) -> Result<usize, SpanFault>
     requires { AreAllParagraphEnds text.now ends.now }
-    ensures line { MatchResult result (IsLineOfParagraph text.now ends.now start end) (RefusesSpan text.now start end) }
+    ensures line { MatchResult result (IsLineOfParagraph text.now ends.now start end) (RejectsSpan text.now start end) }
     ensures at_least { steps.old ≤ steps.new }
     ensures at_most { steps.new ≤ steps.old + SEARCH_STEPS }
 {
@@ -125,7 +125,7 @@ pub(crate) fn reset_line_unless_uniform<L: Ledger>(
     ensures same { IsTrue uniform → levels.new ≡ levels.old }
     ensures at_least { steps.old ≤ steps.new }
     ensures at_most { steps.new ≤ steps.old + (end - start) }
-    ensures light { IsTrue uniform → steps.new ≡ steps.old }
+    ensures if_uniform { IsTrue uniform → steps.new ≡ steps.old }
 {
     if uniform {
         return;
@@ -164,7 +164,7 @@ pub(crate) fn write_order_alone<L: Ledger>(
     ensures count { result ≤ length levels.now }
     ensures at_least { steps.old + length levels.now ≤ steps.new }
     ensures at_most { steps.new ≤ steps.old + (order_steps + 1) * length levels.now }
-    ensures light { IfSome uniform (λ _. steps.new ≤ steps.old + (light_order_steps + 1) * length levels.now) }
+    ensures if_uniform { IfSome uniform (λ _. steps.new ≤ steps.old + (uniform_order_steps + 1) * length levels.now) }
 {
     let line = LineSpan {
         levels,

@@ -74,7 +74,7 @@ impl TextColumns {
         ensures resolved { resolved_filled units uniform self.new ≡ levels_filled units self.old }
         ensures at_least { steps.old ≤ steps.new }
         ensures at_most { steps.new ≤ steps.old + units }
-        ensures light { IsTrue uniform → steps.new ≡ steps.old }
+        ensures if_uniform { IsTrue uniform → steps.new ≡ steps.old }
     {
         if uniform {
             return;
@@ -93,12 +93,12 @@ impl TextColumns {
         ensures room { KeepsTextRoom self.old self.new }
         ensures paras { self.new.paras ≡ self.old.paras }
         ensures para_ends { self.new.para_ends ≡ self.old.para_ends }
-        ensures kept { self.new.resolved ≡ self.old.resolved }
+        ensures unchanged { self.new.resolved ≡ self.old.resolved }
         ensures levels { levels_filled units self.new ≡ resolved_filled units uniform self.old }
         ensures resolved { resolved_filled units uniform self.new ≡ resolved_filled units uniform self.old }
         ensures at_least { steps.old ≤ steps.new }
         ensures at_most { steps.new ≤ steps.old + units }
-        ensures light { IsTrue uniform → steps.new ≡ steps.old }
+        ensures if_uniform { IsTrue uniform → steps.new ≡ steps.old }
         ensures each { uniform ≡ false → steps.new ≡ steps.old + units }
     {
         if uniform {

@@ -9,7 +9,7 @@ ghost use Rattle.lines.specs.Bounds.{AreBounds};
 ghost use Rattle.lines.specs.Columns.{bounds_filled, bounds_in, lines_filled, orders_filled, HasLineRoom, KeepsLineRoom};
 ghost use Rattle.lines.specs.LineEnds.{AreAllLineEnds, AreEndsOfLines};
 ghost use Rattle.lines.specs.Spaces.{StaysAtParas};
-ghost use Rattle.lines.specs.StepBounds.{light_line_steps, light_order_steps, line_steps, order_steps};
+ghost use Rattle.lines.specs.StepBounds.{uniform_line_steps, uniform_order_steps, line_steps, order_steps};
 ghost use Rattle.lines.specs.Spans.{IsSpanAtLevel, order_of, units_in_span};
 
 use crate::bounds::Bound;
@@ -52,7 +52,7 @@ fn write_line<L: Ledger>(
     ensures few { result ≤ line.entry.end }
     ensures at_least { steps.old + units_in_span line.entry ≤ steps.new }
     ensures at_most { steps.new ≤ steps.old + order_steps * units_in_span line.entry }
-    ensures light { IfSome uniform (λ _. steps.new ≤ steps.old + light_order_steps * units_in_span line.entry) }
+    ensures if_uniform { IfSome uniform (λ _. steps.new ≤ steps.old + uniform_order_steps * units_in_span line.entry) }
     ensures twice { IfSome uniform (λ _. steps.old + 2 * units_in_span line.entry ≤ steps.new + 1) }
 {
     written + write_order(line, uniform, runs, &mut orders[written..], steps)
@@ -89,7 +89,7 @@ pub(crate) fn fill_lines<L: Ledger>(
     ensures few_positions { result.positions ≤ length own.now }
     ensures at_least { steps.old + length own.now + resolved.lines ≤ steps.new }
     ensures at_most { steps.new ≤ steps.old + line_steps * length own.now }
-    ensures light { IsTrue resolved.uniform → steps.new ≤ steps.old + light_line_steps * length own.now }
+    ensures if_uniform { IsTrue resolved.uniform → steps.new ≤ steps.old + uniform_line_steps * length own.now }
     ensures twice { IsTrue resolved.uniform → steps.old + 2 * length own.now ≤ steps.new }
 {
     let runs: &mut [Run] = &mut columns.runs;

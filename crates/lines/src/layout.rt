@@ -33,10 +33,10 @@ impl<'s> Layout<'s> {
     ghost use Rattle.std.specs.Prelude.{◌≡◌, ◌<◌, ◌≤◌, ◌+◌, length, map};
     ghost use Rattle.std.specs.List.{All};
     ghost use Rattle.units.specs.Isolates.{level_of_para};
-    ghost use Rattle.ucdfiles.specs.Tables.{glyph_by};
+    ghost use Rattle.ucdfiles.specs.Tables.{mirror_by};
     ghost use Rattle.lines.specs.Bounds.{AreBounds, Follows, line_between};
     ghost use Rattle.lines.specs.Layouts.{layout_view, line_at, line_shown, view_of, IsLineAt};
-    ghost use Rattle.lines.specs.Showing.{shown_left};
+    ghost use Rattle.lines.specs.Showing.{remaining_shown};
 
     pub(crate) fn new(
         paras: &'s [ParaLevel],
@@ -111,7 +111,7 @@ impl<'s> Layout<'s> {
     pub fn shown<'a>(&'a self, mirrors: &'a MirrorTable, chars: &'a [char], k: usize) -> Shown<'a>
         requires line { k < length (view_of self.now).lines }
         requires chars { length chars.now ≡ length (view_of self.now).levels }
-        ensures { shown_left result ≡ line_shown (glyph_by mirrors.now) chars.now (view_of self.now) k }
+        ensures { remaining_shown result ≡ line_shown (mirror_by mirrors.now) chars.now (view_of self.now) k }
     {
         let line = self.line(k);
         Shown::new(mirrors, self.levels, chars, line.order)

@@ -7,7 +7,7 @@ pub mod breaks;
 mod columns;
 mod cutting;
 mod filling;
-pub mod laws;
+pub mod theorems;
 pub mod lay_out;
 pub mod layout;
 pub mod order;

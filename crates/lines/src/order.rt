@@ -3,7 +3,7 @@ ghost use Rattle.std.specs.Prelude.{◌≡◌, ◌≤◌, ◌<◌, ◌+◌, ◌-
 ghost use Rattle.units.specs.Isolates.{level_of_para};
 ghost use Rattle.units.specs.Positions.{positions_from};
 ghost use Rattle.lines.specs.Spans.{IsRun, IsSpanAtLevel, order_of, remaining_in, units_in_span};
-ghost use Rattle.lines.specs.StepBounds.{light_order_steps, order_steps};
+ghost use Rattle.lines.specs.StepBounds.{uniform_order_steps, order_steps};
 
 use crate::positions::{all_remain, count_down, count_up};
 use crate::runs::{Run, link_line};
@@ -167,7 +167,7 @@ pub fn write_order<L: Ledger>(
     ensures count { result ≤ units_in_span line.entry }
     ensures at_least { steps.old + units_in_span line.entry ≤ steps.new }
     ensures at_most { steps.new ≤ steps.old + order_steps * units_in_span line.entry }
-    ensures light { IfSome uniform (λ _. steps.new ≤ steps.old + light_order_steps * units_in_span line.entry) }
+    ensures if_uniform { IfSome uniform (λ _. steps.new ≤ steps.old + uniform_order_steps * units_in_span line.entry) }
     ensures twice { IfSome uniform (λ _. steps.old + 2 * units_in_span line.entry ≤ steps.new + 1) }
 {
     let Some(level) = uniform else {

@@ -98,7 +98,7 @@ fn pass_blocks<L: Ledger>(own: &[Unit], start: usize, end: usize, steps: &mut St
 /// Returns the position after the last separator of lines from `start` up to `end`, or `start` if there is none. A pass
 /// of L1 from the end continues there if before `end` it resets nothing but a separator and what comes before it. Takes
 /// one step for each position that it passes.
-fn behind_separator<L: Ledger>(
+fn after_separator<L: Ledger>(
     own: &[Unit],
     start: usize,
     end: usize,
@@ -107,7 +107,7 @@ fn behind_separator<L: Ledger>(
     requires order { start ≤ end }
     requires within { end ≤ length own.now }
     ensures back { PassesBack (classes_of own.now) start end result }
-    ensures behind { start < result → separates_line (class_at (classes_of own.now) (result - 1)) ≡ true }
+    ensures following { start < result → separates_line (class_at (classes_of own.now) (result - 1)) ≡ true }
     ensures steps { steps.new + result ≡ steps.old + end }
 {
     let mut position = pass_blocks(own, start, end, steps);
@@ -168,7 +168,7 @@ pub fn reset_text<L: Ledger>(
             let reset = resets & may_be_reset(class);
             levels[position] = reset_level(reset, paras[paragraph], levels[position]);
         } else {
-            position = behind_separator(own, last_coming(at, ahead), position, steps);
+            position = after_separator(own, last_coming(at, ahead), position, steps);
         }
     }
 }
@@ -256,7 +256,7 @@ pub(crate) fn reset_unless_uniform<L: Ledger>(
     ensures uniform { IsTrue resolved.uniform → StaysAtParas own.now paras.now levels.new }
     ensures at_least { steps.old ≤ steps.new }
     ensures at_most { steps.new ≤ steps.old + length own.now }
-    ensures light { IsTrue resolved.uniform → steps.new ≡ steps.old }
+    ensures if_uniform { IsTrue resolved.uniform → steps.new ≡ steps.old }
 {
     if resolved.uniform {
         return;

@@ -3,17 +3,17 @@ ghost use Rattle.std.specs.Prelude.{◌≡◌, ◌<◌, ◌≤◌, ◌+◌, ◌*
 ghost use Rattle.units.specs.Limits.{LimitsOf};
 ghost use Rattle.lines.specs.Bounds.{bound_at, first_bound};
 ghost use Rattle.lines.specs.Columns.{levels_filled, para_ends_filled, paras_filled, HasTextRoom, KeepsTextRoom};
-ghost use Rattle.lines.specs.Kept.{each_keeps_level};
+ghost use Rattle.lines.specs.Unchanged.{each_keeps_level};
 ghost use Rattle.lines.specs.ResolvedTexts.{IsResolved, one_unit};
 ghost use Rattle.lines.specs.Spaces.{HasNoSegments, has_segments};
-ghost use Rattle.lines.specs.StepBounds.{light_text_steps, text_steps};
+ghost use Rattle.lines.specs.StepBounds.{uniform_text_steps, text_steps};
 
 use crate::bounds::Bound;
 use crate::breaks::Breaks;
 use crate::columns::TextColumns;
 use crate::cutting::{cut_paragraph, start_cut};
 use paragraph::contents::FirstParagraph;
-use paragraph::one_unit::{KeptUnit, kept_unit};
+use paragraph::one_unit::{RemainingUnit, remaining_unit};
 use paragraph::resolver::Resolver;
 use std::sync::ledger::Ledger;
 use units::bracket::Unit;
@@ -36,19 +36,19 @@ pub struct ResolvedText {
 
 /// Writes the level and the end of the paragraph, the level of its only unit and the end of its line to the fronts of
 /// their columns.
-fn write_unit(kept: KeptUnit, columns: &mut TextColumns, bounds: &mut [Bound])
+fn write_unit(unchanged: RemainingUnit, columns: &mut TextColumns, bounds: &mut [Bound])
     requires room { HasTextRoom columns.old 1 }
     requires bounds { 1 < length bounds.old }
     ensures room { KeepsTextRoom columns.old columns.new }
-    ensures paras { paras_filled 1 columns.new ≡ kept.para ∷ [] }
+    ensures paras { paras_filled 1 columns.new ≡ unchanged.para ∷ [] }
     ensures para_ends { para_ends_filled 1 columns.new ≡ 1 ∷ [] }
-    ensures levels { levels_filled 1 columns.new ≡ kept.level ∷ [] }
+    ensures levels { levels_filled 1 columns.new ≡ unchanged.level ∷ [] }
     ensures first { bound_at bounds.new 0 ≡ first_bound }
     ensures last { (bound_at bounds.new 1).position ≡ 1 }
 {
-    columns.paras[0] = kept.para;
+    columns.paras[0] = unchanged.para;
     columns.para_ends[0] = 1;
-    columns.levels[0] = kept.level;
+    columns.levels[0] = unchanged.level;
     bounds[0] = Bound {
         position: 0,
         order: 0,
@@ -76,15 +76,15 @@ fn resolve_unit<L: Ledger>(
     ensures room { KeepsTextRoom columns.old columns.new }
     ensures resolved { result ≡ true → (limits : LimitsOf) (breaks : List ℕ)
         → IsResolved limits text.now direction breaks one_unit columns.new bounds.new }
-    ensures steps { result ≡ true → steps.new ≡ steps.old + light_text_steps }
+    ensures steps { result ≡ true → steps.new ≡ steps.old + uniform_text_steps }
     ensures left { result ≡ false → columns.new ≡ columns.old }
     ensures no_steps { result ≡ false → steps.new ≡ steps.old }
 {
-    let Some(kept) = kept_unit(text[0], direction) else {
+    let Some(unchanged) = remaining_unit(text[0], direction) else {
         return false;
     };
     steps.add(4);
-    write_unit(kept, columns, bounds);
+    write_unit(unchanged, columns, bounds);
     true
 }
 
@@ -110,7 +110,7 @@ fn resolve_paragraphs<L: Ledger>(
     ensures segments { result.segmented ≡ has_segments text.now }
     ensures at_least { steps.old + 2 * length text.now + result.paragraphs + result.lines ≤ steps.new }
     ensures at_most { steps.new ≤ steps.old + text_steps * length text.now }
-    ensures light { result.uniform ≡ true → steps.new ≤ steps.old + light_text_steps * length text.now }
+    ensures if_uniform { result.uniform ≡ true → steps.new ≤ steps.old + uniform_text_steps * length text.now }
 {
     let paras: &mut [ParaLevel] = &mut columns.paras;
     let para_ends: &mut [u32] = &mut columns.para_ends;
@@ -177,7 +177,7 @@ pub(crate) fn resolve_text<L: Ledger>(
     ensures segments { result.segmented ≡ false → HasNoSegments text.now }
     ensures at_least { steps.old + 2 * length text.now + result.paragraphs + result.lines ≤ steps.new }
     ensures at_most { steps.new ≤ steps.old + text_steps * length text.now }
-    ensures light { result.uniform ≡ true → steps.new ≤ steps.old + light_text_steps * length text.now }
+    ensures if_uniform { result.uniform ≡ true → steps.new ≤ steps.old + uniform_text_steps * length text.now }
 {
     if text.len() == 1 && resolve_unit(text, direction, columns, bounds, steps) {
         return ResolvedText {

@@ -149,7 +149,7 @@ fn link_from<L: Ledger>(
     ensures within { result.end ≤ line.now.end }
     ensures least { least ≤ result.level }
     ensures stops { StopsBelow line.now.levels.now least result.end line.now.end }
-    ensures kept { (p : ℕ) → p < position → run_in runs.new p ≡ run_in runs.old p }
+    ensures unchanged { (p : ℕ) → p < position → run_in runs.new p ≡ run_in runs.old p }
     ensures at_least { steps.old + (result.end - position) ≤ steps.new }
     ensures at_most { steps.new + 1 ≤ steps.old + linking_steps * (result.end - position) }
 {

@@ -28,8 +28,8 @@ fn is_odd(level: Option<Level>) -> bool
 }
 
 impl<'a> Shown<'a> {
-    ghost use Rattle.ucdfiles.specs.Tables.{glyph_by};
-    ghost use Rattle.lines.specs.Showing.{shown_left};
+    ghost use Rattle.ucdfiles.specs.Tables.{mirror_by};
+    ghost use Rattle.lines.specs.Showing.{remaining_shown};
 
     /// Returns the characters of a text in this order of its positions, at these levels.
     pub(crate) fn new(
@@ -40,7 +40,7 @@ impl<'a> Shown<'a> {
     ) -> Shown<'a>
         requires leveled { All (λ p. p < length levels.now) order.now }
         requires written { length chars.now ≡ length levels.now }
-        ensures { shown_left result ≡ shown_of (glyph_by mirrors.now) levels.now chars.now order.now }
+        ensures { remaining_shown result ≡ shown_of (mirror_by mirrors.now) levels.now chars.now order.now }
     {
         Shown {
             mirrors,
@@ -53,7 +53,7 @@ impl<'a> Shown<'a> {
     /// Returns the character that is shown for a position.
     fn char_at(&self, position: usize) -> char
         requires { position < length self.now.levels.now }
-        ensures { result ≡ shown_at (glyph_by self.now.mirrors.now) self.now.levels.now self.now.chars.now position }
+        ensures { result ≡ shown_at (mirror_by self.now.mirrors.now) self.now.levels.now self.now.chars.now position }
     {
         let c = self.chars[position];
         if is_odd(self.levels[position]) {
@@ -66,13 +66,13 @@ impl<'a> Shown<'a> {
 
 impl<'a> Iterator for Shown<'a> {
     ghost use Rattle.std.specs.Iterator.{YieldsFirst, item_count};
-    ghost use Rattle.lines.specs.Showing.{shown_left};
+    ghost use Rattle.lines.specs.Showing.{remaining_shown};
 
     type Item = char;
 
-    ghost next_gives = { YieldsFirst shown_left };
+    ghost next_gives = { YieldsFirst remaining_shown };
 
-    ghost remaining = { item_count shown_left };
+    ghost remaining = { item_count remaining_shown };
 
     fn next(&mut self) -> Option<char> {
         let (first, others) = self.order.split_first()?;

@@ -16,19 +16,19 @@ use Rattle.units.specs.declared.bracket.Unit.{Unit as BidiUnit}
 use Rattle.units.specs.declared.class.Class.{Class}
 use Rattle.explicit.specs.ExplicitLevels.{HoldsLevels}
 use Rattle.explicit.proofs.Matched.AtMostOne.{at_most_one}
-use Rattle.explicit.proofs.LevelsFound.InsideIsolates.{nested}
-use Rattle.explicit.proofs.LevelsFound.Leveled.{leveled, size-is}
+use Rattle.explicit.proofs.LevelsComputed.InsideIsolates.{nested}
+use Rattle.explicit.proofs.LevelsComputed.Leveled.{leveled, size-is}
 use Rattle.units.proofs.Positions.{length-positions_from, get_or-positions_from}
 use Rattle.sequences.specs.Links.{ArePositions}
 use Rattle.sequences.specs.Once.{HoldsOnce}
-use Rattle.sequences.proofs.FilledFrom.{found_front}
+use Rattle.sequences.proofs.FilledFrom.{computed_front}
 use Rattle.sequences.proofs.Fits.{length-flat, sequences_fit}
 use Rattle.sequences.proofs.Forward.{successor_later}
 use Rattle.sequences.proofs.Links.{followed_rises, rising_positions}
 use Rattle.sequences.proofs.Once.{sequences_hold_once}
 use Rattle.resolve.proofs.OwnClasses.{current-own}
 use Rattle.paragraph.specs.Covering.{AreDisjoint, HasLevelsBy}
-use Rattle.resolve.specs.Sought.{AreOwn}
+use Rattle.resolve.specs.Wanted.{AreOwn}
 
 -- the sequences of a paragraph share no position
 module _ (depth : ℕ) (deep : depth ≤ 125) (us : List BidiUnit) (para : ℕ) (low : para ≤ 1) (only : SeparatorOnlyLast us) where
@@ -73,8 +73,8 @@ module _ (depth : ℕ) (deep : depth ≤ 125) (us : List BidiUnit) (para : ℕ) 
       }
 
 -- the current classes are the own ones, except for overrides and removed positions
-pub classes_are_kept : (depth : ℕ) (us : List BidiUnit) (para : ℕ) (ps : List ℕ) → AreOwn ps us (current_of (explicit_of depth (classes_of us) para))
-classes_are_kept depth us para ps = λ p within. current-own depth (classes_of us) para p
+pub classes_are_unchanged : (depth : ℕ) (us : List BidiUnit) (para : ℕ) (ps : List ℕ) → AreOwn ps us (current_of (explicit_of depth (classes_of us) para))
+classes_are_unchanged depth us para ps = λ p within. current-own depth (classes_of us) para p
 
 pub levels_are_resolved : (limits : LimitsOf) (us : List BidiUnit) (para : ℕ) (levels : List (Option ℕ)) → length levels ≡ length us →
     HasLevelsBy limits.brackets us (current_of (explicit_of limits.depth (classes_of us) para)) (sequences_of (leveled_of limits.depth (classes_of us) para)) levels → levels ≡ resolved_levels limits us para
@@ -92,11 +92,11 @@ levels_are_resolved limits us para levels n has =
 -- a paragraph whose explicit levels are known
 module _ (limits : LimitsOf) (us : List BidiUnit) (para : ℕ) (explicit : List (Option (ℕ × Class))) (holds : HoldsLevels explicit limits.depth (classes_of us) para) where
   front : current_of (take (length us) explicit) ≡ current_of (explicit_of limits.depth (classes_of us) para)
-  front = grind (arith, length-map, found_front)
+  front = grind (arith, length-map, computed_front)
 
-  pub found_own : (ps : List ℕ) → AreOwn ps us (current_of (take (length us) explicit))
-  found_own ps = subst (AreOwn ps us) (sym front) (classes_are_kept limits.depth us para ps)
+  pub computed_own : (ps : List ℕ) → AreOwn ps us (current_of (take (length us) explicit))
+  computed_own ps = subst (AreOwn ps us) (sym front) (classes_are_unchanged limits.depth us para ps)
 
-  pub found_levels : (all : List SequenceView) (levels : List (Option ℕ)) → all ≡ sequences_of (leveled_of limits.depth (classes_of us) para) → length levels ≡ length us →
+  pub computed_levels : (all : List SequenceView) (levels : List (Option ℕ)) → all ≡ sequences_of (leveled_of limits.depth (classes_of us) para) → length levels ≡ length us →
       HasLevelsBy limits.brackets us (current_of (take (length us) explicit)) all levels → levels ≡ resolved_levels limits us para
-  found_levels all levels e n has = grind (arith, levels_are_resolved, front)
+  computed_levels all levels e n has = grind (arith, levels_are_resolved, front)

@@ -6,9 +6,9 @@ use Rattle.units.specs.Classes.{is_initiator, is_removed}
 use Rattle.units.specs.declared.class.Class.{Class}
 use Rattle.units.specs.declared.class.Class.TheVariants.{L, R, AL, EN, ES, ET, CS, AN, NSM, BN, LRE, LRO, RLE, RLO, PDF, LRI, RLI, FSI}
 use Rattle.explicit.specs.Uniform.{may_rise_at_even, may_rise_at_odd}
-use Rattle.resolve.specs.Sought.{may_weaken}
+use Rattle.resolve.specs.Wanted.{may_weaken}
 use Rattle.paragraph.specs.ClassSets.{is_class}
-use Rattle.paragraph.proofs.ClassSets.{any_of, found_by}
+use Rattle.paragraph.proofs.ClassSets.{any_of, tested_by}
 
 -- tests that are joined from the left, and from the right
 or_3 : (a b c : Bool) → ((a || b) || c) ≡ (a || (b || (c || false)))
@@ -52,23 +52,23 @@ module _ (cs : List Class) where
   pub any_initiator : (a b c d e f g : Bool) → a ≡ list_any (is_class LRE) cs → b ≡ list_any (is_class RLE) cs → c ≡ list_any (is_class LRO) cs → d ≡ list_any (is_class RLO) cs →
       e ≡ list_any (is_class LRI) cs → f ≡ list_any (is_class RLI) cs → g ≡ list_any (is_class FSI) cs → ((((((a || b) || c) || d) || e) || f) || g) ≡ list_any is_initiator cs
   any_initiator a b c d e f g ha hb hc hd he hf hg =
-      or_7 a b c d e f g ∙ rw (ha, hb, hc, hd, he, hf, hg) (found_by is_initiator (LRE ∷ RLE ∷ LRO ∷ RLO ∷ LRI ∷ RLI ∷ FSI ∷ []) initiator_is cs)
+      or_7 a b c d e f g ∙ rw (ha, hb, hc, hd, he, hf, hg) (tested_by is_initiator (LRE ∷ RLE ∷ LRO ∷ RLO ∷ LRI ∷ RLI ∷ FSI ∷ []) initiator_is cs)
 
   pub any_removed : (a b c d e f : Bool) → a ≡ list_any (is_class LRE) cs → b ≡ list_any (is_class RLE) cs → c ≡ list_any (is_class LRO) cs → d ≡ list_any (is_class RLO) cs →
       e ≡ list_any (is_class PDF) cs → f ≡ list_any (is_class BN) cs → (((((a || b) || c) || d) || e) || f) ≡ list_any is_removed cs
   any_removed a b c d e f ha hb hc hd he hf =
-      or_6 a b c d e f ∙ rw (ha, hb, hc, hd, he, hf) (found_by is_removed (LRE ∷ RLE ∷ LRO ∷ RLO ∷ PDF ∷ BN ∷ []) removed_is cs)
+      or_6 a b c d e f ∙ rw (ha, hb, hc, hd, he, hf) (tested_by is_removed (LRE ∷ RLE ∷ LRO ∷ RLO ∷ PDF ∷ BN ∷ []) removed_is cs)
 
   pub any_weak : (a b c d e f : Bool) → a ≡ list_any (is_class AL) cs → b ≡ list_any (is_class EN) cs → c ≡ list_any (is_class ES) cs → d ≡ list_any (is_class ET) cs →
       e ≡ list_any (is_class CS) cs → f ≡ list_any (is_class NSM) cs → (((((a || b) || c) || d) || e) || f) ≡ list_any may_weaken cs
   any_weak a b c d e f ha hb hc hd he hf =
-      or_6 a b c d e f ∙ rw (ha, hb, hc, hd, he, hf) (found_by may_weaken (AL ∷ EN ∷ ES ∷ ET ∷ CS ∷ NSM ∷ []) weak_is cs)
+      or_6 a b c d e f ∙ rw (ha, hb, hc, hd, he, hf) (tested_by may_weaken (AL ∷ EN ∷ ES ∷ ET ∷ CS ∷ NSM ∷ []) weak_is cs)
 
   pub any_rising_at_even : (a b c : Bool) → a ≡ list_any (is_class R) cs → b ≡ list_any (is_class AL) cs → c ≡ list_any (is_class AN) cs → ((a || b) || c) ≡ list_any may_rise_at_even cs
-  any_rising_at_even a b c ha hb hc = or_3 a b c ∙ rw (ha, hb, hc) (found_by may_rise_at_even (R ∷ AL ∷ AN ∷ []) rising_at_even_is cs)
+  any_rising_at_even a b c ha hb hc = or_3 a b c ∙ rw (ha, hb, hc) (tested_by may_rise_at_even (R ∷ AL ∷ AN ∷ []) rising_at_even_is cs)
 
   pub any_rising_at_odd : (a b c : Bool) → a ≡ list_any (is_class L) cs → b ≡ list_any (is_class EN) cs → c ≡ list_any (is_class AN) cs → ((a || b) || c) ≡ list_any may_rise_at_odd cs
-  any_rising_at_odd a b c ha hb hc = or_3 a b c ∙ rw (ha, hb, hc) (found_by may_rise_at_odd (L ∷ EN ∷ AN ∷ []) rising_at_odd_is cs)
+  any_rising_at_odd a b c ha hb hc = or_3 a b c ∙ rw (ha, hb, hc) (tested_by may_rise_at_odd (L ∷ EN ∷ AN ∷ []) rising_at_odd_is cs)
 
 -- not any class passes the test exactly if each class fails it
 pub none_where_not_any : (test : Class → Bool) (cs : List Class) → not (list_any test cs) ≡ list_all (λ c. not (test c)) cs

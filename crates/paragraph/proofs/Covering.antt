@@ -15,7 +15,7 @@ use Rattle.units.specs.declared.bracket.Unit.{Unit as BidiUnit}
 use Rattle.units.specs.declared.class.Class.{Class}
 use Rattle.sequences.specs.Once.{times}
 use Rattle.sequences.proofs.Once.{one_if-same, times-append, times-cons}
-use Rattle.paragraph.proofs.FoundBeside.{found-append, found-append_none, none_beside, zip_none, zip_some}
+use Rattle.paragraph.proofs.ComputedBeside.{found-append, found-append_none, none_beside, zip_none, zip_some}
 use Rattle.paragraph.specs.Covering.{positions_in, AreDisjoint, HasLevelsBy}
 use Rattle.resolve.specs.Raised.{resolved_at}
 use Rattle.resolve.specs.Resolved.{Resolves}
@@ -35,10 +35,10 @@ module _ (most_open : ℕ) (us : List BidiUnit) (before : List Class) where
 -- the result of these sequences: their positions have their levels, all others still have their classes before W1
 pub record IsCovered (most_open : ℕ) (us : List BidiUnit) (before : List Class) (done : List SequenceView) (classes : List Class) (levels : List (Option ℕ)) : Type 0 where
   pub found : HasLevelsBy most_open us before done levels
-  pub kept : (p : ℕ) → times (positions_in done) p ≡ 0 → class_at classes p ≡ class_at before p
+  pub unchanged : (p : ℕ) → times (positions_in done) p ≡ 0 → class_at classes p ≡ class_at before p
 
 pub covered_none : (most_open : ℕ) (us : List BidiUnit) (before : List Class) (levels : List (Option ℕ)) → ((p : ℕ) → resolved_at levels p ≡ None) → IsCovered most_open us before [] before levels
-covered_none most_open us before levels fresh = record { found = λ p h. fresh p; kept = λ p h. refl }
+covered_none most_open us before levels fresh = record { found = λ p h. fresh p; unchanged = λ p h. refl }
 
 times_in-append : (xs ys : List SequenceView) (p : ℕ) → times (positions_in (xs ++ ys)) p ≡ times (positions_in xs) p + times (positions_in ys) p
 times_in-append [] ys p = omega arith
@@ -89,8 +89,8 @@ module _ {extent : ℕ} {all : List SequenceView} (apart : AreDisjoint extent al
   pub within_extent : (p : ℕ) → Contains s.positions p → p < extent
   within_extent p c = grind (arith, get_or_from_slice_get)
 
-  pub stands_in_all : (p : ℕ) → Contains s.positions p → Contains (positions_in all) p
-  stands_in_all p c =
+  pub is_in_all : (p : ℕ) → Contains s.positions p → Contains (positions_in all) p
+  is_in_all p c =
       let P : SequenceView → Type 0 = λ x. Contains x.positions p in
       contained all k s inside p (subst P (sym (get_or_from_slice_get all k s s at)) c)
 
@@ -126,5 +126,5 @@ module _ {extent : ℕ} {all : List SequenceView} (apart : AreDisjoint extent al
                   ∙ sym (found-append_none earlier own p (zip_none s.positions values p none)))
             ]
             ∙ sym (ap (λ (xs : List (ℕ × ℕ)). value_beside xs p) joined);
-        kept = λ p e. resolved.other_classes p (λ c. let t = times_some s.positions p c in absurd (omega (arith, times_next p))) ∙ covered.kept p (omega (arith, times_next p));
+        unchanged = λ p e. resolved.other_classes p (λ c. let t = times_some s.positions p c in absurd (omega (arith, times_next p))) ∙ covered.unchanged p (omega (arith, times_next p));
       }

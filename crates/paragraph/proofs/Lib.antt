@@ -1,7 +1,7 @@
 pub mod AllSequences
 pub mod ClassSets
 pub mod Covering
-pub mod FoundBeside
+pub mod ComputedBeside
 pub mod FlatLevels
 pub mod ClassKinds
 pub mod Scan

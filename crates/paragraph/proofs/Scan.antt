@@ -107,26 +107,26 @@ module _ (us : List BidiUnit) (k : ℕ) (d : BidiUnit) (lt : k < length us) wher
   strong_more = ap (find is_strong) (classes_more us k d lt) ∙ find-append is_strong (classes_of (take k us)) ((get_or us k d).class ∷ [])
 
   -- if there was none, this class is the first if it is strong
-  pub strong_found : is_strong (get_or us k d).class ≡ true → find is_strong (classes_of (take k us)) ≡ None → find is_strong (classes_of (take (k + 1) us)) ≡ Some (get_or us k d).class
-  strong_found strong none = strong_more ∙ rw none (rw strong refl)
+  pub first_strong_here : is_strong (get_or us k d).class ≡ true → find is_strong (classes_of (take k us)) ≡ None → find is_strong (classes_of (take (k + 1) us)) ≡ Some (get_or us k d).class
+  first_strong_here strong none = strong_more ∙ rw none (rw strong refl)
 
-  pub none_found : is_strong (get_or us k d).class ≡ false → find is_strong (classes_of (take k us)) ≡ None → find is_strong (classes_of (take (k + 1) us)) ≡ None
-  none_found weak none = strong_more ∙ rw none (rw weak refl)
+  pub no_strong_yet : is_strong (get_or us k d).class ≡ false → find is_strong (classes_of (take k us)) ≡ None → find is_strong (classes_of (take (k + 1) us)) ≡ None
+  no_strong_yet weak none = strong_more ∙ rw none (rw weak refl)
 
   -- an earlier first one stays the first
-  pub still_found : (c : Class) → find is_strong (classes_of (take k us)) ≡ Some c → find is_strong (classes_of (take (k + 1) us)) ≡ Some c
-  still_found c found = strong_more ∙ rw found refl
+  pub first_strong_stays : (c : Class) → find is_strong (classes_of (take k us)) ≡ Some c → find is_strong (classes_of (take (k + 1) us)) ≡ Some c
+  first_strong_stays c found = strong_more ∙ rw found refl
 
 -- and further units don't change it
-still_found_by : (us : List BidiUnit) (n k : ℕ) → k + n ≤ length us → (c : Class) → find is_strong (classes_of (take k us)) ≡ Some c → find is_strong (classes_of (take (k + n) us)) ≡ Some c
-still_found_by us zero k within c found = let same : k ≡ k + 0 = omega arith in let P : ℕ → Type 0 = λ j. find is_strong (classes_of (take j us)) ≡ Some c in subst P same found
-still_found_by us (suc n) k within c found =
+first_strong_stays_by : (us : List BidiUnit) (n k : ℕ) → k + n ≤ length us → (c : Class) → find is_strong (classes_of (take k us)) ≡ Some c → find is_strong (classes_of (take (k + n) us)) ≡ Some c
+first_strong_stays_by us zero k within c found = let same : k ≡ k + 0 = omega arith in let P : ℕ → Type 0 = λ j. find is_strong (classes_of (take j us)) ≡ Some c in subst P same found
+first_strong_stays_by us (suc n) k within c found =
     let same : (k + 1) + n ≡ k + suc n = omega arith in
     let P : ℕ → Type 0 = λ j. find is_strong (classes_of (take j us)) ≡ Some c in
-    subst P same (still_found_by us n (k + 1) (omega arith) c (still_found us k no_unit (omega arith) c found))
+    subst P same (first_strong_stays_by us n (k + 1) (omega arith) c (first_strong_stays us k no_unit (omega arith) c found))
 
-pub still_found_later : (us : List BidiUnit) (k next : ℕ) → k ≤ next → next ≤ length us → (c : Class) → find is_strong (classes_of (take k us)) ≡ Some c → find is_strong (classes_of (take next us)) ≡ Some c
-still_found_later us k next later within c found =
+pub first_strong_stays_later : (us : List BidiUnit) (k next : ℕ) → k ≤ next → next ≤ length us → (c : Class) → find is_strong (classes_of (take k us)) ≡ Some c → find is_strong (classes_of (take next us)) ≡ Some c
+first_strong_stays_later us k next later within c found =
     let same : k + (next - k) ≡ next = omega arith in
     let P : ℕ → Type 0 = λ j. find is_strong (classes_of (take j us)) ≡ Some c in
-    subst P same (still_found_by us (next - k) k (omega arith) c found)
+    subst P same (first_strong_stays_by us (next - k) k (omega arith) c found)

@@ -10,11 +10,11 @@ use Rattle.units.specs.declared.class.Class.{Class}
 use Rattle.units.specs.declared.level.Direction.{Direction}
 use Rattle.explicit.specs.IsolateMaps.{Isolates}
 use Rattle.paragraph.specs.Contents.{keeps_level}
-use Rattle.paragraph.specs.declared.one_unit.KeptUnit.{KeptUnit}
+use Rattle.paragraph.specs.declared.one_unit.RemainingUnit.{RemainingUnit}
 use Rattle.paragraph.specs.declared.resolver.Resolved.{Resolved}
 
 -- the capacity in positions, and the results for the last paragraph (BD9, X1 to X10)
-pub record Found : Type 0 where
+pub record Results : Type 0 where
   pub room : ℕ
   pub isolates : Isolates
   pub explicit : List (Option (ℕ × Class))
@@ -42,8 +42,8 @@ abbrev pub keeps_unit : Direction → BidiUnit → Bool
 keeps_unit direction unit = keeps_level (para_level_of (unit.class ∷ []) direction) (unit.class ∷ [])
 
 -- P2 to I2: it does so, and these are the paragraph's level and the unit's resolved one, whatever the limits are
-pub record IsKeptUnit (direction : Direction) (unit : BidiUnit) (kept : KeptUnit) : Type 0 where
+pub record IsRemainingUnit (direction : Direction) (unit : BidiUnit) (unchanged : RemainingUnit) : Type 0 where
   pub keeps : keeps_unit direction unit ≡ true
-  pub para : level_of_para kept.para ≡ para_level_of (unit.class ∷ []) direction
+  pub para : level_of_para unchanged.para ≡ para_level_of (unit.class ∷ []) direction
   pub levels : (limits : LimitsOf) →
-      kept.level ∷ [] ≡ resolved_levels limits (unit ∷ []) (para_level_of (unit.class ∷ []) direction)
+      unchanged.level ∷ [] ≡ resolved_levels limits (unit ∷ []) (para_level_of (unit.class ∷ []) direction)

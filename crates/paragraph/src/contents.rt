@@ -9,7 +9,7 @@ ghost use Rattle.explicit.specs.Uniform.{may_rise_at_even, may_rise_at_odd};
 ghost use Rattle.paragraph.specs.ClassSets.{IsSetOf, is_class};
 ghost use Rattle.paragraph.specs.Contents.{Describes, IsFirstOf, IsFront, are_flat, has_none, keeps_level};
 ghost use Rattle.paragraph.specs.FirstSides.{side_by};
-ghost use Rattle.resolve.specs.Sought.{may_weaken};
+ghost use Rattle.resolve.specs.Wanted.{may_weaken};
 
 use crate::class_set::ClassSet;
 use explicit::side::Side;

@@ -9,13 +9,13 @@ ghost use Rattle.paragraph.specs.Contents.{Describes, are_flat};
 ghost use Rattle.paragraph.specs.Covering.{AreDisjoint, HasLevelsBy, classes_before, positions_in};
 ghost use Rattle.paragraph.specs.StepBounds.{sequences_steps, w_to_i_steps};
 ghost use Rattle.resolve.specs.Raised.{resolved_at};
-ghost use Rattle.resolve.specs.Sought.{AreOwn, IsSoughtIn};
+ghost use Rattle.resolve.specs.Wanted.{AreOwn, IsWantedIn};
 
 use crate::contents::Contents;
 use crate::rooms::{RoomToFind, RoomToResolve};
 use explicit::leveled_class::LeveledClass;
 use resolve::pairs::Pairs;
-use resolve::sequence::{Sought, Unresolved, resolve_sequence};
+use resolve::sequence::{Wanted, Unresolved, resolve_sequence};
 use sequences::sequences::Sequences;
 use std::sync::ledger::Ledger;
 use units::bracket::{Bracket, Unit};
@@ -93,7 +93,7 @@ fn resolve_each<L: Ledger>(
     steps: &mut Steps<L>,
 )
     requires apart { AreDisjoint (length para.now.units.now) sequences.now.all }
-    requires sought { IsSoughtIn para.now.sought para.now.units.now }
+    requires wanted { IsWantedIn para.now.wanted para.now.units.now }
     requires own { AreOwn (positions_in sequences.now.all) para.now.units.now para.now.before.now }
     requires before { length para.now.before.now ≡ length para.now.units.now }
     requires classes { length para.now.units.now ≤ length classes.old }
@@ -116,7 +116,7 @@ fn resolve_each<L: Ledger>(
 }
 
 /// Applies W1 to I2 to a paragraph with these contents, whose sequences are in `found`.
-pub fn resolve_found<L: Ledger>(
+pub fn resolve_sequences<L: Ledger>(
     para: &[Unit],
     contents: Contents,
     found: &RoomToFind,
@@ -144,7 +144,7 @@ pub fn resolve_found<L: Ledger>(
     let unresolved = Unresolved {
         units: para,
         before: &work.before[..para.len()],
-        sought: Sought {
+        wanted: Wanted {
             weak: contents.has_weak(),
             openings,
         },

@@ -4,8 +4,8 @@
 mod class_set;
 pub mod contents;
 mod found;
-mod gates;
-pub mod laws;
+mod fast_paths;
+pub mod theorems;
 pub mod one_unit;
 pub mod resolver;
 mod rooms;

@@ -1,16 +1,16 @@
 //! A paragraph of one unit, which most classes leave at the paragraph's level (P2 to I2).
 ghost use Rattle.std.specs.Prelude.{◌≡◌, false, MatchOption};
-ghost use Rattle.paragraph.specs.Resolvers.{IsKeptUnit, keeps_unit};
+ghost use Rattle.paragraph.specs.Resolvers.{IsRemainingUnit, keeps_unit};
 
 use crate::contents::Contents;
-use crate::gates::kept_level;
+use crate::fast_paths::level_unless_removed_at;
 use explicit::para_level::level_under;
 use units::bracket::Unit;
 use units::level::{Direction, Level, ParaLevel};
 
 /// The levels of a paragraph of one unit that keeps the paragraph's level.
 #[derive(Clone, Copy)]
-pub struct KeptUnit {
+pub struct RemainingUnit {
     /// The paragraph's level (P2, P3).
     pub para: ParaLevel,
     /// The unit's resolved level (X1 to I2); none if X9 removes the unit.
@@ -20,8 +20,8 @@ pub struct KeptUnit {
 /// Returns the levels of a paragraph of this unit alone. Returns `None` if the unit does not keep the paragraph's
 /// level.
 #[inline(always)]
-pub fn kept_unit(unit: Unit, direction: Direction) -> Option<KeptUnit>
-    ensures { MatchOption result (keeps_unit direction unit ≡ false) (IsKeptUnit direction unit) }
+pub fn remaining_unit(unit: Unit, direction: Direction) -> Option<RemainingUnit>
+    ensures { MatchOption result (keeps_unit direction unit ≡ false) (IsRemainingUnit direction unit) }
 {
     let contents = Contents::of_class(unit.class);
     if !contents.is_flat() {
@@ -31,6 +31,6 @@ pub fn kept_unit(unit: Unit, direction: Direction) -> Option<KeptUnit>
     if !contents.keeps(para) {
         return None;
     }
-    let level = kept_level(false, para.level(), unit.class);
-    Some(KeptUnit { para, level })
+    let level = level_unless_removed_at(false, para.level(), unit.class);
+    Some(RemainingUnit { para, level })
 }

@@ -7,8 +7,8 @@ ghost use Rattle.paragraph.specs.Resolvers.{IsResolved};
 ghost use Rattle.paragraph.specs.StepBounds.{driver_steps, paragraph_steps};
 
 use crate::contents::{Contents, FirstParagraph};
-use crate::found::resolve_found;
-use crate::gates::{find_level, find_sequences, write_level};
+use crate::found::resolve_sequences;
+use crate::fast_paths::{find_level, find_sequences, write_level};
 use crate::rooms::{RoomToFind, RoomToResolve};
 use std::alloc::Global;
 use std::marker::Model;
@@ -75,7 +75,7 @@ impl Resolver {
         ensures room { self.new ≡ self.old }
         ensures at_least { steps.old + 2 * length para.now ≤ steps.new }
         ensures at_most { steps.new ≤ steps.old + paragraph_steps * length para.now + 1 }
-        ensures light { result.uniform ≡ true → steps.new ≤ steps.old + 2 * length para.now }
+        ensures if_uniform { result.uniform ≡ true → steps.new ≤ steps.old + 2 * length para.now }
     {
         let first = FirstParagraph::of(para, steps);
         self.resolve_known(para, first.contents, direction, limits, levels, steps)
@@ -99,7 +99,7 @@ impl Resolver {
         ensures room { self.new ≡ self.old }
         ensures at_least { steps.old + length para.now ≤ steps.new }
         ensures at_most { steps.new ≤ steps.old + driver_steps * length para.now + 1 }
-        ensures light { result.uniform ≡ true → steps.new ≤ steps.old + length para.now }
+        ensures if_uniform { result.uniform ≡ true → steps.new ≤ steps.old + length para.now }
     {
         // BD9, P2, P3.
         let level = find_level(para, contents, direction, &mut self.found, steps);
@@ -117,7 +117,7 @@ impl Resolver {
         find_sequences(para, contents, level, limits, &mut self.found, steps);
 
         // W1 to W7, BD14 to BD16 and N0, N1 and N2, I1 and I2, sequence by sequence.
-        resolve_found(
+        resolve_sequences(
             para,
             contents,
             &self.found,

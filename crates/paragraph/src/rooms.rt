@@ -2,7 +2,7 @@
 ghost use Rattle.std.specs.Prelude.{◌≡◌, IfOk, length};
 ghost use Rattle.std.specs.Box.{boxed_slice_items, boxed_slice_len};
 ghost use Rattle.explicit.specs.IsolateMaps.{room};
-ghost use Rattle.paragraph.specs.Resolvers.{Found, Work};
+ghost use Rattle.paragraph.specs.Resolvers.{Results, Work};
 
 use explicit::isolates::IsolateMap;
 use explicit::levels::Explicit;
@@ -24,7 +24,7 @@ pub struct RoomToFind {
 }
 
 impl Model for RoomToFind {
-    ghost Value = { Found };
+    ghost Value = { Results };
 
     ghost view = { λ r. record { room = length r.explicit; isolates = r.isolates; explicit = r.explicit; sequences = r.sequences.all } };
 

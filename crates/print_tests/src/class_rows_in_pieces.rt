@@ -54,7 +54,7 @@ fn print_orders<W: Write>(w: &mut W, layout: &Layout<'_>) -> io::Result<()> {
 }
 
 /// Writes the names of these letters, each after a blank.
-fn print_names_behind<W: Write>(w: &mut W, text: &[Letter]) -> io::Result<()> {
+fn print_names_after_blanks<W: Write>(w: &mut W, text: &[Letter]) -> io::Result<()> {
     for letter in text {
         let name = Name(*letter);
         write!(w, " {name}")?;
@@ -67,7 +67,7 @@ pub fn print_names<W: Write>(w: &mut W, text: &[Letter]) -> io::Result<()> {
     if let [first, others @ ..] = text {
         let first = Name(*first);
         write!(w, "{first}")?;
-        print_names_behind(w, others)?;
+        print_names_after_blanks(w, others)?;
     }
     Ok(())
 }

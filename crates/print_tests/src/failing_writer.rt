@@ -2,7 +2,7 @@
 use std::io::{self, ErrorKind, Write};
 
 /// The maximum number of bytes that such a writer stores.
-pub const MOST_HELD: usize = 2048;
+pub const CAPACITY: usize = 2048;
 
 /// How a writer takes the bytes that it is given.
 #[derive(Clone, Copy, Debug, PartialEq, Eq)]
@@ -27,7 +27,7 @@ pub enum Manner {
 #[derive(Drop)]
 pub struct FailingWriter {
     manner: Manner,
-    bytes: [u8; MOST_HELD],
+    bytes: [u8; CAPACITY],
     len: usize,
     calls: usize,
 }
@@ -37,15 +37,15 @@ impl FailingWriter {
     pub fn new(manner: Manner) -> Self {
         FailingWriter {
             manner,
-            bytes: [0; MOST_HELD],
+            bytes: [0; CAPACITY],
             len: 0,
             calls: 0,
         }
     }
 
     /// Returns the bytes that it took.
-    pub fn held(&self) -> &[u8] {
-        &self.bytes[..self.len.min(MOST_HELD)]
+    pub fn stored(&self) -> &[u8] {
+        &self.bytes[..self.len.min(CAPACITY)]
     }
 
     /// Returns the number of calls of `write`.
@@ -76,8 +76,8 @@ impl Write for FailingWriter {
         match self.taken(buf.len()) {
             Err(kind) => Err(io::Error::from(kind)),
             Ok(taken) => {
-                let start = self.len.min(MOST_HELD);
-                let taken = taken.min(buf.len()).min(MOST_HELD - start);
+                let start = self.len.min(CAPACITY);
+                let taken = taken.min(buf.len()).min(CAPACITY - start);
                 self.bytes[start..start + taken].copy_from_slice(&buf[..taken]);
                 self.len = start + taken;
                 Ok(taken)

@@ -1,5 +1,5 @@
 //! The bytes that a failing writer takes of a printed text, compared with those of the first implementation.
-use crate::failing_writer::{FailingWriter, MOST_HELD, Manner};
+use crate::failing_writer::{FailingWriter, CAPACITY, Manner};
 use printing::fault::PrintFault;
 use std::io::ErrorKind;
 use std::process::Abort;
@@ -8,8 +8,8 @@ use std::process::Abort;
 pub type Outcome = Result<(), Option<ErrorKind>>;
 
 /// Returns the outcome of a call whose error doesn't state how the writer failed.
-pub fn untold(answer: Result<(), PrintFault>) -> Outcome {
-    match answer {
+pub fn untold(outcome: Result<(), PrintFault>) -> Outcome {
+    match outcome {
         Ok(()) => Ok(()),
         Err(PrintFault::Write) => Err(None),
         Err(PrintFault::Memory) => Err(Some(ErrorKind::OutOfMemory)),
@@ -26,7 +26,7 @@ pub trait Printed {
 
     /// Returns whether all bytes are passed to the writer even if one call fails. Such a failure, which has passed by
     /// the next call, isn't returned.
-    fn is_handed_over(&self) -> bool;
+    fn writes_all(&self) -> bool;
 }
 
 /// Expects that a writer of this manner takes the same bytes from both implementations, with the same outcome.
@@ -34,9 +34,9 @@ fn agrees<P: Printed, R: Abort>(rt: &R, printed: &P, manner: Manner) {
     let mut first = FailingWriter::new(manner);
     let mut now = FailingWriter::new(manner);
     let expected = printed.in_pieces(rt, &mut first);
-    let answer = printed.now(rt, &mut now);
-    assert_eq!(rt; answer, expected, "{manner:?}");
-    assert_eq!(rt; now.held(), first.held(), "{manner:?}");
+    let outcome = printed.now(rt, &mut now);
+    assert_eq!(rt; outcome, expected, "{manner:?}");
+    assert_eq!(rt; now.stored(), first.stored(), "{manner:?}");
 }
 
 /// Expects the same of writers of each manner except `FailsOnce`, for each number of bytes up to that of the whole
@@ -58,23 +58,23 @@ fn agree_up_to<P: Printed, R: Abort>(rt: &R, printed: &P, most: usize) {
 /// otherwise what it took before it failed.
 fn loses_nothing<P: Printed, R: Abort>(rt: &R, printed: &P, whole: &[u8], call: usize) {
     let mut w = FailingWriter::new(Manner::FailsOnce(call));
-    let answer = printed.now(rt, &mut w);
-    if answer.is_ok() || printed.is_handed_over() {
-        assert_eq!(rt; answer, Ok(()), "{call}");
-        assert_eq!(rt; w.held(), whole, "{call}");
+    let outcome = printed.now(rt, &mut w);
+    if outcome.is_ok() || printed.writes_all() {
+        assert_eq!(rt; outcome, Ok(()), "{call}");
+        assert_eq!(rt; w.stored(), whole, "{call}");
     }
-    assert_eq!(rt; answer.is_err(), w.calls() == call, "{call}");
-    assert!(rt; whole.starts_with(w.held()), "{call}");
+    assert_eq!(rt; outcome.is_err(), w.calls() == call, "{call}");
+    assert!(rt; whole.starts_with(w.stored()), "{call}");
 }
 
 /// Expects that writers of each manner take the same bytes from both implementations, with the same outcome. Writers
 /// that fail once are the exception: the outcome of the first implementation was an error, so this expects only that no
 /// byte is lost.
 pub fn is_printed_as_at_first<P: Printed, R: Abort>(rt: &R, printed: &P) {
-    let mut w = FailingWriter::new(Manner::Parts(MOST_HELD));
+    let mut w = FailingWriter::new(Manner::Parts(CAPACITY));
     assert_eq!(rt; printed.now(rt, &mut w), Ok(()));
-    let whole = w.held();
-    assert!(rt; whole.len() < MOST_HELD);
+    let whole = w.stored();
+    assert!(rt; whole.len() < CAPACITY);
     agree_up_to(rt, printed, whole.len() + 2);
     for call in 1..w.calls().saturating_add(1) {
         loses_nothing(rt, printed, whole, call);

@@ -77,8 +77,8 @@ fn row_of(alloc: Global, naming: Naming<'_>, text: &[char]) -> Result<Row, Alloc
 }
 
 /// Returns the outcome of a call whose error states how the writer failed.
-fn told(answer: io::Result<()>) -> Outcome {
-    match answer {
+fn reported(outcome: io::Result<()>) -> Outcome {
+    match outcome {
         Ok(()) => Ok(()),
         Err(error) => Err(Some(error.kind())),
     }
@@ -97,16 +97,16 @@ impl Printed for ClassCase<'_> {
         let Row { letters, units } = self.row;
         let room = laid_out(self.alloc, units, self.direction).expect(rt, "layout");
         let layout = room.layout();
-        told(class_rows_in_pieces::print_class_case(w, letters, self.direction, &layout))
+        reported(class_rows_in_pieces::print_class_case(w, letters, self.direction, &layout))
     }
 
     fn now<R: Abort>(&self, rt: &R, w: &mut FailingWriter) -> Outcome {
         let Row { letters, units } = self.row;
         let room = laid_out(self.alloc, units, self.direction).expect(rt, "layout");
-        told(print_class_case(w, letters, self.direction, &room.layout()))
+        reported(print_class_case(w, letters, self.direction, &room.layout()))
     }
 
-    fn is_handed_over(&self) -> bool {
+    fn writes_all(&self) -> bool {
         false
     }
 }
@@ -152,7 +152,7 @@ impl Printed for CharacterRows<'_> {
         untold(print_lines(self.alloc, w, naming, self.text, self.directions))
     }
 
-    fn is_handed_over(&self) -> bool {
+    fn writes_all(&self) -> bool {
         false
     }
 }
@@ -165,14 +165,14 @@ struct Positions<'t> {
 
 impl Printed for Positions<'_> {
     fn in_pieces<R: Abort>(&self, _rt: &R, w: &mut FailingWriter) -> Outcome {
-        told(class_rows_in_pieces::print_positions(w, self.order))
+        reported(class_rows_in_pieces::print_positions(w, self.order))
     }
 
     fn now<R: Abort>(&self, _rt: &R, w: &mut FailingWriter) -> Outcome {
-        told(print_positions(w, self.order))
+        reported(print_positions(w, self.order))
     }
 
-    fn is_handed_over(&self) -> bool {
+    fn writes_all(&self) -> bool {
         true
     }
 }

@@ -61,7 +61,7 @@ impl Printed for Text<'_> {
         })
     }
 
-    fn is_handed_over(&self) -> bool {
+    fn writes_all(&self) -> bool {
         true
     }
 }
@@ -87,7 +87,7 @@ impl Printed for ReadText<'_> {
             ..
         } = *self.text;
         let mut source = SliceSource::new(self.bytes);
-        assert!(rt; source.most_left() <= 16_777_216);
+        assert!(rt; source.most_remaining() <= 16_777_216);
         match print_source(alloc, w, tables, &mut source, direction, form) {
             Ok(()) => Ok(()),
             Err(TextFault::Write | TextFault::NobodyReads) => untold(Err(PrintFault::Write)),
@@ -96,7 +96,7 @@ impl Printed for ReadText<'_> {
         }
     }
 
-    fn is_handed_over(&self) -> bool {
+    fn writes_all(&self) -> bool {
         true
     }
 }

@@ -25,8 +25,8 @@ passing-more test n =
     ap (λ k. passing test k) (sym next) ∙ ap (filter test) (one_more_position 0 n ∙ ap (λ k. positions_from 0 n ++ (k ∷ [])) here)
     ∙ filter-append test (positions_from 0 n) (n ∷ [])
 
-pub passing-kept : (test : ℕ → Bool) (n : ℕ) (xs : List ℕ) → test n ≡ false → xs ≡ passing test n → xs ≡ passing test (n + 1)
-passing-kept test n xs no_break e = e ∙ sym (passing-more test n ∙ rw no_break (search rules))
+pub passing-unchanged : (test : ℕ → Bool) (n : ℕ) (xs : List ℕ) → test n ≡ false → xs ≡ passing test n → xs ≡ passing test (n + 1)
+passing-unchanged test n xs no_break e = e ∙ sym (passing-more test n ∙ rw no_break (search rules))
 
 pub passing-added : (test : ℕ → Bool) (n : ℕ) (xs : List ℕ) → test n ≡ true → xs ≡ passing test n → xs ++ (n ∷ []) ≡ passing test (n + 1)
 passing-added test n xs a_break e = rw e (sym (passing-more test n ∙ rw a_break refl))
@@ -88,8 +88,8 @@ no_fault at len (OutOfRange i) breaks h = grind (arith, slice_index)
 no_fault at len (NotRising i) breaks h = let above : slice_index at (i - 1) < slice_index at i = breaks.rising i h.0 h.3 in let below = h.4 in omega arith
 
 -- breaks that meet `AreBreaks` are never rejected
-pub breaks_are_taken : {X : Type 0} (P : X → Type 0) (at : List ℕ) (len : ℕ) (answer : Result X BreakFault) → AreBreaks at len
-    → MatchResult answer P (IsFirstBreakFault at len) → IsOk answer
+pub breaks_are_taken : {X : Type 0} (P : X → Type 0) (at : List ℕ) (len : ℕ) (outcome : Result X BreakFault) → AreBreaks at len
+    → MatchResult outcome P (IsFirstBreakFault at len) → IsOk outcome
 breaks_are_taken P at len (Ok taken) breaks h = refl
 breaks_are_taken P at len (Err fault) breaks h = absurd (no_fault at len fault breaks h)
 
@@ -97,5 +97,5 @@ breaks_are_taken P at len (Err fault) breaks h = absurd (no_fault at len fault b
 pub start_after_separator : (text : List BidiUnit) (p : ℕ) → separates_at text p ≡ true → p + 1 ≡ paragraph_start text (p + 1)
 start_after_separator text p h = let next : suc p ≡ p + 1 = omega arith in subst (λ k. p + 1 ≡ paragraph_start text k) next (rw h refl)
 
-pub start_kept : (text : List BidiUnit) (p s : ℕ) → separates_at text p ≡ false → s ≡ paragraph_start text p → s ≡ paragraph_start text (p + 1)
-start_kept text p s h e = let next : suc p ≡ p + 1 = omega arith in subst (λ k. s ≡ paragraph_start text k) next (rw h e)
+pub start_unchanged : (text : List BidiUnit) (p s : ℕ) → separates_at text p ≡ false → s ≡ paragraph_start text p → s ≡ paragraph_start text (p + 1)
+start_unchanged text p s h e = let next : suc p ≡ p + 1 = omega arith in subst (λ k. s ≡ paragraph_start text k) next (rw h e)

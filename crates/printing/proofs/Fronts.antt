@@ -29,9 +29,9 @@ front_more xs ys a b h = record {
 }
 
 -- a front of the text after one that was written completely
-pub front_behind : (xs ys : List ℕ) (a b c : Option (List ℕ)) → Appends a b xs → AppendsFront ys b c
+pub front_after : (xs ys : List ℕ) (a b c : Option (List ℕ)) → Appends a b xs → AppendsFront ys b c
     → AppendsFront (xs ++ ys) a c
-front_behind xs ys a b c f h = record {
+front_after xs ys a b c f h = record {
   front = xs ++ h.front;
   rest = h.rest;
   joined = append_assoc xs h.front h.rest ∙ ap (λ v. xs ++ v) h.joined;
@@ -52,7 +52,7 @@ module _ (text : ℕ → List ℕ) (s : ℕ) where
   pub front_of_printed : (k n : ℕ) (a b c : Option (List ℕ)) → s ≤ k → k < n
       → HasPrinted a b text s k → AppendsFront (text k) b c → AppendsFront (printed text s n) a c
   front_of_printed k n a b c h within p f =
-      let here = front_to _ _ a c (printed_more text s k h) (front_behind _ (text k) a b c p.grown f) in
+      let here = front_to _ _ a c (printed_more text s k h) (front_after _ (text k) a b c p.grown f) in
       let same : k + 1 + (n - (k + 1)) ≡ n = omega arith in
       front_to _ _ a c (ap (printed text s) same) (further (k + 1) (n - (k + 1)) a c (omega arith) here)
 
@@ -61,7 +61,7 @@ pub front_of_passed : {A : Type 0} (text : A → List ℕ) (whole rest others : 
     → rest ≡ x ∷ others → HasPrintedUpTo a b text whole rest → AppendsFront (text x) b c
     → AppendsFront (flat_map text whole) a c
 front_of_passed {A} text whole rest others x a b c e p f =
-    let here = front_behind _ _ a b c p.grown (front_more _ (flat_map text others) b c f) in
+    let here = front_after _ _ a b c p.grown (front_more _ (flat_map text others) b c f) in
     let split = sym (flat_map-append text p.passed (x ∷ others)) in
     let same : p.passed ++ (x ∷ others) ≡ whole = ap (λ v. p.passed ++ v) (sym e) ∙ p.joined in
     front_to _ _ a c (split ∙ ap (flat_map text) same) here

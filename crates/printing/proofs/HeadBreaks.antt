@@ -21,8 +21,8 @@ AreBelow n [] = Unit {0}
 AreBelow n (p ∷ ps) = (p < n) × AreBelow n ps
 
 -- positions after n others
-abbrev pub behind : ℕ → List ℕ → List ℕ
-behind n ps = map (λ p. n + p) ps
+abbrev pub following : ℕ → List ℕ → List ℕ
+following n ps = map (λ p. n + p) ps
 
 eqb_moved : (n b j : ℕ) → (n + b == n + j) ≡ (b == j)
 eqb_moved n b j = elim (cases_eq b j) [
@@ -30,11 +30,11 @@ eqb_moved n b j = elim (cases_eq b j) [
   | inr ne ↦ ne_eqb (n + b) (n + j) (omega arith) ∙ sym (ne_eqb b j ne)
 ]
 
-none_before : (n p : ℕ) (bs : List ℕ) → p < n → is_break (behind n bs) p ≡ false
+none_before : (n p : ℕ) (bs : List ℕ) → p < n → is_break (following n bs) p ≡ false
 none_before n p [] low = refl
 none_before n p (b ∷ bs) low = rw (ne_eqb (n + b) p (omega arith)) (none_before n p bs low)
 
-break_moved : (n j : ℕ) (bs : List ℕ) → is_break (behind n bs) (n + j) ≡ is_break bs j
+break_moved : (n j : ℕ) (bs : List ℕ) → is_break (following n bs) (n + j) ≡ is_break bs j
 break_moved n j [] = refl
 break_moved n j (b ∷ bs) = rw (eqb_moved n b j, break_moved n j bs) refl
 
@@ -54,36 +54,36 @@ module _ (own rest : List Class) (bs cs : List ℕ) where
   whole = own ++ rest
 
   abbrev at : List ℕ
-  at = bs ++ behind (length own) cs
+  at = bs ++ following (length own) cs
 
-  pub class_left : (p : ℕ) → p < length own → class_at (own ++ rest) p ≡ class_at own p
-  class_left p low = get_or_append_left own rest L p low
+  pub class_in_first : (p : ℕ) → p < length own → class_at (own ++ rest) p ≡ class_at own p
+  class_in_first p low = get_or_append_left own rest L p low
 
-  pub class_right : (j : ℕ) → class_at (own ++ rest) (length own + j) ≡ class_at rest j
-  class_right j = get_or-append-add own rest j L
+  pub class_in_second : (j : ℕ) → class_at (own ++ rest) (length own + j) ≡ class_at rest j
+  class_in_second j = get_or-append-add own rest j L
 
-  break_left : (p : ℕ) → p < length own → is_break at p ≡ is_break bs p
-  break_left p low =
-      list_any-append (λ b. b == p) bs (behind n cs)
+  break_in_first : (p : ℕ) → p < length own → is_break at p ≡ is_break bs p
+  break_in_first p low =
+      list_any-append (λ b. b == p) bs (following n cs)
       ∙ ap (λ t. is_break bs p || t) (none_before n p cs low) ∙ or_none (is_break bs p)
 
-  break_right : (j : ℕ) → AreBelow (length own) bs → is_break at (length own + j) ≡ is_break cs j
-  break_right j all =
-      list_any-append (λ b. b == n + j) bs (behind n cs)
-      ∙ ap (λ t. t || is_break (behind n cs) (n + j)) (none_past n j bs all) ∙ break_moved n j cs
+  break_in_second : (j : ℕ) → AreBelow (length own) bs → is_break at (length own + j) ≡ is_break cs j
+  break_in_second j all =
+      list_any-append (λ b. b == n + j) bs (following n cs)
+      ∙ ap (λ t. t || is_break (following n cs) (n + j)) (none_past n j bs all) ∙ break_moved n j cs
 
-  pub begins_left : (p : ℕ) → p < length own → begins_line (own ++ rest) (bs ++ behind (length own) cs) p ≡ begins_line own bs p
-  begins_left p low =
-      ap (λ c. (p == 0) || is_separator c || is_break at p) (class_left (p - 1) (omega arith))
-      ∙ ap (λ t. (p == 0) || is_separator (class_at own (p - 1)) || t) (break_left p low)
+  pub begins_in_first : (p : ℕ) → p < length own → begins_line (own ++ rest) (bs ++ following (length own) cs) p ≡ begins_line own bs p
+  begins_in_first p low =
+      ap (λ c. (p == 0) || is_separator c || is_break at p) (class_in_first (p - 1) (omega arith))
+      ∙ ap (λ t. (p == 0) || is_separator (class_at own (p - 1)) || t) (break_in_first p low)
 
   pub begins_right : (j : ℕ) → EndsAsParagraph own → AreBelow (length own) bs →
-      begins_line (own ++ rest) (bs ++ behind (length own) cs) (length own + j) ≡ begins_line rest cs j
+      begins_line (own ++ rest) (bs ++ following (length own) cs) (length own + j) ≡ begins_line rest cs j
   begins_right zero h all =
       let some = h.some in
       let e : n + 0 - 1 ≡ n - 1 = omega arith in
       let c : is_separator (class_at whole (n + 0 - 1)) ≡ true =
-      ap (λ q. is_separator (class_at whole q)) e ∙ ap is_separator (class_left (n - 1) (omega arith)) ∙ h.ends in
+      ap (λ q. is_separator (class_at whole q)) e ∙ ap is_separator (class_in_first (n - 1) (omega arith)) ∙ h.ends in
       ap (λ t. t || is_separator (class_at whole (n + 0 - 1)) || is_break at (n + 0)) (ne_eqb (n + 0) 0 (omega arith))
       ∙ ap (λ t. t || is_break at (n + 0)) c
   begins_right (suc i) h all =
@@ -92,7 +92,7 @@ module _ (own rest : List Class) (bs cs : List ℕ) where
       let f : suc i - 1 ≡ i = omega arith in
       ap (λ t. t || is_separator (class_at whole (n + suc i - 1)) || is_break at (n + suc i)) (ne_eqb (n + suc i) 0 (omega arith))
       ∙ ap (λ q. is_separator (class_at whole q) || is_break at (n + suc i)) e
-      ∙ ap (λ c. is_separator c || is_break at (n + suc i)) (class_right i)
-      ∙ ap (λ t. is_separator (class_at rest i) || t) (break_right (suc i) all)
+      ∙ ap (λ c. is_separator c || is_break at (n + suc i)) (class_in_second i)
+      ∙ ap (λ t. is_separator (class_at rest i) || t) (break_in_second (suc i) all)
       ∙ sym (ap (λ q. is_separator (class_at rest q) || is_break cs (suc i)) f)
       ∙ sym (ap (λ t. t || is_separator (class_at rest (suc i - 1)) || is_break cs (suc i)) (ne_eqb (suc i) 0 (omega arith)))

@@ -13,10 +13,10 @@ use Rattle.units.specs.Reordering.{after_resets, begins_line, cuts_of}
 use Rattle.units.specs.declared.bracket.Unit.{Unit as BidiUnit}
 use Rattle.units.specs.declared.class.Class.{Class}
 use Rattle.units.specs.declared.level.Direction.{Direction}
-use Rattle.explicit.proofs.LevelsFound.OneCutting.{joined-paragraphs_of, IsCut-paragraphs_of, one_cutting}
-use Rattle.lines.proofs.LineHeld.{length-text_levels}
+use Rattle.explicit.proofs.LevelsComputed.OneCutting.{joined-paragraphs_of, IsCut-paragraphs_of, one_cutting}
+use Rattle.lines.proofs.LineStored.{length-text_levels}
 use Rattle.lines.proofs.TextEnd.{length-after_resets}
-use Rattle.printing.proofs.HeadBreaks.{AreBelow, EndsAsParagraph, behind, begins_left, begins_right}
+use Rattle.printing.proofs.HeadBreaks.{AreBelow, EndsAsParagraph, following, begins_in_first, begins_right}
 use Rattle.printing.proofs.HeadLines.{lines_joined, moved_line}
 use Rattle.printing.proofs.HeadResets.{resets_joined}
 
@@ -68,7 +68,7 @@ filter_by test count = filter test (positions_from 1 count)
 
 -- the layout of a text is that of its first paragraph, and after it that of the rest
 pub layout_joined : (limits : LimitsOf) (direction : Direction) (us vs : List BidiUnit) (bs cs : List ℕ) → SeparatorOnlyLast us → EndsWithSeparator us → AreBelow (length us) bs → 0 < length vs →
-    layout_of limits (us ++ vs) direction (bs ++ behind (length us) cs) ≡ joined_layouts (length us) (layout_of limits us direction bs) (layout_of limits vs direction cs)
+    layout_of limits (us ++ vs) direction (bs ++ following (length us) cs) ≡ joined_layouts (length us) (layout_of limits us direction bs) (layout_of limits vs direction cs)
 unfolding layout_of
 layout_joined limits direction us vs bs cs only ends all more =
     let own : List Class = classes_of us in
@@ -81,7 +81,7 @@ layout_joined limits direction us vs bs cs only ends all more =
     let ys : List (Option ℕ) = text_levels limits vs direction in
     let a : length xs ≡ length us = length-text_levels limits us direction in
     let b : length ys ≡ length vs = length-text_levels limits vs direction in
-    let at : List ℕ = bs ++ behind (length us) cs in
+    let at : List ℕ = bs ++ following (length us) cs in
     let h : EndsAsParagraph own = as_paragraph us only ends in
     let some : 0 < length us = ends_some us ends in
     let below : AreBelow (length own) bs = rw n all in
@@ -93,27 +93,27 @@ layout_joined limits direction us vs bs cs only ends all more =
     let f : List BidiUnit → List (Option ℕ) = λ ws. resolved_levels limits ws (para_level_of (classes_of ws) direction) in
     let one : xs ≡ f us = ap (flat_map f) alone ∙ append-nil (f us) in
     let resolved : text_levels limits (us ++ vs) direction ≡ xs ++ ys = ap (flat_map f) cut ∙ ap (λ ls. ls ++ ys) (sym one) in
-    let left : List (Option ℕ) = after_resets own bs (level ∷ []) xs in
+    let remaining : List (Option ℕ) = after_resets own bs (level ∷ []) xs in
     let right : List (Option ℕ) = after_resets rest cs levels ys in
-    let c : length left ≡ length us = length-after_resets own bs (level ∷ []) xs ∙ a in
+    let c : length remaining ≡ length us = length-after_resets own bs (level ∷ []) xs ∙ a in
     let d : length right ≡ length vs = length-after_resets rest cs levels ys ∙ b in
-    let reset : after_resets (own ++ rest) at (level ∷ levels) (xs ++ ys) ≡ left ++ right =
-    ap (λ k. after_resets (own ++ rest) (bs ++ behind k cs) (level ∷ levels) (xs ++ ys)) (sym n)
+    let reset : after_resets (own ++ rest) at (level ∷ levels) (xs ++ ys) ≡ remaining ++ right =
+    ap (λ k. after_resets (own ++ rest) (bs ++ following k cs) (level ∷ levels) (xs ++ ys)) (sym n)
     ∙ resets_joined own rest bs cs h below (omega arith) level levels xs ys (omega arith) (omega arith) in
-    let test_is : begins_line (own ++ rest) at ≡ begins_line (own ++ rest) (bs ++ behind (length own) cs) = ap (λ k. begins_line (own ++ rest) (bs ++ behind k cs)) (sym n) in
-    let same_left : (q : ℕ) → q < length left → begins_line (own ++ rest) at q ≡ begins_line own bs q =
-    λ q low. ap (λ t. t q) test_is ∙ begins_left own rest bs cs q (omega arith) in
-    let same_right : (q : ℕ) → q < length right → begins_line (own ++ rest) at (length left + q) ≡ begins_line rest cs q =
-    λ q low. ap (λ t. t (length left + q)) test_is ∙ ap (λ k. begins_line (own ++ rest) (bs ++ behind (length own) cs) (k + q)) (c ∙ sym n) ∙ begins_right own rest bs cs q h below in
-    let z : length left ≡ length left + 0 = omega arith in
-    let begins : begins_line (own ++ rest) at (length left) ≡ true = ap (begins_line (own ++ rest) at) z ∙ same_right 0 (omega arith) in
-    let lines : lines_cut_at (left ++ right) (cuts_of (own ++ rest) at) ≡ lines_cut_at left (cuts_of own bs) ++ map (moved_line (length us)) (lines_cut_at right (cuts_of rest cs)) =
-    cuts_by left right own rest at (length us) (omega (arith, length-append own rest)) (c ∙ sym n) (d ∙ sym m) c bs cs
-    (lines_joined left right (begins_line (own ++ rest) at) (begins_line own bs) (begins_line rest cs) (omega arith) (omega arith) begins same_left same_right) in
+    let test_is : begins_line (own ++ rest) at ≡ begins_line (own ++ rest) (bs ++ following (length own) cs) = ap (λ k. begins_line (own ++ rest) (bs ++ following k cs)) (sym n) in
+    let same_in_first : (q : ℕ) → q < length remaining → begins_line (own ++ rest) at q ≡ begins_line own bs q =
+    λ q low. ap (λ t. t q) test_is ∙ begins_in_first own rest bs cs q (omega arith) in
+    let same_in_second : (q : ℕ) → q < length right → begins_line (own ++ rest) at (length remaining + q) ≡ begins_line rest cs q =
+    λ q low. ap (λ t. t (length remaining + q)) test_is ∙ ap (λ k. begins_line (own ++ rest) (bs ++ following (length own) cs) (k + q)) (c ∙ sym n) ∙ begins_right own rest bs cs q h below in
+    let z : length remaining ≡ length remaining + 0 = omega arith in
+    let begins : begins_line (own ++ rest) at (length remaining) ≡ true = ap (begins_line (own ++ rest) at) z ∙ same_in_second 0 (omega arith) in
+    let lines : lines_cut_at (remaining ++ right) (cuts_of (own ++ rest) at) ≡ lines_cut_at remaining (cuts_of own bs) ++ map (moved_line (length us)) (lines_cut_at right (cuts_of rest cs)) =
+    cuts_by remaining right own rest at (length us) (omega (arith, length-append own rest)) (c ∙ sym n) (d ∙ sym m) c bs cs
+    (lines_joined remaining right (begins_line (own ++ rest) at) (begins_line own bs) (begins_line rest cs) (omega arith) (omega arith) begins same_in_first same_in_second) in
     rw (both, paras, para, resolved, reset, lines) refl
   where
-    cuts_by : (left right : List (Option ℕ)) (own rest : List Class) (at : List ℕ) (k : ℕ) → length (own ++ rest) ≡ length own + length rest → length left ≡ length own → length right ≡ length rest → length left ≡ k →
-        (bs cs : List ℕ) → lines_cut_at (left ++ right) (filter_by (begins_line (own ++ rest) at) (length left + length right - 1))
-        ≡ lines_cut_at left (filter_by (begins_line own bs) (length left - 1)) ++ map (moved_line (length left)) (lines_cut_at right (filter_by (begins_line rest cs) (length right - 1))) →
-        lines_cut_at (left ++ right) (cuts_of (own ++ rest) at) ≡ lines_cut_at left (cuts_of own bs) ++ map (moved_line k) (lines_cut_at right (cuts_of rest cs))
-    cuts_by left right own rest at k long a b c bs cs e = rw (long, ← a, ← b, ← c) e
+    cuts_by : (remaining right : List (Option ℕ)) (own rest : List Class) (at : List ℕ) (k : ℕ) → length (own ++ rest) ≡ length own + length rest → length remaining ≡ length own → length right ≡ length rest → length remaining ≡ k →
+        (bs cs : List ℕ) → lines_cut_at (remaining ++ right) (filter_by (begins_line (own ++ rest) at) (length remaining + length right - 1))
+        ≡ lines_cut_at remaining (filter_by (begins_line own bs) (length remaining - 1)) ++ map (moved_line (length remaining)) (lines_cut_at right (filter_by (begins_line rest cs) (length right - 1))) →
+        lines_cut_at (remaining ++ right) (cuts_of (own ++ rest) at) ≡ lines_cut_at remaining (cuts_of own bs) ++ map (moved_line k) (lines_cut_at right (cuts_of rest cs))
+    cuts_by remaining right own rest at k long a b c bs cs e = rw (long, ← a, ← b, ← c) e

@@ -11,7 +11,7 @@ pub mod HeadOrders
 pub mod HeadPrinted
 pub mod HeadResets
 pub mod HeadTexts
-pub mod HeldLemmas
+pub mod ReadBytesLemmas
 pub mod HexDigits
 pub mod Passing
 pub mod PiecesTaken

@@ -8,12 +8,12 @@ use Rattle.std.specs.Str.Lossy.{utf8_valid_len}
 use Rattle.units.specs.Layout.{longest_text}
 use Rattle.units.specs.declared.level.Direction.{Direction}
 use Rattle.ucdfiles.specs.Tables.{TablesOf}
-use Rattle.printing.specs.Behind.{printed_as, printed_behind}
+use Rattle.printing.specs.Following.{printed_as, printed_after}
 use Rattle.printing.specs.EndedParagraphs.{ended_paragraphs}
-use Rattle.printing.specs.HeldBytes.{IsReadTo}
+use Rattle.printing.specs.ReadBytes.{IsReadTo}
 use Rattle.printing.specs.ReadTexts.{BreaksOff, EndsUnwritten, IsPrinted, printed_ended, stopped_by, utf8_front}
 use Rattle.printing.specs.TextPlaces.{place_after}
-use Rattle.printing.specs.UnderWay.{IsBegun, PrintsOn, handed_in}
+use Rattle.printing.specs.UnderWay.{IsBegun, PrintsOn, chars_so_far}
 use Rattle.printing.specs.declared.begun.Begun.{Begun}
 use Rattle.printing.specs.declared.fault.PrintStop.{PrintStop}
 use Rattle.printing.specs.declared.fault.PrintStop.TheVariants as stop
@@ -23,7 +23,7 @@ use Rattle.printing.specs.declared.place.TextPlace.{TextPlace}
 use Rattle.printing.specs.declared.reading.TextFault.{TextFault}
 use Rattle.printing.specs.declared.reading.TextFault.TheVariants.{Read, NotUtf8, Write, NobodyReads, Memory}
 use Rattle.printing.specs.declared.written.Written.TheVariants.{Whole, CutOff}
-use Rattle.printing.proofs.HeldLemmas.{front_cut, length_front, more_cut, nothing_cut, whole_cut}
+use Rattle.printing.proofs.ReadBytesLemmas.{front_cut, length_front, more_cut, nothing_cut, whole_cut}
 use Rattle.printing.proofs.ReadingOn.{HasCut}
 use Rattle.printing.proofs.TextPlaces.{IsAfter, after_more}
 use Rattle.printing.proofs.UnderWay.{all_came, chars_le, ended_came, more_came, nothing_came}
@@ -70,14 +70,14 @@ module _ (Failed Ended : Type 0) (form : Form) (tables : TablesOf) (direction : 
 
 -- what a source returned, the bytes of it that are stored, and what was printed of it
 pub record HasRead {S : Type 0} (gives : S → List ℕ → S → Type 0) (room : S → ℕ) (form : Form) (tables : TablesOf) (direction : Direction)
-    (start now : S) (before after : Option (List ℕ)) (first begun : Begun) (held : List ℕ) (place : TextPlace) : Type 0 where
+    (start now : S) (before after : Option (List ℕ)) (first begun : Begun) (stored : List ℕ) (place : TextPlace) : Type 0 where
   pub bytes : List ℕ
   pub front : List ℕ
   pub given : gives start bytes now
-  pub cut : IsReadTo bytes front held
+  pub cut : IsReadTo bytes front stored
   pub bound : length bytes + room now ≤ longest_text
   pub is : IsBegun tables begun
-  pub handed : handed_in begun ≡ length (chars front)
+  pub passed_in : chars_so_far begun ≡ length (chars front)
   pub printed : PrintsOn form tables direction (chars front) before after first begun
   pub place_is : place ≡ place_after front
 
@@ -93,81 +93,81 @@ module _ {S : Type 0} (gives : S → List ℕ → S → Type 0) (room : S → �
     cut = nothing_cut;
     bound = omega arith;
     is = is;
-    handed = omega (arith, ap (λ (p : Passed). p.characters) none, ap length empty, ap length chars-nil);
+    passed_in = omega (arith, ap (λ (p : Passed). p.characters) none, ap length empty, ap length chars-nil);
     printed = subst (λ xs. PrintsOn form tables direction xs before before first first) (sym chars-nil) (nothing_came form tables direction before first);
     place_is = refl;
   }
 
-  module _ (now next : S) (after later : Option (List ℕ)) (begun then : Begun) (held more : List ℕ) (place : TextPlace)
-      (read : HasRead gives room form tables direction start now before after first begun held place) (falls : room next + length more ≤ room now) where
+  module _ (now next : S) (after later : Option (List ℕ)) (begun then : Begun) (stored more : List ℕ) (place : TextPlace)
+      (read : HasRead gives room form tables direction start now before after first begun stored place) (falls : room next + length more ≤ room now) where
     -- the characters so far and the bytes in the buffer are within the longest text
-    pub more_fits : handed_in begun + length (held ++ more) ≤ longest_text
+    pub more_fits : chars_so_far begun + length (stored ++ more) ≤ longest_text
     more_fits =
         let cut = read.cut in
         omega (
           arith,
           falls,
           read.bound,
-          read.handed,
+          read.passed_in,
           chars_le read.front cut.utf8,
           ap length cut.joined,
-          length-append read.front cut.left,
+          length-append read.front cut.remaining,
           ap length cut.first,
-          length-take 4 cut.left,
-          length-append held more,
+          length-take 4 cut.remaining,
+          length-append stored more,
         )
 
-    more_read : gives start (read.bytes ++ more) next → IsBegun tables then → handed_in then ≡ handed_in begun + length (chars (utf8_front (held ++ more)))
-        → PrintsOn form tables direction (chars (utf8_front (held ++ more))) after later begun then
-        → (at : TextPlace) → IsAfter place at (utf8_front (held ++ more))
-        → HasRead gives room form tables direction start next before later first then (take 4 (drop (utf8_valid_len (held ++ more)) (held ++ more))) at
-    more_read given is handed printed at passed =
-        let both : chars (read.front ++ utf8_front (held ++ more)) ≡ chars read.front ++ chars (utf8_front (held ++ more)) =
-        chars-append read.front (utf8_front (held ++ more)) read.cut.utf8 in
+    more_read : gives start (read.bytes ++ more) next → IsBegun tables then → chars_so_far then ≡ chars_so_far begun + length (chars (utf8_front (stored ++ more)))
+        → PrintsOn form tables direction (chars (utf8_front (stored ++ more))) after later begun then
+        → (at : TextPlace) → IsAfter place at (utf8_front (stored ++ more))
+        → HasRead gives room form tables direction start next before later first then (take 4 (drop (utf8_valid_len (stored ++ more)) (stored ++ more))) at
+    more_read given is passed_in printed at passed =
+        let both : chars (read.front ++ utf8_front (stored ++ more)) ≡ chars read.front ++ chars (utf8_front (stored ++ more)) =
+        chars-append read.front (utf8_front (stored ++ more)) read.cut.utf8 in
         record {
           bytes = read.bytes ++ more;
-          front = read.front ++ utf8_front (held ++ more);
+          front = read.front ++ utf8_front (stored ++ more);
           given = given;
-          cut = more_cut read.bytes read.front held more read.cut;
+          cut = more_cut read.bytes read.front stored more read.cut;
           bound = omega (arith, falls, read.bound, length-append read.bytes more);
           is = is;
-          handed = omega (arith, handed, read.handed, ap length both, length-append (chars read.front) (chars (utf8_front (held ++ more))));
+          passed_in = omega (arith, passed_in, read.passed_in, ap length both, length-append (chars read.front) (chars (utf8_front (stored ++ more))));
           printed = subst (λ xs. PrintsOn form tables direction xs before later first then) (sym both)
               (more_came form tables direction _ _ _ _ _ _ _ _ read.printed printed);
-          place_is = after_more place at read.front (utf8_front (held ++ more)) read.place_is passed;
+          place_is = after_more place at read.front (utf8_front (stored ++ more)) read.place_is passed;
         }
 
     -- the same for a buffer with the stored and the new bytes, of which `taken` bytes were taken
-    pub read_more : (bs kept : List ℕ) (taken : ℕ) → bs ≡ held ++ more → taken ≡ length (utf8_front bs) → kept ≡ take 4 (drop taken bs)
-        → gives start (read.bytes ++ more) next → IsBegun tables then → handed_in then ≡ handed_in begun + length (chars (utf8_front bs))
+    pub read_more : (bs unchanged : List ℕ) (taken : ℕ) → bs ≡ stored ++ more → taken ≡ length (utf8_front bs) → unchanged ≡ take 4 (drop taken bs)
+        → gives start (read.bytes ++ more) next → IsBegun tables then → chars_so_far then ≡ chars_so_far begun + length (chars (utf8_front bs))
         → PrintsOn form tables direction (chars (utf8_front bs)) after later begun then → (at : TextPlace) → IsAfter place at (utf8_front bs)
-        → HasRead gives room form tables direction start next before later first then kept at
-    read_more bs kept taken both front left given is handed printed at passed =
-        let same : kept ≡ take 4 (drop (utf8_valid_len (held ++ more)) (held ++ more)) =
-        left ∙ ap (λ n. take 4 (drop n bs)) (front ∙ length_front bs) ∙ ap (λ xs. take 4 (drop (utf8_valid_len xs) xs)) both in
+        → HasRead gives room form tables direction start next before later first then unchanged at
+    read_more bs unchanged taken both front remaining given is passed_in printed at passed =
+        let same : unchanged ≡ take 4 (drop (utf8_valid_len (stored ++ more)) (stored ++ more)) =
+        remaining ∙ ap (λ n. take 4 (drop n bs)) (front ∙ length_front bs) ∙ ap (λ xs. take 4 (drop (utf8_valid_len xs) xs)) both in
         subst (λ xs. HasRead gives room form tables direction start next before later first then xs at) (sym same)
-        (more_read given is (subst (λ xs. handed_in then ≡ handed_in begun + length (chars (utf8_front xs))) both handed)
+        (more_read given is (subst (λ xs. chars_so_far then ≡ chars_so_far begun + length (chars (utf8_front xs))) both passed_in)
         (subst (λ xs. PrintsOn form tables direction (chars (utf8_front xs)) after later begun then) both printed) at (subst (λ xs. IsAfter place at (utf8_front xs)) both passed))
 
-  module _ (now : S) (after : Option (List ℕ)) (begun : Begun) (held : List ℕ) (place : TextPlace)
-      (read : HasRead gives room form tables direction start now before after first begun held place)
+  module _ (now : S) (after : Option (List ℕ)) (begun : Begun) (stored : List ℕ) (place : TextPlace)
+      (read : HasRead gives room form tables direction start now before after first begun stored place)
       (empty : first.chars.items ≡ []) (none : let nothing : Passed = record { paragraphs = 0; characters = 0 } in first.passed ≡ nothing) where
     -- what was read, without what was printed
-    pub cut_of : HasCut gives start now place held
+    pub cut_of : HasCut gives start now place stored
     cut_of = record { bytes = read.bytes; front = read.front; given = read.given; cut = read.cut; place_is = read.place_is }
 
     -- the paragraphs that have ended are printed
     pub ended_read : Appends before after (printed_ended form tables read.bytes direction)
     ended_read = subst (λ xs. Appends before after (printed_as form tables (ended_paragraphs tables (chars xs)) direction))
-        (sym (front_cut read.bytes read.front held read.cut)) (ended_came form tables direction (chars read.front) before after first begun empty none read.is read.printed)
+        (sym (front_cut read.bytes read.front stored read.cut)) (ended_came form tables direction (chars read.front) before after first begun empty none read.is read.printed)
 
     -- if no byte is stored, all paragraphs are printed once the last one is
-    pub whole_read : length held ≡ 0 → (last : Option (List ℕ)) → Appends after last (printed_behind form begun.passed tables begun.chars.items direction)
+    pub whole_read : length stored ≡ 0 → (last : Option (List ℕ)) → Appends after last (printed_after form begun.passed tables begun.chars.items direction)
         → IsPrinted form tables direction read.bytes before last
-    whole_read all last said =
-        let whole : read.front ≡ read.bytes = whole_cut read.bytes read.front held read.cut all in
+    whole_read all last noted =
+        let whole : read.front ≡ read.bytes = whole_cut read.bytes read.front stored read.cut all in
         record {
           utf8 = subst IsUtf8 whole read.cut.utf8;
-          said = subst (λ xs. Appends before last (printed_as form tables (chars xs) direction)) whole
-              (all_came form tables direction (chars read.front) before after last first begun empty none read.printed said);
+          noted = subst (λ xs. Appends before last (printed_as form tables (chars xs) direction)) whole
+              (all_came form tables direction (chars read.front) before after last first begun empty none read.printed noted);
         }

@@ -27,11 +27,11 @@ module _ (images : ℕ → Option ℕ) (levels : List (Option ℕ)) (chars : Lis
       → All (λ p. p < length levels) rest → HasShown images levels chars text a a order rest shown
   nothing_shown a order rest shown e beside places = grind (arith, nothing_passed)
 
-  pub one_more_shown : (a b c : Option (List ℕ)) (order rest others shown left : List ℕ) (p character : ℕ) → rest ≡ p ∷ others → shown ≡ character ∷ left
+  pub one_more_shown : (a b c : Option (List ℕ)) (order rest others shown remaining : List ℕ) (p character : ℕ) → rest ≡ p ∷ others → shown ≡ character ∷ remaining
       → HasShown images levels chars text a b order rest shown → Appends b c (text_unless (is_separator (slice_index_or text p no_unit).class) character)
-      → HasShown images levels chars text a c order others left
-  one_more_shown a b c order rest others shown left p character e f h g =
-      let both : character ∷ left ≡ shown_at images levels chars p ∷ shown_of images levels chars others =
+      → HasShown images levels chars text a c order others remaining
+  one_more_shown a b c order rest others shown remaining p character e f h g =
+      let both : character ∷ remaining ≡ shown_at images levels chars p ∷ shown_of images levels chars others =
       sym f ∙ h.beside ∙ ap (shown_of images levels chars) e in
       let here : character ≡ shown_at images levels chars p = cc both in
       record {
@@ -40,11 +40,11 @@ module _ (images : ℕ → Option ℕ) (levels : List (Option ℕ)) (chars : Lis
         places = All-rest (λ q. q < length levels) p others rest e h.places;
       }
 
-  none_left : (a b : Option (List ℕ)) (order rest shown : List ℕ) → HasShown images levels chars text a b order rest shown
+  none_remaining : (a b : Option (List ℕ)) (order rest shown : List ℕ) → HasShown images levels chars text a b order rest shown
       → (rest ≡ []) ⊎ (shown ≡ []) → rest ≡ []
-  none_left a b order rest shown h (inl e) = e
-  none_left a b order rest shown h (inr e) = nil_from_map _ rest (sym h.beside ∙ e)
+  none_remaining a b order rest shown h (inl e) = e
+  none_remaining a b order rest shown h (inr e) = nil_from_map _ rest (sym h.beside ∙ e)
 
   pub all_shown : (a b : Option (List ℕ)) (order rest shown : List ℕ) → (rest ≡ []) ⊎ (shown ≡ []) → HasShown images levels chars text a b order rest shown
       → Appends a b (flat_map (shown_text images chars text levels) order)
-  all_shown a b order rest shown e h = all_passed _ a b order rest (none_left a b order rest shown h e) h.written
+  all_shown a b order rest shown e h = all_passed _ a b order rest (none_remaining a b order rest shown h e) h.written

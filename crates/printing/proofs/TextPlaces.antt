@@ -8,7 +8,7 @@ use Rattle.std.specs.Str.Lossy.{utf8_valid_len}
 use Rattle.printing.specs.ReadTexts.{utf8_front}
 use Rattle.printing.specs.TextPlaces.{ends_line, place_after}
 use Rattle.printing.specs.declared.place.TextPlace.{TextPlace}
-use Rattle.printing.proofs.HeldLemmas.{length_front}
+use Rattle.printing.proofs.ReadBytesLemmas.{length_front}
 
 -- the next place comes after the place, with these bytes between them
 pub record IsAfter (place next : TextPlace) (bytes : List ℕ) : Type 0 where

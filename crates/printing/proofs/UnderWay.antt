@@ -11,14 +11,14 @@ use Rattle.std.proofs.lemmas.Bool.{or_from, or_left, or_right}
 use Rattle.std.proofs.lemmas.List.{map-append}
 use Rattle.std.proofs.lemmas.Str.{encodes-chars, length-le-encodes}
 use Rattle.std.specs.Str.{IsUtf8, chars}
-use Rattle.printing.specs.Behind.{printed_as, printed_behind, printed_units}
+use Rattle.printing.specs.Following.{printed_as, printed_after, printed_units}
 use Rattle.printing.specs.EndedParagraphs.{ended_paragraphs, separates, up_to_separator}
 use Rattle.printing.specs.UnderWay.{ArePlain, Follows, IsBegun, PrintsOn}
 use Rattle.printing.specs.declared.begun.Begun.{Begun}
 use Rattle.printing.specs.declared.form.Form.{Form}
 use Rattle.printing.specs.declared.passed.Passed.{Passed}
 use Rattle.printing.proofs.Appending.{Appends-joined, Appends-nothing, Appends-to}
-use Rattle.printing.proofs.HeadPrinted.{nothing_behind, paragraph_follows, printed_whole}
+use Rattle.printing.proofs.HeadPrinted.{nothing_after, paragraph_follows, printed_whole}
 
 pub plain_then : (us : List BidiUnit) (u : BidiUnit) → ArePlain us → SeparatorOnlyLast (us ++ u ∷ [])
 plain_then [] u h = tt
@@ -47,18 +47,18 @@ pub units_more : (tables : TablesOf) (chars : List ℕ) (us : List BidiUnit) (c 
 units_more tables chars us c u e f =
     ap (λ vs. vs ++ u ∷ []) e ∙ ap (λ v. units_by tables chars ++ v ∷ []) f ∙ sym (map-append (unit_by tables) chars (c ∷ []))
 
-pub behind_is : (form : Form) (passed passed2 : Passed) (tables : TablesOf) (chars chars2 : List ℕ) (units : List BidiUnit) (direction : Direction) → passed2 ≡ passed → chars2 ≡ chars → units ≡ units_by tables chars →
-    printed_units form passed2 tables chars2 units direction ≡ printed_behind form passed tables chars direction
-unfolding printed_behind
-behind_is form passed passed2 tables chars chars2 units direction e f g =
+pub printed_after_is : (form : Form) (passed passed2 : Passed) (tables : TablesOf) (chars chars2 : List ℕ) (units : List BidiUnit) (direction : Direction) → passed2 ≡ passed → chars2 ≡ chars → units ≡ units_by tables chars →
+    printed_units form passed2 tables chars2 units direction ≡ printed_after form passed tables chars direction
+unfolding printed_after
+printed_after_is form passed passed2 tables chars chars2 units direction e f g =
     ap (λ p. printed_units form p tables chars2 units direction) e
     ∙ ap (λ cs. printed_units form passed tables cs units direction) f
     ∙ ap (λ us. printed_units form passed tables chars us direction) g
 
 -- without characters nothing remains to be printed
-pub nothing_left : (form : Form) (passed : Passed) (tables : TablesOf) (chars : List ℕ) (direction : Direction) (a : Option (List ℕ)) → chars ≡ [] → Appends a a (printed_behind form passed tables chars direction)
-nothing_left form passed tables chars direction a e =
-    Appends-to a a [] _ (sym (ap (λ cs. printed_behind form passed tables cs direction) e ∙ nothing_behind form passed tables direction)) (Appends-nothing a)
+pub nothing_remaining : (form : Form) (passed : Passed) (tables : TablesOf) (chars : List ℕ) (direction : Direction) (a : Option (List ℕ)) → chars ≡ [] → Appends a a (printed_after form passed tables chars direction)
+nothing_remaining form passed tables chars direction a e =
+    Appends-to a a [] _ (sym (ap (λ cs. printed_after form passed tables cs direction) e ∙ nothing_after form passed tables direction)) (Appends-nothing a)
 
 -- a separator ends all characters before it
 has_separator : (separates : ℕ → Bool) (cs rest : List ℕ) (c : ℕ) → separates c ≡ true → list_any separates ((cs ++ c ∷ []) ++ rest) ≡ true
@@ -86,11 +86,11 @@ module _ (form : Form) (tables : TablesOf) (direction : Direction) where
     ended = [];
     joined = f;
     whole = λ rest. refl;
-    said = subst (λ k. Appends a k (printed_behind form old.passed tables [] direction)) (sym g)
-        (nothing_left form old.passed tables [] direction a refl);
-    behind = λ rest.
-        ap (λ p. printed_behind form p tables rest direction) (sym e)
-        ∙ sym (ap (λ v. v ++ printed_behind form new.passed tables rest direction) (nothing_behind form old.passed tables direction));
+    noted = subst (λ k. Appends a k (printed_after form old.passed tables [] direction)) (sym g)
+        (nothing_remaining form old.passed tables [] direction a refl);
+    following = λ rest.
+        ap (λ p. printed_after form p tables rest direction) (sym e)
+        ∙ sym (ap (λ v. v ++ printed_after form new.passed tables rest direction) (nothing_after form old.passed tables direction));
   }
 
   pub nothing_came : (a : Option (List ℕ)) (begun : Begun) → PrintsOn form tables direction [] a a begun begun
@@ -108,20 +108,20 @@ module _ (form : Form) (tables : TablesOf) (direction : Direction) where
     whole = λ rest.
         ap (ended_paragraphs tables) (append_assoc f.ended g.ended rest) ∙ f.whole (g.ended ++ rest)
         ∙ ap (λ cs. f.ended ++ cs) (g.whole rest) ∙ sym (append_assoc f.ended g.ended (ended_paragraphs tables rest));
-    said = Appends-to a c _ _ (sym (f.behind g.ended)) (Appends-joined a b c _ _ f.said g.said);
-    behind = λ rest.
-        ap (λ cs. printed_behind form old.passed tables cs direction) (append_assoc f.ended g.ended rest)
-        ∙ f.behind (g.ended ++ rest)
-        ∙ ap (λ v. printed_behind form old.passed tables f.ended direction ++ v) (g.behind rest)
-        ∙ sym (append_assoc (printed_behind form old.passed tables f.ended direction) (printed_behind form begun.passed tables g.ended direction) (printed_behind form new.passed tables rest direction))
-        ∙ ap (λ v. v ++ printed_behind form new.passed tables rest direction) (sym (f.behind g.ended));
+    noted = Appends-to a c _ _ (sym (f.following g.ended)) (Appends-joined a b c _ _ f.noted g.noted);
+    following = λ rest.
+        ap (λ cs. printed_after form old.passed tables cs direction) (append_assoc f.ended g.ended rest)
+        ∙ f.following (g.ended ++ rest)
+        ∙ ap (λ v. printed_after form old.passed tables f.ended direction ++ v) (g.following rest)
+        ∙ sym (append_assoc (printed_after form old.passed tables f.ended direction) (printed_after form begun.passed tables g.ended direction) (printed_after form new.passed tables rest direction))
+        ∙ ap (λ v. v ++ printed_after form new.passed tables rest direction) (sym (f.following g.ended));
   }
 
   -- a character came that ends a paragraph
   pub last_came : (c : ℕ) (a b : Option (List ℕ)) (old begun new : Begun) → begun.passed ≡ old.passed → begun.chars.items ≡ old.chars.items ++ c ∷ []
       → ArePlain (units_by tables old.chars.items) → separates tables c ≡ true → new.chars.items ≡ [] → Follows begun.passed (length begun.chars.items) new.passed
-      → Appends a b (printed_behind form begun.passed tables begun.chars.items direction) → PrintsOn form tables direction (c ∷ []) a b old new
-  last_came c a b old begun new e f plain ends empty follows said =
+      → Appends a b (printed_after form begun.passed tables begun.chars.items direction) → PrintsOn form tables direction (c ∷ []) a b old new
+  last_came c a b old begun new e f plain ends empty follows noted =
       let text = old.chars.items ++ c ∷ [] in
       let units : units_by tables text ≡ units_by tables old.chars.items ++ unit_by tables c ∷ [] = map-append (unit_by tables) old.chars.items (c ∷ []) in
       let follows_old : Follows old.passed (length text) new.passed = subst (λ p. Follows p (length text) new.passed) e (subst (λ cs. Follows begun.passed (length cs) new.passed) f follows) in
@@ -129,17 +129,17 @@ module _ (form : Form) (tables : TablesOf) (direction : Direction) where
         ended = text;
         joined = ap (λ cs. text ++ cs) empty ∙ append-nil text;
         whole = λ rest. ended_then (separates tables) old.chars.items rest c ends;
-        said = subst (λ p. Appends a b (printed_behind form p tables text direction)) e (subst (λ cs. Appends a b (printed_behind form begun.passed tables cs direction)) f said);
-        behind = λ rest.
+        noted = subst (λ p. Appends a b (printed_after form p tables text direction)) e (subst (λ cs. Appends a b (printed_after form begun.passed tables cs direction)) f noted);
+        following = λ rest.
             paragraph_follows form old.passed new.passed tables text rest direction
             (subst SeparatorOnlyLast (sym units) (plain_then (units_by tables old.chars.items) (unit_by tables c) plain)) (subst EndsWithSeparator (sym units) (ends_then (units_by tables old.chars.items) (unit_by tables c) ends))
             (omega (arith, length-append old.chars.items (c ∷ []))) follows_old;
       }
 
   -- what is printed after nothing
-  whole_behind : (first : Begun) (text : List ℕ) → (let start : Passed = record { paragraphs = 0; characters = 0 } in first.passed ≡ start)
-      → printed_behind form first.passed tables text direction ≡ printed_as form tables text direction
-  whole_behind first text start =
+  printed_at_start : (first : Begun) (text : List ℕ) → (let start : Passed = record { paragraphs = 0; characters = 0 } in first.passed ≡ start)
+      → printed_after form first.passed tables text direction ≡ printed_as form tables text direction
+  printed_at_start first text start =
       printed_whole form first.passed tables text direction (ap (λ (p : Passed). p.paragraphs) start) (ap (λ (p : Passed). p.characters) start)
 
   -- the paragraphs that have ended are printed
@@ -150,13 +150,13 @@ module _ (form : Form) (tables : TablesOf) (direction : Direction) where
       let plain : ArePlain (units_by tables begun.chars.items) = subst ArePlain is.units is.plain in
       let ended : ended_paragraphs tables text ≡ f.ended =
       ap (ended_paragraphs tables) (sym joined) ∙ f.whole begun.chars.items ∙ ap (λ cs. f.ended ++ cs) (none_ended tables begun.chars.items plain) ∙ append-nil f.ended in
-      Appends-to a b _ _ (whole_behind first f.ended start ∙ ap (λ cs. printed_as form tables cs direction) (sym ended)) f.said
+      Appends-to a b _ _ (printed_at_start first f.ended start ∙ ap (λ cs. printed_as form tables cs direction) (sym ended)) f.noted
 
   -- all paragraphs are printed
   pub all_came : (text : List ℕ) (a b c : Option (List ℕ)) (first begun : Begun) → first.chars.items ≡ [] → (let start : Passed = record { paragraphs = 0; characters = 0 } in first.passed ≡ start)
-      → PrintsOn form tables direction text a b first begun → Appends b c (printed_behind form begun.passed tables begun.chars.items direction) → Appends a c (printed_as form tables text direction)
-  all_came text a b c first begun empty start f said =
+      → PrintsOn form tables direction text a b first begun → Appends b c (printed_after form begun.passed tables begun.chars.items direction) → Appends a c (printed_as form tables text direction)
+  all_came text a b c first begun empty start f noted =
       let joined : f.ended ++ begun.chars.items ≡ text = f.joined ∙ ap (λ cs. cs ++ text) empty in
       Appends-to a c _ _
-      (sym (f.behind begun.chars.items) ∙ ap (λ cs. printed_behind form first.passed tables cs direction) joined ∙ whole_behind first text start)
-      (Appends-joined a b c _ _ f.said said)
+      (sym (f.following begun.chars.items) ∙ ap (λ cs. printed_after form first.passed tables cs direction) joined ∙ printed_at_start first text start)
+      (Appends-joined a b c _ _ f.noted noted)

@@ -11,8 +11,8 @@ abbrev pub ended_by_lf : List ℕ → List ℕ
 ended_by_lf text = up_to_separator (λ c. c == 10) text
 
 -- the paragraph after the last separator has not ended
-pub last_left_out : ended_by_lf (codes "a\n\nbc\nd") ≡ codes "a\n\nbc\n"
-last_left_out = refl
+pub last_omitted : ended_by_lf (codes "a\n\nbc\nd") ≡ codes "a\n\nbc\n"
+last_omitted = refl
 
 pub all_ended : ended_by_lf (codes "a\nb\n") ≡ codes "a\nb\n"
 all_ended = refl
@@ -21,10 +21,10 @@ pub none_ended : ended_by_lf (codes "ab") ≡ []
 none_ended = refl
 
 -- an incomplete character is not in the front, and nothing after invalid bytes is
-pub begun_left_out : utf8_front (97 ∷ 215 ∷ []) ≡ 97 ∷ []
+pub begun_omitted : utf8_front (97 ∷ 215 ∷ []) ≡ 97 ∷ []
 unfolding utf8_valid_len is_utf8 chars encode_utf8
-begun_left_out = refl
+begun_omitted = refl
 
-pub behind_a_fault : utf8_front (97 ∷ 255 ∷ 10 ∷ 98 ∷ []) ≡ 97 ∷ []
+pub after_invalid_bytes : utf8_front (97 ∷ 255 ∷ 10 ∷ 98 ∷ []) ≡ 97 ∷ []
 unfolding utf8_valid_len is_utf8 chars encode_utf8
-behind_a_fault = refl
+after_invalid_bytes = refl

@@ -1,8 +1,8 @@
-pub mod Behind
+pub mod Following
 pub mod Columns
 pub mod EndedParagraphs
 pub mod Fronts
-pub mod HeldBytes
+pub mod ReadBytes
 pub mod HexDigits
 pub mod LevelsText
 pub mod PrintStops

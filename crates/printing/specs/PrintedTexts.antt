@@ -5,7 +5,7 @@ use Rattle.units.specs.Layout.{layout_of}
 use Rattle.units.specs.Limits.{standard}
 use Rattle.units.specs.declared.bracket.Unit.{Unit as BidiUnit}
 use Rattle.units.specs.declared.level.Direction.{Direction}
-use Rattle.ucdfiles.specs.Tables.{TablesOf, glyph_by, units_by}
+use Rattle.ucdfiles.specs.Tables.{TablesOf, mirror_by, units_by}
 use Rattle.printing.specs.Columns.{column_breaks_of}
 use Rattle.printing.specs.LevelsText.{levels_text}
 use Rattle.printing.specs.ReorderText.{reorder_text}
@@ -29,4 +29,4 @@ breaks_of text (Some columns) = column_breaks_of text columns.value
 abbrev pub printed_reorder : TablesOf → List ℕ → Direction → Option NonZeroU16 → List ℕ
 printed_reorder tables chars direction columns =
     let text = units_by tables chars in
-    lines_text (glyph_by tables.mirrors) chars text direction (breaks_of text columns)
+    lines_text (mirror_by tables.mirrors) chars text direction (breaks_of text columns)

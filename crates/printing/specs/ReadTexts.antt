@@ -5,9 +5,9 @@ use Rattle.std.specs.Str.{IsUtf8, chars}
 use Rattle.std.specs.Str.Lossy.{utf8_valid_len}
 use Rattle.units.specs.declared.level.Direction.{Direction}
 use Rattle.ucdfiles.specs.Tables.{TablesOf}
-use Rattle.printing.specs.Behind.{printed_as}
+use Rattle.printing.specs.Following.{printed_as}
 use Rattle.printing.specs.EndedParagraphs.{ended_paragraphs}
-use Rattle.printing.specs.HeldBytes.{IsReadTo}
+use Rattle.printing.specs.ReadBytes.{IsReadTo}
 use Rattle.printing.specs.TextPlaces.{place_after}
 use Rattle.printing.specs.declared.fault.PrintStop.{PrintStop}
 use Rattle.printing.specs.declared.fault.PrintStop.TheVariants as stop
@@ -29,7 +29,7 @@ printed_ended form tables bytes direction = printed_as form tables (ended_paragr
 -- the bytes are UTF-8, and known bytes grew by what is printed of their text in this form
 pub record IsPrinted (form : Form) (tables : TablesOf) (direction : Direction) (bytes : List ℕ) (before after : Option (List ℕ)) : Type 0 where
   pub utf8 : IsUtf8 bytes
-  pub said : Appends before after (printed_as form tables (chars bytes) direction)
+  pub noted : Appends before after (printed_as form tables (chars bytes) direction)
 
 -- known bytes grew by this text if it was written completely; if a write failed, nothing is known
 abbrev pub IsWritten : Written → Option (List ℕ) → Option (List ℕ) → List ℕ → Type 0
@@ -46,10 +46,10 @@ pub record IsNotUtf8 (bytes : List ℕ) (place : TextPlace) : Type 0 where
 pub record IsReadUpTo {S : Type 0} (gives : S → List ℕ → S → Type 0) (start now : S) (place : TextPlace) (buffer : List ℕ) : Type 0 where
   pub bytes : List ℕ
   pub front : List ℕ
-  pub held : List ℕ
+  pub stored : List ℕ
   pub more : List ℕ
-  pub cut : IsReadTo bytes front held
-  pub buffer_is : buffer ≡ held ++ more
+  pub cut : IsReadTo bytes front stored
+  pub buffer_is : buffer ≡ stored ++ more
   pub given : gives start (bytes ++ more) now
   pub place_is : place ≡ place_after front
 

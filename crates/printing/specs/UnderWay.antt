@@ -5,7 +5,7 @@ use Rattle.units.specs.Classes.{is_separator}
 use Rattle.units.specs.declared.bracket.Unit.{Unit as BidiUnit}
 use Rattle.units.specs.declared.level.Direction.{Direction}
 use Rattle.ucdfiles.specs.Tables.{TablesOf, units_by}
-use Rattle.printing.specs.Behind.{printed_behind}
+use Rattle.printing.specs.Following.{printed_after}
 use Rattle.printing.specs.EndedParagraphs.{ended_paragraphs}
 use Rattle.printing.specs.declared.form.Form.{Form}
 use Rattle.printing.specs.declared.begun.Begun.{Begun}
@@ -17,8 +17,8 @@ ArePlain [] = Unit {0}
 ArePlain (unit ∷ units) = (is_separator unit.class ≡ false) × ArePlain units
 
 -- how many characters came so far
-abbrev pub handed_in : Begun → ℕ
-handed_in begun = begun.passed.characters + length begun.chars.items
+abbrev pub chars_so_far : Begun → ℕ
+chars_so_far begun = begun.passed.characters + length begun.chars.items
 
 -- the paragraph has the units that the tables give its characters, it has not ended, and no passed paragraph was empty
 pub record IsBegun (tables : TablesOf) (begun : Begun) : Type 0 where
@@ -37,6 +37,6 @@ pub record PrintsOn (form : Form) (tables : TablesOf) (direction : Direction) (m
   pub ended : List ℕ
   pub joined : ended ++ new.chars.items ≡ old.chars.items ++ more
   pub whole : (rest : List ℕ) → ended_paragraphs tables (ended ++ rest) ≡ ended ++ ended_paragraphs tables rest
-  pub said : Appends before after (printed_behind form old.passed tables ended direction)
-  pub behind : (rest : List ℕ) → printed_behind form old.passed tables (ended ++ rest) direction
-      ≡ printed_behind form old.passed tables ended direction ++ printed_behind form new.passed tables rest direction
+  pub noted : Appends before after (printed_after form old.passed tables ended direction)
+  pub following : (rest : List ℕ) → printed_after form old.passed tables (ended ++ rest) direction
+      ≡ printed_after form old.passed tables ended direction ++ printed_after form new.passed tables rest direction

@@ -20,7 +20,7 @@ impl Begun {
     ghost use Rattle.units.specs.Layout.{longest_text};
     ghost use Rattle.ucdfiles.specs.Tables.{TablesOf};
     ghost use Rattle.lines.specs.Scratches.{room_of};
-    ghost use Rattle.printing.specs.UnderWay.{Follows, IsBegun, handed_in};
+    ghost use Rattle.printing.specs.UnderWay.{Follows, IsBegun, chars_so_far};
 
     /// Returns the first paragraph, still without characters.
     pub(crate) fn new(alloc: Global) -> Result<Begun, Memory>
@@ -68,7 +68,7 @@ impl Begun {
 
     /// Passes the paragraph and begins the next one.
     pub(crate) fn pass(&mut self)
-        requires characters { handed_in self.old ≤ longest_text }
+        requires characters { chars_so_far self.old ≤ longest_text }
         requires paragraphs { self.old.passed.paragraphs ≤ self.old.passed.characters }
         ensures chars { self.new.chars.items ≡ [] }
         ensures units { self.new.units.items ≡ [] }

@@ -22,9 +22,9 @@ pub(crate) fn hold(buffer: &mut [u8], taken: usize, filled: usize) -> usize
     requires filled { filled ≤ length buffer.old }
     ensures len { length buffer.new ≡ length buffer.old }
     ensures few { result ≤ 4 }
-    ensures held { take result buffer.new ≡ take 4 (drop taken (take filled buffer.old)) }
+    ensures stored { take result buffer.new ≡ take 4 (drop taken (take filled buffer.old)) }
 {
-    let held = LONGEST_CHARACTER.min(filled - taken);
-    buffer.copy_within(taken..taken + held, 0);
-    held
+    let stored = LONGEST_CHARACTER.min(filled - taken);
+    buffer.copy_within(taken..taken + stored, 0);
+    stored
 }

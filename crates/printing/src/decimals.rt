@@ -64,14 +64,14 @@ pub fn put_decimal(number: u64, line: &mut [u8], end: usize) -> usize
     ensures start { result + length (decimal number) ≡ end }
     ensures written { drop result line.new ≡ decimal number ++ drop end line.old }
 {
-    let mut left = number;
+    let mut remaining = number;
     let mut start = end;
-    while left >= 10_000 {
-        let four = (left % 10_000) as u16;
-        left /= 10_000;
+    while remaining >= 10_000 {
+        let four = (remaining % 10_000) as u16;
+        remaining /= 10_000;
         put_pair((four % 100) as u8, line, start);
         put_pair((four / 100) as u8, line, start - 2);
         start -= 4;
     }
-    put_few(left as u16, line, start)
+    put_few(remaining as u16, line, start)
 }

@@ -4,7 +4,7 @@ ghost use Rattle.std.specs.Io.KnownBytes.{Appends};
 ghost use Rattle.units.specs.Isolates.{level_of_para};
 ghost use Rattle.units.specs.Layout.{longest_text};
 ghost use Rattle.lines.specs.Layouts.{view_of};
-ghost use Rattle.printing.specs.Behind.{one_paragraph_behind, position_behind};
+ghost use Rattle.printing.specs.Following.{one_paragraph_after, position_after};
 ghost use Rattle.printing.specs.LevelsText.{printed};
 
 use crate::passed::Passed;
@@ -28,7 +28,7 @@ fn print_positions<W: Write>(
     requires levels { length levels.now ≡ length chars.now }
     requires small { passed.characters + length chars.now ≤ longest_text }
     ensures { OnOk result (Appends (W.contents w.old) (W.contents w.new)
-        (printed (position_behind passed chars.now text.now levels.now) 0 (length chars.now))) }
+        (printed (position_after passed chars.now text.now levels.now) 0 (length chars.now))) }
 {
     for p in 0..chars.len() {
         print_position(w, passed.characters + p, chars[p], text[p].class, levels[p])?;
@@ -58,7 +58,7 @@ pub(crate) fn print_one_paragraph<W: Write>(
     requires levels { length (view_of layout.now).levels ≡ length chars.now }
     requires small { passed.characters + length chars.now ≤ longest_text }
     ensures { OnOk result (Appends (W.contents w.old) (W.contents w.new)
-        (one_paragraph_behind passed (slice_index_or (view_of layout.now).paras 0 0)
+        (one_paragraph_after passed (slice_index_or (view_of layout.now).paras 0 0)
         chars.now text.now (view_of layout.now).levels)) }
 {
     print_paragraph(w, passed.paragraphs, level_of_first(layout.para_levels()))?;

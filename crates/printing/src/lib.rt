@@ -7,7 +7,7 @@ mod cutting;
 pub mod decimals;
 pub mod fault;
 pub mod form;
-pub mod handing;
+pub mod feeding;
 mod layout_text;
 mod paragraphs;
 mod passed;

@@ -5,10 +5,10 @@ ghost use Rattle.units.specs.Layout.{layout_of, longest_text};
 ghost use Rattle.units.specs.Limits.{standard};
 ghost use Rattle.units.specs.Paragraphs.{SeparatorOnlyLast};
 ghost use Rattle.lines.specs.Scratches.{room_of};
-ghost use Rattle.ucdfiles.specs.Tables.{glyph_by, unit_by, units_by};
-ghost use Rattle.printing.specs.Behind.{levels_behind, printed_behind, printed_units};
+ghost use Rattle.ucdfiles.specs.Tables.{mirror_by, unit_by, units_by};
+ghost use Rattle.printing.specs.Following.{levels_after, printed_after, printed_units};
 ghost use Rattle.printing.specs.PrintedTexts.{breaks_of, lines_text};
-ghost use Rattle.printing.specs.UnderWay.{Follows, IsBegun, PrintsOn, handed_in};
+ghost use Rattle.printing.specs.UnderWay.{Follows, IsBegun, PrintsOn, chars_so_far};
 
 use crate::begun::Begun;
 use crate::columns::breaks_of;
@@ -43,7 +43,7 @@ fn print_levels_of<W: Write>(
     requires small { passed.characters + length chars.now ≤ longest_text }
     requires room { length units.now ≤ room_of room.old }
     ensures { OnOk result (Appends (W.contents w.old) (W.contents w.new)
-        (levels_behind passed chars.now units.now (layout_of standard units.now direction []))) }
+        (levels_after passed chars.now units.now (layout_of standard units.now direction []))) }
 {
     let breaks = Breaks::new(&[], units.len()).unwrap();
     lay_out_into(room, units, direction, &breaks).unwrap();
@@ -65,7 +65,7 @@ fn print_lines_of<W: Write>(
     requires units { length units.now ≡ length chars.now }
     requires room { length units.now ≤ room_of room.old }
     ensures { OnOk result (Appends (W.contents w.old) (W.contents w.new)
-        (lines_text (glyph_by mirrors.now) chars.now units.now direction (breaks_of units.now columns))) }
+        (lines_text (mirror_by mirrors.now) chars.now units.now direction (breaks_of units.now columns))) }
 {
     let positions = breaks_of(alloc, units, columns)?;
     let breaks = Breaks::new(&positions, units.len()).unwrap();
@@ -86,7 +86,7 @@ fn print_as<W: Write>(
     requires len { length begun.old.units.items ≡ length begun.old.chars.items }
     requires some { 0 < length begun.old.chars.items }
     requires one { SeparatorOnlyLast begun.old.units.items }
-    requires small { handed_in begun.old ≤ longest_text }
+    requires small { chars_so_far begun.old ≤ longest_text }
     requires room { length begun.old.units.items ≤ room_of begun.old.room }
     ensures printed { OnOk result (Appends (W.contents w.old) (W.contents w.new)
         (printed_units form begun.old.passed tables.now begun.old.chars.items begun.old.units.items direction)) }
@@ -122,10 +122,10 @@ fn print_begun<W: Write>(
     requires units { begun.old.units.items ≡ units_by tables.now begun.old.chars.items }
     requires some { 0 < length begun.old.chars.items }
     requires one { SeparatorOnlyLast begun.old.units.items }
-    requires small { handed_in begun.old ≤ longest_text }
+    requires small { chars_so_far begun.old ≤ longest_text }
     requires few { begun.old.passed.paragraphs ≤ begun.old.passed.characters }
     ensures printed { OnOk result (Appends (W.contents w.old) (W.contents w.new)
-        (printed_behind form begun.old.passed tables.now begun.old.chars.items direction)) }
+        (printed_after form begun.old.passed tables.now begun.old.chars.items direction)) }
     ensures chars { OnOk result (begun.new.chars.items ≡ []) }
     ensures units { OnOk result (begun.new.units.items ≡ []) }
     ensures passed { OnOk result (Follows begun.old.passed (length begun.old.chars.items) begun.new.passed) }
@@ -149,10 +149,10 @@ pub(crate) fn take_character<W: Write>(
     unit: Unit,
 ) -> Result<(), PrintStop>
     requires begun { IsBegun tables.now begun.old }
-    requires small { handed_in begun.old < longest_text }
+    requires small { chars_so_far begun.old < longest_text }
     requires unit { unit ≡ unit_by tables.now character }
     ensures begun { OnOk result (IsBegun tables.now begun.new) }
-    ensures handed { OnOk result (handed_in begun.new ≡ handed_in begun.old + 1) }
+    ensures passed_in { OnOk result (chars_so_far begun.new ≡ chars_so_far begun.old + 1) }
     ensures printed { OnOk result (PrintsOn form tables.now direction (character ∷ [])
         (W.contents w.old) (W.contents w.new) begun.old begun.new) }
 {
@@ -173,9 +173,9 @@ pub(crate) fn print_last<W: Write>(
     begun: &mut Begun,
 ) -> Result<(), PrintStop>
     requires begun { IsBegun tables.now begun.old }
-    requires small { handed_in begun.old ≤ longest_text }
+    requires small { chars_so_far begun.old ≤ longest_text }
     ensures { OnOk result (Appends (W.contents w.old) (W.contents w.new)
-        (printed_behind form begun.old.passed tables.now begun.old.chars.items direction)) }
+        (printed_after form begun.old.passed tables.now begun.old.chars.items direction)) }
 {
     if begun.chars.is_empty() {
         return Ok(());

@@ -5,7 +5,7 @@ ghost use Rattle.units.specs.Isolates.{level_of_para};
 ghost use Rattle.printing.specs.LevelsText.{position_text, paragraph_text};
 
 use crate::decimals::put_decimal;
-use crate::handing::{Pieces, hand_over};
+use crate::feeding::{Pieces, hand_over};
 use crate::pieces::{LONGEST_LINE, put_byte, put_bytes, put_code, put_level, put_name};
 use std::io;
 use std::io::Write;

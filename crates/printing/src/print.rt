@@ -2,7 +2,7 @@
 ghost use Rattle.std.specs.Prelude.{◌≡◌, ◌≤◌, [], length, OnOk};
 ghost use Rattle.std.specs.Io.KnownBytes.{Appends};
 ghost use Rattle.units.specs.Layout.{longest_text};
-ghost use Rattle.printing.specs.Behind.{printed_as};
+ghost use Rattle.printing.specs.Following.{printed_as};
 ghost use Rattle.printing.specs.PrintedTexts.{printed_levels, printed_reorder};
 ghost use Rattle.printing.specs.UnderWay.{IsBegun};
 
@@ -33,10 +33,10 @@ fn print_each<W: Write>(
     ensures { OnOk result (Appends (W.contents w.old) (W.contents w.new)
         (printed_as form tables.now text.now direction)) }
 {
-    let lent = tables.units();
+    let borrowed = tables.units();
     for k in 0..text.len() {
         let character = text[k];
-        let unit = lent.unit(character);
+        let unit = borrowed.unit(character);
         take_character(alloc, w, tables, direction, form, begun, character, unit)?;
     }
     print_last(alloc, w, tables, direction, form, begun)

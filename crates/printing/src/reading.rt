@@ -3,7 +3,7 @@ ghost use Rattle.std.specs.Prelude.{◌≡◌, ◌<◌, ◌≤◌, ◌+◌, ℕ,
 ghost use Rattle.std.specs.Str.{chars};
 ghost use Rattle.units.specs.Layout.{longest_text};
 ghost use Rattle.printing.specs.ReadTexts.{BreaksOff, EndsUnwritten, IsPrinted, IsReadUpTo, utf8_front};
-ghost use Rattle.printing.specs.UnderWay.{IsBegun, PrintsOn, handed_in};
+ghost use Rattle.printing.specs.UnderWay.{IsBegun, PrintsOn, chars_so_far};
 
 use crate::begun::Begun;
 use crate::cutting::{hold, utf8_front};
@@ -71,15 +71,15 @@ fn take_text<W: Write>(
     text: &str,
 ) -> Result<(), PrintStop>
     requires begun { IsBegun tables.now begun.old }
-    requires small { handed_in begun.old + length text.now ≤ longest_text }
+    requires small { chars_so_far begun.old + length text.now ≤ longest_text }
     ensures begun { OnOk result (IsBegun tables.now begun.new) }
-    ensures handed { OnOk result (handed_in begun.new ≡ handed_in begun.old + length (chars text.now)) }
+    ensures passed_in { OnOk result (chars_so_far begun.new ≡ chars_so_far begun.old + length (chars text.now)) }
     ensures printed { OnOk result (PrintsOn form tables.now direction (chars text.now)
         (W.contents w.old) (W.contents w.new) begun.old begun.new) }
 {
-    let lent = tables.units();
+    let borrowed = tables.units();
     for character in text.chars() {
-        let unit = lent.unit(character);
+        let unit = borrowed.unit(character);
         take_character(alloc, w, tables, direction, form, begun, character, unit)?;
     }
     Ok(())
@@ -97,11 +97,11 @@ fn take_front<W: Write>(
     bytes: &[u8],
 ) -> Result<usize, PrintStop>
     requires begun { IsBegun tables.now begun.old }
-    requires small { handed_in begun.old + length bytes.now ≤ longest_text }
+    requires small { chars_so_far begun.old + length bytes.now ≤ longest_text }
     ensures taken { IfOk result (λ taken. taken ≡ length (utf8_front bytes.now)) }
     ensures begun { OnOk result (IsBegun tables.now begun.new) }
-    ensures handed { OnOk result (handed_in begun.new
-        ≡ handed_in begun.old + length (chars (utf8_front bytes.now))) }
+    ensures passed_in { OnOk result (chars_so_far begun.new
+        ≡ chars_so_far begun.old + length (chars (utf8_front bytes.now))) }
     ensures printed { OnOk result (PrintsOn form tables.now direction (chars (utf8_front bytes.now))
         (W.contents w.old) (W.contents w.new) begun.old begun.new) }
 {
@@ -125,7 +125,7 @@ fn read_on<S: ByteSource>(
     requires long { 4 < length buffer.old }
     requires filled { filled ≤ length buffer.old }
     requires line { place.line ≤ place.offset + 1 }
-    requires bound { place.offset + filled + S.most_left source.old ≤ longest_text }
+    requires bound { place.offset + filled + S.most_remaining source.old ≤ longest_text }
     ensures { (start : S) → IsReadUpTo S.gives start source.old place (take filled buffer.old)
         → (given : List ℕ) × S.gives start given source.new
         × EndsUnwritten (S.failures source.new ≡ 1) (S.ended source.new) given result }
@@ -133,13 +133,13 @@ fn read_on<S: ByteSource>(
     loop {
         let taken = utf8_front(&buffer[..filled]).len();
         place = place.after(&buffer[..taken]);
-        let held = hold(buffer, taken, filled);
+        let stored = hold(buffer, taken, filled);
         let written = Written::CutOff;
-        match source.read(&mut buffer[held..]) {
+        match source.read(&mut buffer[stored..]) {
             Err(_) => return TextFault::Read { written },
-            Ok(0) if held > 0 => return TextFault::NotUtf8 { place, written },
+            Ok(0) if stored > 0 => return TextFault::NotUtf8 { place, written },
             Ok(0) => return TextFault::Write,
-            Ok(n) => filled = held + n,
+            Ok(n) => filled = stored + n,
         }
     }
 }
@@ -156,7 +156,7 @@ fn end_unwritten<S: ByteSource>(
     requires long { 4 < length buffer.old }
     requires filled { filled ≤ length buffer.old }
     requires line { place.line ≤ place.offset + 1 }
-    requires bound { place.offset + filled + S.most_left source.old ≤ longest_text }
+    requires bound { place.offset + filled + S.most_remaining source.old ≤ longest_text }
     ensures unread { stop ≡ PrintStop.NobodyReads
         → (result ≡ TextFault.NobodyReads) × (source.new ≡ source.old) }
     ensures memory { stop ≡ PrintStop.Memory → (result ≡ TextFault.Memory) × (source.new ≡ source.old) }
@@ -181,7 +181,7 @@ fn read_text<S: ByteSource, W: Write>(
     form: Form,
     begun: &mut Begun,
 ) -> Result<(), TextFault>
-    requires bound { S.most_left source.old ≤ longest_text }
+    requires bound { S.most_remaining source.old ≤ longest_text }
     requires begun { IsBegun tables.now begun.old }
     requires empty { begun.old.chars.items ≡ [] }
     requires first { begun.old.passed ≡ record { paragraphs = 0; characters = 0 } }
@@ -195,17 +195,17 @@ fn read_text<S: ByteSource, W: Write>(
     let written = Written::Whole;
     let mut place = TextPlace::start();
     let mut buffer = [0; 4096];
-    let mut held = 0;
+    let mut stored = 0;
     loop {
-        match source.read(&mut buffer[held..]) {
+        match source.read(&mut buffer[stored..]) {
             Err(_) => return Err(TextFault::Read { written }),
             Ok(0) => break,
             Ok(n) => {
-                let filled = held + n;
+                let filled = stored + n;
                 match take_front(alloc, w, tables, direction, form, begun, &buffer[..filled]) {
                     Ok(taken) => {
                         place = place.after(&buffer[..taken]);
-                        held = hold(&mut buffer, taken, filled);
+                        stored = hold(&mut buffer, taken, filled);
                     }
                     Err(stop) => {
                         return Err(end_unwritten(stop, source, place, &mut buffer, filled));
@@ -214,7 +214,7 @@ fn read_text<S: ByteSource, W: Write>(
             }
         }
     }
-    if held > 0 {
+    if stored > 0 {
         return Err(TextFault::NotUtf8 { place, written });
     }
     print_last(alloc, w, tables, direction, form, begun)?;
@@ -247,7 +247,7 @@ pub fn print_source<S: ByteSource, W: Write>(
     direction: Direction,
     form: Form,
 ) -> Result<(), TextFault>
-    requires { S.most_left source.old ≤ longest_text }
+    requires { S.most_remaining source.old ≤ longest_text }
     ensures whole { OnOk result (S.ended source.new) }
     ensures printed { OnOk result ((given : List ℕ) × S.gives source.old given source.new
         × IsPrinted form tables.now direction given (W.contents w.old) (W.contents w.new)) }

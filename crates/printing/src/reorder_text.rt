@@ -2,7 +2,7 @@
 ghost use Rattle.std.specs.Prelude.{◌≡◌, ◌<◌, length, OnOk};
 ghost use Rattle.std.specs.Io.KnownBytes.{Appends};
 ghost use Rattle.units.specs.Classes.{is_separator};
-ghost use Rattle.ucdfiles.specs.Tables.{glyph_by};
+ghost use Rattle.ucdfiles.specs.Tables.{mirror_by};
 ghost use Rattle.lines.specs.Layouts.{view_of};
 ghost use Rattle.printing.specs.ReorderText.{text_unless, text_of_line, reorder_text};
 ghost use Rattle.printing.specs.WaitingBytes.{with_waiting};
@@ -47,7 +47,7 @@ fn print_line<W: Write>(
     requires line { k < length (view_of layout.now).lines }
     ensures { OnOk result (Appends (with_waiting (W.contents w.old) waiting.old)
         (with_waiting (W.contents w.new) waiting.new)
-        (text_of_line (glyph_by mirrors.now) chars.now text.now (view_of layout.now) k)) }
+        (text_of_line (mirror_by mirrors.now) chars.now text.now (view_of layout.now) k)) }
 {
     let order = layout.line(k).order;
     for (position, character) in order.iter().zip(layout.shown(mirrors, chars, k)) {
@@ -67,7 +67,7 @@ pub fn print_lines<W: Write>(
     requires units { length text.now ≡ length chars.now }
     requires levels { length (view_of layout.now).levels ≡ length chars.now }
     ensures { OnOk result (Appends (W.contents w.old) (W.contents w.new)
-        (reorder_text (glyph_by mirrors.now) chars.now text.now (view_of layout.now))) }
+        (reorder_text (mirror_by mirrors.now) chars.now text.now (view_of layout.now))) }
 {
     let mut waiting = Waiting::new();
     for k in 0..layout.line_count() {

@@ -4,7 +4,7 @@ ghost use Rattle.std.specs.Char.{encode_utf8};
 ghost use Rattle.std.specs.Io.KnownBytes.{Appends};
 ghost use Rattle.printing.specs.WaitingBytes.{with_waiting};
 
-use crate::handing::{Pieces, hand_over};
+use crate::feeding::{Pieces, hand_over};
 use arrayvec::ArrayVec;
 use std::io;
 use std::io::Write;
@@ -80,7 +80,7 @@ impl Waiting {
         ensures room { OnOk result (length self.new + 4 ≤ 256) }
         ensures same { OnOk result (Appends (with_waiting (W.contents w.old) self.old)
             (with_waiting (W.contents w.new) self.new) []) }
-        ensures left { length self.old + 4 ≤ 256 → IsOk result × (self.new ≡ self.old) × (w.new ≡ w.old) }
+        ensures remaining { length self.old + 4 ≤ 256 → IsOk result × (self.new ≡ self.old) × (w.new ≡ w.old) }
     {
         if self.bytes.remaining_capacity() < LONGEST_CHARACTER {
             return self.write(w);

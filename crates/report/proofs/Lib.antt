@@ -9,4 +9,4 @@ pub mod ReadLevels
 pub mod LineOrders
 pub mod Holding
 pub mod Printing
-pub mod SettledCases
+pub mod DecidedCases

@@ -14,29 +14,29 @@ use Rattle.report.specs.declared.wrong_case.WrongCase.{WrongCase}
 use Rattle.report.specs.declared.print.ReportFault.{ReportFault}
 use Rattle.report.specs.declared.print.ReportFault.TheVariants.{Read, Write, NobodyReads}
 use Rattle.printing.specs.declared.written.Written.TheVariants.{Whole, CutOff}
-use Rattle.report.specs.FileReports.{report_of, settled_cases}
+use Rattle.report.specs.FileReports.{report_of, decided_cases}
 use Rattle.report.specs.Reporting.{EndedReport, Reporting, Reports, report_at_end}
-use Rattle.report.specs.PrintedReports.{BreaksOff, EndsUnwritten, HasTold, HasWrittenFirst, IsFaultOf, IsWriteFault, Prints, PrintsEnd, PrintsSettled}
+use Rattle.report.specs.PrintedReports.{BreaksOff, EndsUnwritten, HasReported, HasWrittenFirst, IsFaultOf, IsWriteFault, Prints, PrintsEnd, PrintsKnownCases}
 use Rattle.report.specs.ReportText.{first_cases_text, report_text, wrong_case_text}
-use Rattle.report.proofs.SettledCases.{told-settled}
+use Rattle.report.proofs.DecidedCases.{reported-decided}
 
--- the first cases of two joined lists, if `left` more may follow those of the first list
-take-both : (most left : ℕ) (xs ys : List WrongCase) → left + length (take most xs) ≡ most → take most (xs ++ ys) ≡ take most xs ++ take left ys
-take-both zero left xs ys e =
-    let none : left ≡ 0 = omega (arith, e) in rw none refl
-take-both (suc most) left [] ys e =
-    let all : suc most ≡ left = omega (arith, e) in ap (λ n. take n ys) all
-take-both (suc most) left (x ∷ xs) ys e = ap (λ ws. x ∷ ws) (take-both most left xs ys (omega (arith, e)))
+-- the first cases of two joined lists, if `remaining` more may follow those of the first list
+take-both : (most remaining : ℕ) (xs ys : List WrongCase) → remaining + length (take most xs) ≡ most → take most (xs ++ ys) ≡ take most xs ++ take remaining ys
+take-both zero remaining xs ys e =
+    let none : remaining ≡ 0 = omega (arith, e) in rw none refl
+take-both (suc most) remaining [] ys e =
+    let all : suc most ≡ remaining = omega (arith, e) in ap (λ n. take n ys) all
+take-both (suc most) remaining (x ∷ xs) ys e = ap (λ ws. x ∷ ws) (take-both most remaining xs ys (omega (arith, e)))
 
-length-both : (most left rest : ℕ) (xs ys : List WrongCase) → left + length (take most xs) ≡ most → rest + length (take left ys) ≡ left
+length-both : (most remaining rest : ℕ) (xs ys : List WrongCase) → remaining + length (take most xs) ≡ most → rest + length (take remaining ys) ≡ remaining
     → rest + length (take most (xs ++ ys)) ≡ most
-length-both most left rest xs ys e f =
-    omega (arith, e, f, ap (λ (ws : List WrongCase). length ws) (take-both most left xs ys e), length-append (take most xs) (take left ys))
+length-both most remaining rest xs ys e f =
+    omega (arith, e, f, ap (λ (ws : List WrongCase). length ws) (take-both most remaining xs ys e), length-append (take most xs) (take remaining ys))
 
-joined-text : (most left : ℕ) (xs ys : List WrongCase) → left + length (take most xs) ≡ most
-    → first_cases_text most xs ++ first_cases_text left ys ≡ first_cases_text most (xs ++ ys)
-joined-text most left xs ys e =
-    sym (ap (flat_map wrong_case_text) (take-both most left xs ys e) ∙ flat_map-append wrong_case_text (take most xs) (take left ys))
+joined-text : (most remaining : ℕ) (xs ys : List WrongCase) → remaining + length (take most xs) ≡ most
+    → first_cases_text most xs ++ first_cases_text remaining ys ≡ first_cases_text most (xs ++ ys)
+joined-text most remaining xs ys e =
+    sym (ap (flat_map wrong_case_text) (take-both most remaining xs ys e) ∙ flat_map-append wrong_case_text (take most xs) (take remaining ys))
 
 -- nothing is written yet
 pub nothing-written : (most : ℕ) (a : Option (List ℕ)) → HasWrittenFirst most [] a a most
@@ -44,35 +44,35 @@ nothing-written zero a = record { lines = Appends-nothing a; more = refl }
 nothing-written (suc most) a = record { lines = Appends-nothing a; more = omega arith }
 
 -- more cases, after others
-pub written-more : (most left rest : ℕ) (ws vs : List WrongCase) (a b c : Option (List ℕ)) → HasWrittenFirst most ws a b left → HasWrittenFirst left vs b c rest
+pub written-more : (most remaining rest : ℕ) (ws vs : List WrongCase) (a b c : Option (List ℕ)) → HasWrittenFirst most ws a b remaining → HasWrittenFirst remaining vs b c rest
     → HasWrittenFirst most (ws ++ vs) a c rest
-written-more most left rest ws vs a b c h g = record {
-  lines = Appends-to a c _ _ (joined-text most left ws vs h.more) (Appends-joined a b c _ _ h.lines g.lines);
-  more = length-both most left rest ws vs h.more g.more;
+written-more most remaining rest ws vs a b c h g = record {
+  lines = Appends-to a c _ _ (joined-text most remaining ws vs h.more) (Appends-joined a b c _ _ h.lines g.lines);
+  more = length-both most remaining rest ws vs h.more g.more;
 }
 
 -- no bytes report no cases
-pub nothing-told : (r : Reporting) → HasTold r [] [] r
-nothing-told r terms kind told b s = rw (append-nil told, append-nil b) s
+pub nothing-reported : (r : Reporting) → HasReported r [] [] r
+nothing-reported r terms kind reported b s = rw (append-nil reported, append-nil b) s
 
 -- the cases reported of bytes, after those reported of the bytes before
-pub told-more : (r s t : Reporting) (ws vs : List WrongCase) (xs ys : List ℕ) → HasTold r ws xs s → HasTold s vs ys t → HasTold r (ws ++ vs) (xs ++ ys) t
-told-more r s t ws vs xs ys f g terms kind told b h =
-    rw (← append_assoc told ws vs, ← append_assoc b xs ys) (g terms kind (told ++ ws) (b ++ xs) (f terms kind told b h))
+pub reported-more : (r s t : Reporting) (ws vs : List WrongCase) (xs ys : List ℕ) → HasReported r ws xs s → HasReported s vs ys t → HasReported r (ws ++ vs) (xs ++ ys) t
+reported-more r s t ws vs xs ys f g terms kind reported b h =
+    rw (← append_assoc reported ws vs, ← append_assoc b xs ys) (g terms kind (reported ++ ws) (b ++ xs) (f terms kind reported b h))
 
 -- a part of a piece has been passed to the report, and the first cases that it reported are written
-pub record HasGone (before after : Reporting) (most left : ℕ) (a b : Option (List ℕ)) (piece rest : List ℕ) : Type 0 where
+pub record HasGone (before after : Reporting) (most remaining : ℕ) (a b : Option (List ℕ)) (piece rest : List ℕ) : Type 0 where
   pub passed : List ℕ
   pub joined : passed ++ rest ≡ piece
   pub cases : List WrongCase
-  pub told : HasTold before cases passed after
-  pub written : HasWrittenFirst most cases a b left
+  pub reported : HasReported before cases passed after
+  pub written : HasWrittenFirst most cases a b remaining
 
 -- if a report breaks off, the cases that it reported are those of the final lines, which no further bytes change
-pub settled-written : (r s : Reporting) (most left : ℕ) (ws : List WrongCase) (a b : Option (List ℕ)) (xs ys : List ℕ) → ys ≡ xs → HasTold r ws xs s
-    → HasWrittenFirst most ws a b left → PrintsSettled Whole r most ys a b
-settled-written r s most left ws a b xs ys e told written terms kind just =
-    let is : ws ≡ settled_cases terms kind ys = told-settled terms kind s ws xs (told terms kind [] [] just) ∙ ap (settled_cases terms kind) (sym e) in
+pub decided-written : (r s : Reporting) (most remaining : ℕ) (ws : List WrongCase) (a b : Option (List ℕ)) (xs ys : List ℕ) → ys ≡ xs → HasReported r ws xs s
+    → HasWrittenFirst most ws a b remaining → PrintsKnownCases Whole r most ys a b
+decided-written r s most remaining ws a b xs ys e reported written terms kind just =
+    let is : ws ≡ decided_cases terms kind ys = reported-decided terms kind s ws xs (reported terms kind [] [] just) ∙ ap (decided_cases terms kind) (sym e) in
     Appends-to a b _ _ (ap (first_cases_text most) is) written.lines
 
 -- either nobody reads what is written any more, or the error has another kind
@@ -118,30 +118,30 @@ module _ (Failed Ended : Type 0) (r : Reporting) (most : ℕ) (a b : Option (Lis
   end-fails Gave given gave ended (Err fault) h = (given, gave, write-ends given fault ended h)
 
 -- the text of a whole report: the cases reported before the end, those of a last line, and the foot
-pub whole-printed : (r s : Reporting) (e : EndedReport) (most left : ℕ) (ws : List WrongCase) (given : List ℕ) (a b d : Option (List ℕ)) (right : Bool)
-    → HasTold r ws given s → HasWrittenFirst most ws a b left
-    → ((terms : Terms) (kind : Kind) (told : List WrongCase) (bs : List ℕ) → Reports terms kind s told bs → report_of terms kind bs ≡ report_at_end told e)
-    → PrintsEnd left e b d right → Prints r most given a d right
-whole-printed r s e most left ws given a b d right told written ends end terms kind just =
-    let is : report_of terms kind given ≡ report_at_end ws e = ends terms kind ws given (told terms kind [] [] just) in
-    let cases = written-more most left end.left ws e.found a b end.between written end.cases in
+pub whole-printed : (r s : Reporting) (e : EndedReport) (most remaining : ℕ) (ws : List WrongCase) (given : List ℕ) (a b d : Option (List ℕ)) (right : Bool)
+    → HasReported r ws given s → HasWrittenFirst most ws a b remaining
+    → ((terms : Terms) (kind : Kind) (reported : List WrongCase) (bs : List ℕ) → Reports terms kind s reported bs → report_of terms kind bs ≡ report_at_end reported e)
+    → PrintsEnd remaining e b d right → Prints r most given a d right
+whole-printed r s e most remaining ws given a b d right reported written ends end terms kind just =
+    let is : report_of terms kind given ≡ report_at_end ws e = ends terms kind ws given (reported terms kind [] [] just) in
+    let cases = written-more most remaining end.remaining ws e.found a b end.between written end.cases in
     record {
       text = Appends-to a d _ _ (ap (report_text most) (sym is)) (Appends-joined a end.between d _ _ cases.lines end.foot);
-      answer = end.answer terms kind ws given is;
+      outcome = end.outcome terms kind ws given is;
     }
 
 module _ (before : Reporting) (most : ℕ) (a : Option (List ℕ)) (piece : List ℕ) where
   pub nothing-gone : HasGone before before most most a a piece piece
-  nothing-gone = record { passed = []; joined = refl; cases = []; told = nothing-told before; written = nothing-written most a }
+  nothing-gone = record { passed = []; joined = refl; cases = []; reported = nothing-reported before; written = nothing-written most a }
 
   -- one more part of the piece
-  pub more-gone : (r t : Reporting) (left further : ℕ) (b c : Option (List ℕ)) (rest : List ℕ) (used : ℕ) (vs : List WrongCase)
-      → HasGone before r most left a b piece rest → HasTold r vs (take used rest) t → HasWrittenFirst left vs b c further
+  pub more-gone : (r t : Reporting) (remaining further : ℕ) (b c : Option (List ℕ)) (rest : List ℕ) (used : ℕ) (vs : List WrongCase)
+      → HasGone before r most remaining a b piece rest → HasReported r vs (take used rest) t → HasWrittenFirst remaining vs b c further
       → HasGone before t most further a c piece (drop used rest)
-  more-gone r t left further b c rest used vs h told written = record {
+  more-gone r t remaining further b c rest used vs h reported written = record {
     passed = h.passed ++ take used rest;
     joined = append_assoc h.passed (take used rest) (drop used rest) ∙ ap (λ xs. h.passed ++ xs) (take-append-drop used rest) ∙ h.joined;
     cases = h.cases ++ vs;
-    told = told-more before r t h.cases vs h.passed (take used rest) h.told told;
-    written = written-more most left further h.cases vs a b c h.written written;
+    reported = reported-more before r t h.cases vs h.passed (take used rest) h.reported reported;
+    written = written-more most remaining further h.cases vs a b c h.written written;
   }

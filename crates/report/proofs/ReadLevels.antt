@@ -10,13 +10,13 @@ use Rattle.units.specs.Layout.{TextLayout, all_orders}
 use Rattle.units.specs.Positions.{same_position}
 use Rattle.units.proofs.Positions.{same_position_refl}
 use Rattle.bidtests.specs.declared.verdict.Place.TheVariants.{ParaLevel as AtParaLevel, Levels as AtLevels, Order as AtOrder}
-use Rattle.bidtests.specs.Verdicts.{Claim, first_difference, placed_in}
+use Rattle.bidtests.specs.Verdicts.{Expected, first_difference, placed_in}
 use Rattle.report.specs.declared.terms.Leniency.{Leniency}
 use Rattle.report.specs.declared.terms.Parts.{Parts}
 use Rattle.report.specs.declared.terms.Parts.TheVariants as parts
 use Rattle.report.specs.declared.terms.Positions.{Positions}
 use Rattle.report.specs.declared.terms.Positions.TheVariants.{All, Shown}
-use Rattle.report.specs.ReadClaims.{is_compared, level_shown, levels_read, levels_shown, order_read, place_in, read_claim}
+use Rattle.report.specs.ReadExpected.{is_compared, level_shown, levels_read, levels_shown, order_read, place_in, read_expected}
 
 abbrev Levels : Type 0
 Levels = List (Option ℕ)
@@ -126,13 +126,13 @@ read-there parts.All compared levels claimed i e = claimed-there compared levels
 read-there parts.OrderAlone compared levels claimed i e = absurd (none-some i (sym (no-difference levels 0) ∙ e))
 
 -- if the first difference is in a level, the compared level is the expected one
-pub level-claimed : (l : Leniency) (layout : TextLayout) (claim : Claim) (i : ℕ) → place_in layout (read_claim l layout claim) ≡ Some (AtLevels i)
-    → slice_get (read_claim l layout claim).levels i ≡ slice_get claim.levels i
-level-claimed l layout claim i e =
-    read-there l.parts l.positions layout.levels claim.levels i (which _ _ _ i e)
+pub level-claimed : (l : Leniency) (layout : TextLayout) (expected : Expected) (i : ℕ) → place_in layout (read_expected l layout expected) ≡ Some (AtLevels i)
+    → slice_get (read_expected l layout expected).levels i ≡ slice_get expected.levels i
+level-claimed l layout expected i e =
+    read-there l.parts l.positions layout.levels expected.levels i (which _ _ _ i e)
 
 -- if only the order is compared, the place is in the order
-pub order-place : (compared : Positions) (layout : TextLayout) (claim : Claim)
-    → placed_in AtOrder (first_difference nat_eq (order_read compared layout.levels claim.order) (all_orders layout) 0)
-    ≡ place_in layout (read_claim (record { parts = parts.OrderAlone; positions = compared }) layout claim)
-order-place compared layout claim = rw (no-difference layout.levels 0) refl
+pub order-place : (compared : Positions) (layout : TextLayout) (expected : Expected)
+    → placed_in AtOrder (first_difference nat_eq (order_read compared layout.levels expected.order) (all_orders layout) 0)
+    ≡ place_in layout (read_expected (record { parts = parts.OrderAlone; positions = compared }) layout expected)
+order-place compared layout expected = rw (no-difference layout.levels 0) refl

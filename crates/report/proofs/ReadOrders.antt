@@ -8,7 +8,7 @@ use Rattle.std.proofs.lemmas.List.Quantifiers.{position-Some}
 use Rattle.std.proofs.lemmas.Option.{none-some}
 use Rattle.report.specs.declared.terms.Positions.{Positions}
 use Rattle.report.specs.declared.terms.Positions.TheVariants.{All, Shown}
-use Rattle.report.specs.ReadClaims.{is_compared, is_read, order_read}
+use Rattle.report.specs.ReadExpected.{is_compared, is_read, order_read}
 
 -- if all positions are compared, each one is read
 all-read : (levels : List (Option ℕ)) (p : ℕ) → is_read All levels p ≡ true
@@ -60,8 +60,8 @@ module _ (compared : Positions) (levels : List (Option ℕ)) where
       → order_read compared levels order ≡ get_or order i d ∷ order_read compared levels (drop (i + 1) order)
   first-read order i d e =
       let at = position-Some (is_read compared levels) order i d e in
-      let behind : suc i ≡ i + 1 = omega arith in
-      first-at order i d at.0 at.1 at.2 ∙ ap (λ n. get_or order i d ∷ order_read compared levels (drop n order)) behind
+      let following : suc i ≡ i + 1 = omega arith in
+      first-at order i d at.0 at.1 at.2 ∙ ap (λ n. get_or order i d ∷ order_read compared levels (drop n order)) following
 
 -- no more are read than there are
 filter-shorter : (test : ℕ → Bool) (ps : List ℕ) → length (filter test ps) ≤ length ps

@@ -11,44 +11,44 @@ use Rattle.bidtests.specs.LineReadings.{levels_in, order_in}
 use Rattle.bidtests.proofs.SameTables.{findings-as, in-force-as}
 use Rattle.report.specs.declared.wrong_case.WrongCase.{WrongCase}
 use Rattle.report.specs.FileReports.{first_malformed, report_on, report_of}
-use Rattle.report.specs.Reporting.{LineReporting, IsReportBehind, ReportsBy, Reports}
-use Rattle.report.specs.ReportedSoFar.{StateOf, HasToldFor, reporting}
-use Rattle.report.specs.Tallies.{tally_of}
+use Rattle.report.specs.Reporting.{LineReporting, IsReportAfter, ReportsBy, Reports}
+use Rattle.report.specs.ReportedSoFar.{StateOf, HasReportedFor, reporting}
+use Rattle.report.specs.ReportCounts.{counts_of}
 use Rattle.report.specs.WrongCases.{wrong_cases_from}
 
 module _ (terms : Terms) (kind other : Kind) (same : tables_of other ≡ tables_of kind) where
   report-as : (b : List ℕ) → report_of terms other b ≡ report_of terms kind b
   report-as b = ap (report_on terms) (sym (findings-as terms.limits kind other same (lines_of b)))
 
-  behind-as : (s : LineReporting) (told : List WrongCase) (lines : List (List ℕ)) → IsReportBehind terms kind s told lines → IsReportBehind terms other s told lines
-  behind-as s told lines h =
+  following-as : (s : LineReporting) (reported : List WrongCase) (lines : List (List ℕ)) → IsReportAfter terms kind s reported lines → IsReportAfter terms other s reported lines
+  following-as s reported lines h =
       let e = findings-as terms.limits kind other same lines in
       record {
         under = h.under;
         sound = subst (λ (fs : List Finding). first_malformed 0 fs ≡ None) e h.sound;
         lists = in-force-as kind other same (levels_in s.reading) (order_in s.reading) lines h.lists;
-        tally = h.tally ∙ ap (tally_of terms) e;
+        case_counts = h.case_counts ∙ ap (counts_of terms) e;
         cases = h.cases ∙ ap (wrong_cases_from terms 0) e;
       }
 
-  reports-as : (m : Option (ℕ × Cause)) (cutting : Cutting) (s : LineReporting) (told : List WrongCase) (b : List ℕ)
-      → ReportsBy terms kind m cutting s told b → ReportsBy terms other m cutting s told b
-  reports-as None cutting s told b h =
-      record { cutter = h.cutter; lines = h.lines; rest = h.rest; cut = h.cut; behind = behind-as s told h.lines h.behind }
-  reports-as (Some m) cutting s told b h = λ more. report-as (b ++ more) ∙ h more
+  reports-as : (m : Option (ℕ × Cause)) (cutting : Cutting) (s : LineReporting) (reported : List WrongCase) (b : List ℕ)
+      → ReportsBy terms kind m cutting s reported b → ReportsBy terms other m cutting s reported b
+  reports-as None cutting s reported b h =
+      record { splitter = h.splitter; lines = h.lines; rest = h.rest; cut = h.cut; following = following-as s reported h.lines h.following }
+  reports-as (Some m) cutting s reported b h = λ more. report-as (b ++ more) ∙ h more
 
 -- the state of a report on a file of one kind is one for each kind with the same tables
-pub told-for : (terms : Terms) (kind : Kind) (state : StateOf) (told : List WrongCase) (b : List ℕ)
-    → ReportsBy terms kind state.malformed state.cutting state.lines told b → HasToldFor terms (tables_of kind) state told b
-told-for terms kind state told b h = λ other same. reports-as terms kind other same state.malformed state.cutting state.lines told b h
+pub reported-for : (terms : Terms) (kind : Kind) (state : StateOf) (reported : List WrongCase) (b : List ℕ)
+    → ReportsBy terms kind state.malformed state.cutting state.lines reported b → HasReportedFor terms (tables_of kind) state reported b
+reported-for terms kind state reported b h = λ other same. reports-as terms kind other same state.malformed state.cutting state.lines reported b h
 
 -- the state of a report of this kind
-pub state-of : (terms : Terms) (kind own : Kind) (state : StateOf) (told : List WrongCase) (b : List ℕ)
-    → Reports terms kind (reporting own state) told b → HasToldFor terms (tables_of own) state told b
-state-of terms kind own state told b h =
-    told-for terms own state told b (subst (λ (k : Kind). ReportsBy terms k state.malformed state.cutting state.lines told b) (sym h.of) h.is)
+pub state-of : (terms : Terms) (kind own : Kind) (state : StateOf) (reported : List WrongCase) (b : List ℕ)
+    → Reports terms kind (reporting own state) reported b → HasReportedFor terms (tables_of own) state reported b
+state-of terms kind own state reported b h =
+    reported-for terms own state reported b (subst (λ (k : Kind). ReportsBy terms k state.malformed state.cutting state.lines reported b) (sym h.of) h.is)
 
 -- a report of this kind with this state
-pub reports-of : (terms : Terms) (kind own : Kind) (state : StateOf) (told : List WrongCase) (b : List ℕ) → own ≡ kind
-    → HasToldFor terms (tables_of own) state told b → Reports terms kind (reporting own state) told b
-reports-of terms kind own state told b of holds = record { of = of; is = holds kind (ap tables_of (sym of)) }
+pub reports-of : (terms : Terms) (kind own : Kind) (state : StateOf) (reported : List WrongCase) (b : List ℕ) → own ≡ kind
+    → HasReportedFor terms (tables_of own) state reported b → Reports terms kind (reporting own state) reported b
+reports-of terms kind own state reported b of holds = record { of = of; is = holds kind (ap tables_of (sym of)) }

@@ -1,8 +1,8 @@
-pub mod ReadClaims
+pub mod ReadExpected
 pub mod ReadRows
 pub mod Comparing
 pub mod WrongCases
-pub mod Tallies
+pub mod ReportCounts
 pub mod FileReports
 pub mod ReportText
 pub mod Reporting

@@ -12,35 +12,35 @@ use Rattle.printing.specs.ReadTexts.{IsWritten}
 use Rattle.printing.specs.declared.written.Written.{Written}
 use Rattle.printing.specs.declared.written.Written.TheVariants.{CutOff}
 use Rattle.report.specs.declared.wrong_case.WrongCase.{WrongCase}
-use Rattle.report.specs.FileReports.{FileReport, is_right, report_of, settled_cases}
+use Rattle.report.specs.FileReports.{FileReport, is_right, report_of, decided_cases}
 use Rattle.report.specs.Reporting.{EndedReport, Reporting, Reports, report_at_end}
 use Rattle.report.specs.ReportText.{first_cases_text, foot_text, report_text}
 
 -- the report reported these wrong cases while it was given these bytes
-abbrev pub HasTold : Reporting → List WrongCase → List ℕ → Reporting → Type 0
-HasTold before ws bytes after =
-    (terms : Terms) (kind : Kind) (told : List WrongCase) (b : List ℕ)
-    → Reports terms kind before told b → Reports terms kind after (told ++ ws) (b ++ bytes)
+abbrev pub HasReported : Reporting → List WrongCase → List ℕ → Reporting → Type 0
+HasReported before ws bytes after =
+    (terms : Terms) (kind : Kind) (reported : List WrongCase) (b : List ℕ)
+    → Reports terms kind before reported b → Reports terms kind after (reported ++ ws) (b ++ bytes)
 
--- the known bytes grew by the lines of the first of these wrong cases, at most `most`; `left` more may follow
-pub record HasWrittenFirst (most : ℕ) (ws : List WrongCase) (before after : Option (List ℕ)) (left : ℕ) : Type 0 where
+-- the known bytes grew by the lines of the first of these wrong cases, at most `most`; `remaining` more may follow
+pub record HasWrittenFirst (most : ℕ) (ws : List WrongCase) (before after : Option (List ℕ)) (remaining : ℕ) : Type 0 where
   pub lines : Appends before after (first_cases_text most ws)
-  pub more : left + length (take most ws) ≡ most
+  pub more : remaining + length (take most ws) ≡ most
 
 -- after the first wrong cases the end of a report is printed: the first of the wrong cases that it found last, as many
 -- as may follow, and the foot; the result is whether the file is right
 pub record PrintsEnd (most : ℕ) (ended : EndedReport) (before after : Option (List ℕ)) (right : Bool) : Type 0 where
   pub between : Option (List ℕ)
-  pub left : ℕ
-  pub cases : HasWrittenFirst most ended.found before between left
-  pub foot : Appends between after (foot_text ended.malformed ended.tally)
-  pub answer : (terms : Terms) (kind : Kind) (told : List WrongCase) (bytes : List ℕ)
-      → report_of terms kind bytes ≡ report_at_end told ended → right ≡ is_right (report_of terms kind bytes)
+  pub remaining : ℕ
+  pub cases : HasWrittenFirst most ended.found before between remaining
+  pub foot : Appends between after (foot_text ended.malformed ended.case_counts)
+  pub outcome : (terms : Terms) (kind : Kind) (reported : List WrongCase) (bytes : List ℕ)
+      → report_of terms kind bytes ≡ report_at_end reported ended → right ≡ is_right (report_of terms kind bytes)
 
 -- the known bytes grew by the text of the report; the result is whether the file is right
 pub record IsPrinted (most : ℕ) (report : FileReport) (before after : Option (List ℕ)) (right : Bool) : Type 0 where
   pub text : Appends before after (report_text most report)
-  pub answer : right ≡ is_right report
+  pub outcome : right ≡ is_right report
 
 -- a new report is printed, and these bytes are its whole file
 abbrev pub Prints : Reporting → ℕ → List ℕ → Option (List ℕ) → Option (List ℕ) → Bool → Type 0
@@ -50,15 +50,15 @@ Prints report most bytes before after right =
 
 -- unless a write failed, the lines of the wrong cases are printed that are on final lines, which no further bytes
 -- change
-abbrev pub PrintsSettled : Written → Reporting → ℕ → List ℕ → Option (List ℕ) → Option (List ℕ) → Type 0
-PrintsSettled written report most bytes before after =
+abbrev pub PrintsKnownCases : Written → Reporting → ℕ → List ℕ → Option (List ℕ) → Option (List ℕ) → Type 0
+PrintsKnownCases written report most bytes before after =
     (terms : Terms) (kind : Kind) → Reports terms kind report [] []
-    → IsWritten written before after (first_cases_text most (settled_cases terms kind bytes))
+    → IsWritten written before after (first_cases_text most (decided_cases terms kind bytes))
 
 -- a new report breaks off after these bytes: the source failed, and the wrong cases so far are printed unless a write
 -- failed; or the source ended, and a write failed; or nobody reads what is written
 abbrev pub BreaksOff : Type 0 → Type 0 → Reporting → ℕ → List ℕ → Option (List ℕ) → Option (List ℕ) → ReportFault → Type 0
-BreaksOff Failed Ended report most bytes before after (Read written) = Failed × PrintsSettled written report most bytes before after
+BreaksOff Failed Ended report most bytes before after (Read written) = Failed × PrintsKnownCases written report most bytes before after
 BreaksOff Failed Ended report most bytes before after Write = Ended
 BreaksOff Failed Ended report most bytes before after NobodyReads = Unit {0}
 

@@ -7,7 +7,7 @@ use Rattle.bidtests.specs.declared.verdict.Place.{Place}
 use Rattle.bidtests.specs.declared.verdict.Place.TheVariants.{ParaLevel, Levels, Order}
 use Rattle.bidtests.specs.declared.verdict.Verdict.TheVariants.{Malformed}
 use Rattle.bidtests.specs.VerdictText.{direction_word, verdict_text}
-use Rattle.report.specs.declared.tally.Tally.{Tally}
+use Rattle.report.specs.declared.case_counts.CaseCounts.{CaseCounts}
 use Rattle.report.specs.declared.wrong_case.Item.{Item}
 use Rattle.report.specs.declared.wrong_case.Item.TheVariants.{Ended, Removed, Level, Position}
 use Rattle.report.specs.declared.wrong_case.WrongCase.{WrongCase}
@@ -33,19 +33,19 @@ wrong_case_text w =
     ∷ codes ": claimed " ∷ item_text w.claimed ∷ codes ", defined " ∷ item_text w.defined ∷ codes "\n" ∷ [])
 
 -- how many rows and cases there are, and how many of them are wrong
-abbrev pub totals_text : Tally → List ℕ
+abbrev pub totals_text : CaseCounts → List ℕ
 totals_text t =
     concat (decimal t.rows ∷ codes " rows, " ∷ decimal t.wrong_rows ∷ codes " wrong; " ∷ decimal t.cases ∷ codes " cases, "
     ∷ decimal t.wrong_cases ∷ codes " wrong\n" ∷ [])
 
 -- how many wrong cases there are under each direction
-abbrev pub directions_text : Tally → List ℕ
+abbrev pub directions_text : CaseCounts → List ℕ
 directions_text t =
     concat (codes "wrong by direction: auto " ∷ decimal t.by_direction.auto ∷ codes ", ltr " ∷ decimal t.by_direction.ltr
     ∷ codes ", rtl " ∷ decimal t.by_direction.rtl ∷ codes ", auto-rtl " ∷ decimal t.by_direction.auto_rtl ∷ codes "\n" ∷ [])
 
 -- how many wrong cases there are by what differs first
-abbrev pub parts_text : Tally → List ℕ
+abbrev pub parts_text : CaseCounts → List ℕ
 parts_text t =
     concat (codes "wrong by place: paragraph level " ∷ decimal t.by_part.para_level ∷ codes ", levels " ∷ decimal t.by_part.levels
     ∷ codes ", order " ∷ decimal t.by_part.order ∷ codes "\n" ∷ [])
@@ -56,7 +56,7 @@ malformed_text None = []
 malformed_text (Some m) = verdict_text (Malformed m.0 m.1)
 
 -- the text after the wrong cases
-abbrev pub foot_text : Option (ℕ × Cause) → Tally → List ℕ
+abbrev pub foot_text : Option (ℕ × Cause) → CaseCounts → List ℕ
 foot_text malformed t = malformed_text malformed ++ totals_text t ++ directions_text t ++ parts_text t
 
 -- the lines of these wrong cases
@@ -69,4 +69,4 @@ first_cases_text most ws = wrong_cases_text (take most ws)
 
 -- the text of a report: its first wrong cases, at most `most`, and its foot
 abbrev pub report_text : ℕ → FileReport → List ℕ
-report_text most report = first_cases_text most report.wrong ++ foot_text report.malformed report.tally
+report_text most report = first_cases_text most report.wrong ++ foot_text report.malformed report.case_counts

@@ -8,13 +8,13 @@ use Rattle.units.specs.Lines.{line_number}
 use Rattle.units.specs.declared.level.Direction.{Direction}
 use Rattle.bidtests.specs.declared.verdict.Place.{Place}
 use Rattle.bidtests.specs.declared.verdict.Place.TheVariants.{ParaLevel, Levels, Order}
-use Rattle.bidtests.specs.Verdicts.{Claim, Finding, Silent, Row, Faulty}
+use Rattle.bidtests.specs.Verdicts.{Expected, Finding, Silent, Row, Faulty}
 use Rattle.bidtests.specs.Headline.{layout_under}
 use Rattle.report.specs.declared.terms.Leniency.{Leniency}
 use Rattle.report.specs.declared.wrong_case.Item.{Item}
 use Rattle.report.specs.declared.wrong_case.Item.TheVariants.{Ended, Removed, Level, Position}
 use Rattle.report.specs.declared.wrong_case.WrongCase.{WrongCase}
-use Rattle.report.specs.ReadClaims.{place_in, read_claim}
+use Rattle.report.specs.ReadExpected.{place_in, read_expected}
 
 -- the item at an index of a list of levels
 abbrev pub level_item : Option (Option ℕ) → Item
@@ -33,10 +33,10 @@ para_item None = Ended
 para_item (Some level) = Level level
 
 -- the expected item at a place
-abbrev pub claimed_at : Claim → Place → Item
-claimed_at claim ParaLevel = para_item claim.para_level
-claimed_at claim (Levels i) = level_item (slice_get claim.levels i)
-claimed_at claim (Order i) = position_item (slice_get claim.order i)
+abbrev pub expected_at : Expected → Place → Item
+expected_at expected ParaLevel = para_item expected.para_level
+expected_at expected (Levels i) = level_item (slice_get expected.levels i)
+expected_at expected (Order i) = position_item (slice_get expected.order i)
 
 -- the item of a layout at a place
 abbrev pub defined_at : TextLayout → Place → Item
@@ -45,34 +45,34 @@ defined_at layout (Levels i) = level_item (slice_get layout.levels i)
 defined_at layout (Order i) = position_item (slice_get (all_orders layout) i)
 
 -- the wrong case of a row on the line with this number, whose expected values differ from the layout at this place
-abbrev pub wrong_case_at : ℕ → Claim → Direction → TextLayout → Place → WrongCase
-wrong_case_at number claim d layout place = record {
+abbrev pub wrong_case_at : ℕ → Expected → Direction → TextLayout → Place → WrongCase
+wrong_case_at number expected d layout place = record {
   line = number;
   direction = d;
   place = place;
-  claimed = claimed_at claim place;
+  claimed = expected_at expected place;
   defined = defined_at layout place;
 }
 
 -- the wrong case of a row under the direction, if its expected values, as they are read, differ from this layout
-abbrev pub wrong_case_in : Leniency → ℕ → Claim → Direction → TextLayout → Option WrongCase
-wrong_case_in leniency number claim d layout =
-    let read = read_claim leniency layout claim in
+abbrev pub wrong_case_in : Leniency → ℕ → Expected → Direction → TextLayout → Option WrongCase
+wrong_case_in leniency number expected d layout =
+    let read = read_expected leniency layout expected in
     option_map (wrong_case_at number read d layout) (place_in layout read)
 
 -- the same for the layout under the direction
-abbrev pub wrong_case_under : Terms → ℕ → Claim → Direction → Option WrongCase
-wrong_case_under terms number claim d = wrong_case_in terms.leniency number claim d (layout_under terms.limits claim d)
+abbrev pub wrong_case_under : Terms → ℕ → Expected → Direction → Option WrongCase
+wrong_case_under terms number expected d = wrong_case_in terms.leniency number expected d (layout_under terms.limits expected d)
 
 -- the wrong cases of a row under these directions
-abbrev pub wrong_cases_under : Terms → ℕ → Claim → List Direction → List WrongCase
-wrong_cases_under terms number claim ds = flat_map (λ d. option_to_list (wrong_case_under terms number claim d)) ds
+abbrev pub wrong_cases_under : Terms → ℕ → Expected → List Direction → List WrongCase
+wrong_cases_under terms number expected ds = flat_map (λ d. option_to_list (wrong_case_under terms number expected d)) ds
 
 -- the wrong cases of the line with this number
 abbrev pub wrong_cases_in : Terms → ℕ → Finding → List WrongCase
 wrong_cases_in terms number Silent = []
 wrong_cases_in terms number (Faulty cause) = []
-wrong_cases_in terms number (Row claim) = wrong_cases_under terms number claim claim.directions
+wrong_cases_in terms number (Row expected) = wrong_cases_under terms number expected expected.directions
 
 -- the wrong cases of these lines, if k lines are before them
 abbrev pub wrong_cases_from : Terms → ℕ → List Finding → List WrongCase

@@ -6,7 +6,7 @@
 #![tactic(auto)]
 
 mod comparing;
-pub mod laws;
+pub mod theorems;
 mod line_report;
 pub mod print;
 mod read_order;
@@ -14,6 +14,6 @@ pub mod report;
 pub mod report_text;
 mod row_cases;
 pub mod state;
-pub mod tally;
+pub mod case_counts;
 pub mod terms;
 pub mod wrong_case;

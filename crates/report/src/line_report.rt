@@ -6,7 +6,7 @@ ghost use Rattle.lines.specs.Scratches.{room_of};
 ghost use Rattle.bidtests.specs.declared.line_reader.TheConstants.{MOST_UNITS};
 
 use crate::row_cases::find_wrong_cases;
-use crate::tally::Tally;
+use crate::case_counts::CaseCounts;
 use crate::terms::Terms;
 use crate::wrong_case::WrongCase;
 use bidtests::kind::Kind;
@@ -18,7 +18,7 @@ use std::marker::Model;
 use units::memory::Memory;
 
 /// The maximum number of wrong cases of a row: one for each direction.
-const MOST_FOUND: usize = 4;
+const MOST_CASES: usize = 4;
 
 /// Reports on lines, one after the other. It stores the terms, the `Scratch` for layouts, the line reader, the counts,
 /// and the wrong cases of the last line.
@@ -27,7 +27,7 @@ pub struct LineReport {
     terms: Terms,
     scratch: Scratch,
     reader: LineReader,
-    tally: Tally,
+    case_counts: CaseCounts,
     found: Vec<WrongCase>,
 }
 
@@ -36,30 +36,30 @@ impl Model for LineReport {
     ghost use Rattle.lines.specs.Scratches.{room_of};
     ghost use Rattle.bidtests.specs.declared.line_reader.TheConstants.{MOST_UNITS};
     ghost use Rattle.report.specs.Reporting.{LineReporting};
-    ghost use Rattle.report.specs.declared.line_report.TheConstants.{MOST_FOUND};
+    ghost use Rattle.report.specs.declared.line_report.TheConstants.{MOST_CASES};
 
     ghost Value = { LineReporting };
 
     ghost view = { λ s. record {
       terms = s.terms;
       reading = s.reader;
-      tally = s.tally;
+      case_counts = s.case_counts;
       found = s.found.items;
     } };
 
-    ghost invariant = { λ s. (room_of s.scratch ≡ MOST_UNITS) × (MOST_FOUND ≤ vec_capacity s.found) };
+    ghost invariant = { λ s. (room_of s.scratch ≡ MOST_UNITS) × (MOST_CASES ≤ vec_capacity s.found) };
 }
 
 // Returns an empty list with capacity for the wrong cases of a row.
 fn list(alloc: Global) -> Result<Vec<WrongCase>, Memory>
     ensures none { IfOk result (λ list. list.items ≡ []) }
-    ensures room { IfOk result (λ list. MOST_FOUND ≤ vec_capacity list) }
+    ensures room { IfOk result (λ list. MOST_CASES ≤ vec_capacity list) }
 {
-    Ok(Vec::with_capacity(alloc, MOST_FOUND)?)
+    Ok(Vec::with_capacity(alloc, MOST_CASES)?)
 }
 
 impl LineReport {
-    ghost use Rattle.bidtests.specs.LineReadings.{finding_behind};
+    ghost use Rattle.bidtests.specs.LineReadings.{finding_after};
     ghost use Rattle.report.specs.Reporting.{IsAtStart, IsAfterLine, HasNothingNew, cause_of, forgotten};
 
     /// Makes a report before its first line. Fails with `Memory`.
@@ -73,7 +73,7 @@ impl LineReport {
             terms,
             scratch,
             reader,
-            tally: Tally::new(),
+            case_counts: CaseCounts::new(),
             found,
         })
     }
@@ -86,10 +86,10 @@ impl LineReport {
     }
 
     /// Returns the counts.
-    pub fn tally(&self) -> Tally
-        ensures { result ≡ self.now.tally }
+    pub fn case_counts(&self) -> CaseCounts
+        ensures { result ≡ self.now.case_counts }
     {
-        self.tally
+        self.case_counts
     }
 
     /// Forgets the wrong cases of the last line.
@@ -104,22 +104,22 @@ impl LineReport {
     pub fn report_line(&mut self, kind: Kind<'_>, number: u64, line: &[u8]) -> Result<(), Cause>
         requires short { length line.now ≤ longest_line }
         requires none { self.old.found ≡ [] }
-        ensures cause { result_err result ≡ cause_of (finding_behind kind.entry self.old.reading line.now) }
+        ensures cause { result_err result ≡ cause_of (finding_after kind.entry self.old.reading line.now) }
         ensures after { OnOk result (IsAfterLine kind.entry number line.now self.old self.new) }
         ensures ended { OnErr result (HasNothingNew self.old self.new) }
     {
         let Some(asked) = self.reader.read_line(kind, line)? else {
             return Ok(());
         };
-        let claim = self.reader.claim(asked);
+        let expected = self.reader.expected(asked);
         find_wrong_cases(
             &mut self.scratch,
             number,
-            claim,
+            expected,
             &self.terms,
             &mut self.found,
         );
-        self.tally = self.tally.with_row(asked.directions.len(), &self.found);
+        self.case_counts = self.case_counts.with_row(asked.directions.len(), &self.found);
         Ok(())
     }
 }

@@ -1,10 +1,10 @@
 //! Prints a report while its file is read.
 ghost use Rattle.std.specs.Prelude.{◌≡◌, ◌≢◌, ℕ, List, IfOk, IfErr, OnOk};
 ghost use Rattle.std.specs.Io.KnownBytes.{Appends};
-ghost use Rattle.report.specs.declared.wrong_case.WrongCase.{WrongCase as Told};
+ghost use Rattle.report.specs.declared.wrong_case.WrongCase.{WrongCase as Reported};
 ghost use Rattle.std.specs.IoError.{error_kind};
 ghost use Rattle.std.specs.declared.io.ErrorKind.TheVariants.{BrokenPipe};
-ghost use Rattle.report.specs.PrintedReports.{BreaksOff, EndsUnwritten, HasTold, HasWrittenFirst};
+ghost use Rattle.report.specs.PrintedReports.{BreaksOff, EndsUnwritten, HasReported, HasWrittenFirst};
 ghost use Rattle.report.specs.PrintedReports.{IsFaultOf, IsWriteFault, Prints, PrintsEnd};
 ghost use Rattle.report.specs.ReportText.{wrong_cases_text};
 
@@ -67,17 +67,17 @@ fn print_piece<W: Write>(
     piece: &[u8],
     most: u64,
 ) -> io::Result<u64>
-    ensures { IfOk result (λ left. (told : List Told) × HasTold report.old told piece.now report.new
-        × HasWrittenFirst most told (W.contents w.old) (W.contents w.new) left) }
+    ensures { IfOk result (λ remaining. (reported : List Reported) × HasReported report.old reported piece.now report.new
+        × HasWrittenFirst most reported (W.contents w.old) (W.contents w.new) remaining) }
 {
     let mut rest = piece;
-    let mut left = most;
+    let mut remaining = most;
     while !rest.is_empty() {
         let used = report.take(rest);
-        left = print_first(w, report.found(), left)?;
+        remaining = print_first(w, report.found(), remaining)?;
         rest = &rest[used..];
     }
-    Ok(left)
+    Ok(remaining)
 }
 
 /// Reads the source to its end after a write failed, and returns the fault that comes first.
@@ -118,22 +118,22 @@ fn print_source<S: ByteSource, W: Write>(
     most: u64,
 ) -> Result<u64, ReportFault>
     ensures whole { OnOk result (S.ended source.new) }
-    ensures told { IfOk result (λ left. (given : List ℕ) × (told : List Told)
-        × S.gives source.old given source.new × HasTold report.old told given report.new
-        × HasWrittenFirst most told (W.contents w.old) (W.contents w.new) left) }
+    ensures reported { IfOk result (λ remaining. (given : List ℕ) × (reported : List Reported)
+        × S.gives source.old given source.new × HasReported report.old reported given report.new
+        × HasWrittenFirst most reported (W.contents w.old) (W.contents w.new) remaining) }
     ensures fault { IfErr result (λ fault. (given : List ℕ) × S.gives source.old given source.new
         × BreaksOff (S.failures source.new ≡ 1) (S.ended source.new) report.old most given
         (W.contents w.old) (W.contents w.new) fault) }
 {
     let written = Written::Whole;
-    let mut left = most;
+    let mut remaining = most;
     let mut piece = [0; 4096];
     loop {
         match source.read(&mut piece) {
             Err(_) => return Err(ReportFault::Read { written }),
-            Ok(0) => return Ok(left),
-            Ok(n) => match print_piece(w, report, &piece[..n], left) {
-                Ok(more) => left = more,
+            Ok(0) => return Ok(remaining),
+            Ok(n) => match print_piece(w, report, &piece[..n], remaining) {
+                Ok(more) => remaining = more,
                 Err(error) => return Err(end_unwritten(error, source)),
             },
         }
@@ -147,7 +147,7 @@ fn print_end<W: Write>(w: &mut W, ended: &Ended, most: u64) -> Result<bool, Repo
     ensures fault { IfErr result IsWriteFault }
 {
     print_first(w, ended.found(), most)?;
-    print_foot(w, ended.malformed(), &ended.tally())?;
+    print_foot(w, ended.malformed(), &ended.case_counts())?;
     Ok(ended.is_right())
 }
 
@@ -175,7 +175,7 @@ pub fn print_report<S: ByteSource, W: Write>(
         × BreaksOff (S.failures source.new ≡ 1) (S.ended source.new) report.entry most given
         (W.contents w.old) (W.contents w.new) fault) }
 {
-    let left = print_source(w, &mut report, source, most)?;
+    let remaining = print_source(w, &mut report, source, most)?;
     let ended = report.finish();
-    print_end(w, &ended, left)
+    print_end(w, &ended, remaining)
 }

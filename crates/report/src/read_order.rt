@@ -1,7 +1,7 @@
 // An expected order as it is read.
 ghost use Rattle.std.specs.Prelude.{◌≡◌};
 ghost use Rattle.std.specs.List.{position};
-ghost use Rattle.report.specs.ReadClaims.{is_read as is_read_by, order_read};
+ghost use Rattle.report.specs.ReadExpected.{is_read as is_read_by, order_read};
 
 use crate::terms::Positions;
 use units::level::Level;
@@ -32,7 +32,7 @@ fn first_read(compared: Positions, levels: &[Option<Level>], order: &[usize]) ->
 }
 
 impl<'a> ReadOrder<'a> {
-    ghost use Rattle.report.specs.Comparing.{order_left};
+    ghost use Rattle.report.specs.Comparing.{remaining_order};
 
     /// Makes the expected order of a text with these levels, as it is read.
     pub fn new(
@@ -40,7 +40,7 @@ impl<'a> ReadOrder<'a> {
         levels: &'a [Option<Level>],
         order: &'a [usize],
     ) -> ReadOrder<'a>
-        ensures { order_left result ≡ order_read compared levels.now order.now }
+        ensures { remaining_order result ≡ order_read compared levels.now order.now }
     {
         ReadOrder {
             compared,
@@ -52,13 +52,13 @@ impl<'a> ReadOrder<'a> {
 
 impl<'a> Iterator for ReadOrder<'a> {
     ghost use Rattle.std.specs.Iterator.{YieldsFirst, item_count};
-    ghost use Rattle.report.specs.Comparing.{order_left};
+    ghost use Rattle.report.specs.Comparing.{remaining_order};
 
     type Item = usize;
 
-    ghost next_gives = { YieldsFirst order_left };
+    ghost next_gives = { YieldsFirst remaining_order };
 
-    ghost remaining = { item_count order_left };
+    ghost remaining = { item_count remaining_order };
 
     fn next(&mut self) -> Option<usize> {
         let at = first_read(self.compared, self.levels, self.order)?;

@@ -2,12 +2,12 @@
 ghost use Rattle.std.specs.Prelude.{◌≡◌, ◌≤◌, ◌<◌, ℕ, List, [], ◌++◌, IfOk, length, take};
 ghost use Rattle.report.specs.declared.terms.Terms.{Terms as TermsOf};
 ghost use Rattle.bidtests.specs.declared.kind.Kind.{Kind as FileKind};
-ghost use Rattle.report.specs.declared.wrong_case.WrongCase.{WrongCase as Told};
+ghost use Rattle.report.specs.declared.wrong_case.WrongCase.{WrongCase as Reported};
 ghost use Rattle.report.specs.FileReports.{is_right, report_of};
 ghost use Rattle.report.specs.Reporting.{Reports, report_at_end};
 
 use crate::state::ReportState;
-use crate::tally::Tally;
+use crate::case_counts::CaseCounts;
 use crate::terms::Terms;
 use crate::wrong_case::WrongCase;
 use bidtests::kind::Kind;
@@ -39,7 +39,7 @@ impl<'t> Report<'t> {
     /// Makes a report on a file of this kind, before its first byte, with these terms. It takes all of its memory here.
     /// Fails with `Memory`.
     pub fn new(alloc: Global, kind: Kind<'t>, terms: Terms) -> Result<Report<'t>, Memory>
-        ensures stands { IfOk result (λ report. Reports terms kind.entry report [] []) }
+        ensures represents { IfOk result (λ report. Reports terms kind.entry report [] []) }
         ensures none { IfOk result (λ report. report.lines.found ≡ []) }
     {
         let state = ReportState::new(alloc, terms)?;
@@ -52,9 +52,9 @@ impl<'t> Report<'t> {
     pub fn take(&mut self, piece: &[u8]) -> usize
         ensures used { result ≤ length piece.now }
         ensures some { 0 < length piece.now → 0 < result }
-        ensures reports { (terms : TermsOf) (kind : FileKind) (told : List Told) (b : List ℕ)
-            → Reports terms kind self.old told b
-            → Reports terms kind self.new (told ++ self.new.lines.found) (b ++ take result piece.now) }
+        ensures reports { (terms : TermsOf) (kind : FileKind) (reported : List Reported) (b : List ℕ)
+            → Reports terms kind self.old reported b
+            → Reports terms kind self.new (reported ++ self.new.lines.found) (b ++ take result piece.now) }
     {
         self.state.take(self.kind, piece)
     }
@@ -68,8 +68,8 @@ impl<'t> Report<'t> {
 
     /// Takes the end of the file, which also ends the line that has begun. It takes no memory and always succeeds.
     pub fn finish(self) -> Ended
-        ensures { (terms : TermsOf) (kind : FileKind) (told : List Told) (b : List ℕ)
-            → Reports terms kind self.entry told b → report_of terms kind b ≡ report_at_end told result }
+        ensures { (terms : TermsOf) (kind : FileKind) (reported : List Reported) (b : List ℕ)
+            → Reports terms kind self.entry reported b → report_of terms kind b ≡ report_at_end reported result }
     {
         let Report { kind, mut state } = self;
         state.finish(kind);
@@ -101,18 +101,18 @@ impl Ended {
     }
 
     /// Returns the counts of the file, up to its first malformed line.
-    pub fn tally(&self) -> Tally
-        ensures { result ≡ self.now.tally }
+    pub fn case_counts(&self) -> CaseCounts
+        ensures { result ≡ self.now.case_counts }
     {
-        self.state.tally()
+        self.state.case_counts()
     }
 
     /// Returns whether the file is right: no line is malformed, and no case wrong.
     pub fn is_right(&self) -> bool
-        ensures { (terms : TermsOf) (kind : FileKind) (told : List Told) (b : List ℕ)
-            → report_of terms kind b ≡ report_at_end told self.now → result ≡ is_right (report_of terms kind b) }
+        ensures { (terms : TermsOf) (kind : FileKind) (reported : List Reported) (b : List ℕ)
+            → report_of terms kind b ≡ report_at_end reported self.now → result ≡ is_right (report_of terms kind b) }
     {
-        self.state.tally().wrong_cases == 0 && self.state.malformed().is_none()
+        self.state.case_counts().wrong_cases == 0 && self.state.malformed().is_none()
     }
 
     /// Returns the number of the first malformed line and why it is malformed, if there is one.

@@ -4,7 +4,7 @@ ghost use Rattle.std.specs.Io.KnownBytes.{Appends};
 ghost use Rattle.report.specs.ReportText.{directions_text, foot_text, item_text, malformed_text, parts_text};
 ghost use Rattle.report.specs.ReportText.{place_words, totals_text, wrong_case_text};
 
-use crate::tally::Tally;
+use crate::case_counts::CaseCounts;
 use crate::wrong_case::{Item, WrongCase};
 use bidtests::verdict::{Cause, Place, Verdict};
 use bidtests::verdict_line::{print_verdict, word_of_direction};
@@ -60,16 +60,16 @@ pub fn print_wrong_case<W: Write>(w: &mut W, case: &WrongCase) -> io::Result<()>
 }
 
 /// Writes how many rows and cases there are, and how many of them are wrong.
-fn print_totals<W: Write>(w: &mut W, tally: &Tally) -> io::Result<()>
-    ensures { OnOk result (Appends (W.contents w.old) (W.contents w.new) (totals_text tally.now)) }
+fn print_totals<W: Write>(w: &mut W, case_counts: &CaseCounts) -> io::Result<()>
+    ensures { OnOk result (Appends (W.contents w.old) (W.contents w.new) (totals_text case_counts.now)) }
 {
-    let Tally {
+    let CaseCounts {
         rows,
         cases,
         wrong_rows,
         wrong_cases,
         ..
-    } = *tally;
+    } = *case_counts;
     writeln!(
         w,
         "{rows} rows, {wrong_rows} wrong; {cases} cases, {wrong_cases} wrong"
@@ -77,10 +77,10 @@ fn print_totals<W: Write>(w: &mut W, tally: &Tally) -> io::Result<()>
 }
 
 /// Writes how many wrong cases there are under each direction.
-fn print_directions<W: Write>(w: &mut W, tally: &Tally) -> io::Result<()>
-    ensures { OnOk result (Appends (W.contents w.old) (W.contents w.new) (directions_text tally.now)) }
+fn print_directions<W: Write>(w: &mut W, case_counts: &CaseCounts) -> io::Result<()>
+    ensures { OnOk result (Appends (W.contents w.old) (W.contents w.new) (directions_text case_counts.now)) }
 {
-    let by = tally.by_direction;
+    let by = case_counts.by_direction;
     writeln!(
         w,
         "wrong by direction: auto {}, ltr {}, rtl {}, auto-rtl {}",
@@ -89,10 +89,10 @@ fn print_directions<W: Write>(w: &mut W, tally: &Tally) -> io::Result<()>
 }
 
 /// Writes how many wrong cases there are by what differs first.
-fn print_parts<W: Write>(w: &mut W, tally: &Tally) -> io::Result<()>
-    ensures { OnOk result (Appends (W.contents w.old) (W.contents w.new) (parts_text tally.now)) }
+fn print_parts<W: Write>(w: &mut W, case_counts: &CaseCounts) -> io::Result<()>
+    ensures { OnOk result (Appends (W.contents w.old) (W.contents w.new) (parts_text case_counts.now)) }
 {
-    let by = tally.by_part;
+    let by = case_counts.by_part;
     writeln!(
         w,
         "wrong by place: paragraph level {}, levels {}, order {}",
@@ -115,12 +115,12 @@ fn print_malformed<W: Write>(w: &mut W, malformed: Option<(u64, Cause)>) -> io::
 pub fn print_foot<W: Write>(
     w: &mut W,
     malformed: Option<(u64, Cause)>,
-    tally: &Tally,
+    case_counts: &CaseCounts,
 ) -> io::Result<()>
-    ensures { OnOk result (Appends (W.contents w.old) (W.contents w.new) (foot_text malformed tally.now)) }
+    ensures { OnOk result (Appends (W.contents w.old) (W.contents w.new) (foot_text malformed case_counts.now)) }
 {
     print_malformed(w, malformed)?;
-    print_totals(w, tally)?;
-    print_directions(w, tally)?;
-    print_parts(w, tally)
+    print_totals(w, case_counts)?;
+    print_directions(w, case_counts)?;
+    print_parts(w, case_counts)
 }

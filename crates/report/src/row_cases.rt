@@ -7,18 +7,18 @@ ghost use Rattle.units.specs.Layout.{all_orders};
 ghost use Rattle.lines.specs.Layouts.{view_of};
 ghost use Rattle.lines.specs.Scratches.{room_of};
 ghost use Rattle.bidtests.specs.LaidOut.{IsLaidOut};
-ghost use Rattle.bidtests.specs.Readings.{claim_of};
-ghost use Rattle.report.specs.Comparing.{order_left};
-ghost use Rattle.report.specs.ReadClaims.{place_in, read_claim};
-ghost use Rattle.report.specs.WrongCases.{claimed_at, defined_at, level_item, para_item, position_item};
+ghost use Rattle.bidtests.specs.Readings.{expected_of};
+ghost use Rattle.report.specs.Comparing.{remaining_order};
+ghost use Rattle.report.specs.ReadExpected.{place_in, read_expected};
+ghost use Rattle.report.specs.WrongCases.{expected_at, defined_at, level_item, para_item, position_item};
 ghost use Rattle.report.specs.WrongCases.{wrong_case_in, wrong_case_under, wrong_cases_under};
 
 use crate::comparing::wrong_place;
 use crate::read_order::ReadOrder;
 use crate::terms::{Leniency, Terms};
 use crate::wrong_case::{Item, WrongCase};
-use bidtests::claim::Claim;
-use bidtests::laid_out::lay_out_anew;
+use bidtests::expected::Expected;
+use bidtests::laid_out::lay_out_again;
 use bidtests::verdict::Place;
 use lines::layout::Layout;
 use lines::scratch::Scratch;
@@ -37,7 +37,7 @@ fn level_at(levels: &[Option<Level>], index: usize) -> Item
 
 /// Returns the item at an index of the rest of an order.
 fn position_at(mut order: ReadOrder<'_>, index: usize) -> Item
-    ensures { result ≡ position_item (slice_get (order_left order.entry) index) }
+    ensures { result ≡ position_item (slice_get (remaining_order order.entry) index) }
 {
     match order.nth(index) {
         None => Item::Ended,
@@ -46,7 +46,7 @@ fn position_at(mut order: ReadOrder<'_>, index: usize) -> Item
 }
 
 /// Returns the item of the first paragraph's expected level.
-fn claimed_level(level: Option<ParaLevel>) -> Item
+fn expected_level(level: Option<ParaLevel>) -> Item
     ensures { result ≡ para_item (option_map level_of_para level) }
 {
     match level {
@@ -69,28 +69,28 @@ fn first_level(paras: &[ParaLevel]) -> Item
 fn position_in(layout: &Layout<'_>, index: usize) -> Item
     ensures { result ≡ position_item (slice_get (all_orders (view_of layout.now)) index) }
 {
-    let mut left = index;
+    let mut remaining = index;
     for k in 0..layout.line_count() {
         let order = layout.line(k).order;
-        if left < order.len() {
-            return Item::Position(order[left]);
+        if remaining < order.len() {
+            return Item::Position(order[remaining]);
         }
-        left -= order.len();
+        remaining -= order.len();
     }
     Item::Ended
 }
 
 /// Returns the expected item at the first place where the expected values, as they are read, differ from the layout.
-fn item_claimed(leniency: Leniency, claim: Claim<'_>, layout: &Layout<'_>, place: Place) -> Item
-    requires { place_in (view_of layout.now) (read_claim leniency (view_of layout.now) (claim_of claim))
+fn expected_item(leniency: Leniency, expected: Expected<'_>, layout: &Layout<'_>, place: Place) -> Item
+    requires { place_in (view_of layout.now) (read_expected leniency (view_of layout.now) (expected_of expected))
         ≡ Some place }
-    ensures { result ≡ claimed_at (read_claim leniency (view_of layout.now) (claim_of claim.entry)) place }
+    ensures { result ≡ expected_at (read_expected leniency (view_of layout.now) (expected_of expected.entry)) place }
 {
     match place {
-        Place::ParaLevel => claimed_level(claim.para_level),
-        Place::Levels(index) => level_at(claim.levels, index),
+        Place::ParaLevel => expected_level(expected.para_level),
+        Place::Levels(index) => level_at(expected.levels, index),
         Place::Order(index) => {
-            let order = ReadOrder::new(leniency.positions, layout.levels(), claim.order);
+            let order = ReadOrder::new(leniency.positions, layout.levels(), expected.order);
             position_at(order, index)
         }
     }
@@ -111,19 +111,19 @@ fn item_defined(layout: &Layout<'_>, place: Place) -> Item
 /// the direction.
 fn wrong_case(
     line: u64,
-    claim: Claim<'_>,
+    expected: Expected<'_>,
     direction: Direction,
     leniency: Leniency,
     layout: &Layout<'_>,
 ) -> Option<WrongCase>
-    ensures { result ≡ wrong_case_in leniency line (claim_of claim.entry) direction (view_of layout.now) }
+    ensures { result ≡ wrong_case_in leniency line (expected_of expected.entry) direction (view_of layout.now) }
 {
-    let place = wrong_place(leniency, claim, layout)?;
+    let place = wrong_place(leniency, expected, layout)?;
     Some(WrongCase {
         line,
         direction,
         place,
-        claimed: item_claimed(leniency, claim, layout, place),
+        claimed: expected_item(leniency, expected, layout, place),
         defined: item_defined(layout, place),
     })
 }
@@ -132,14 +132,14 @@ fn wrong_case(
 fn case_under(
     scratch: &Scratch,
     line: u64,
-    claim: Claim<'_>,
+    expected: Expected<'_>,
     direction: Direction,
     terms: &Terms,
 ) -> Option<WrongCase>
-    requires { IsLaidOut terms.now.limits claim.text.now scratch.now direction }
-    ensures { result ≡ wrong_case_under terms.now line (claim_of claim.entry) direction }
+    requires { IsLaidOut terms.now.limits expected.text.now scratch.now direction }
+    ensures { result ≡ wrong_case_under terms.now line (expected_of expected.entry) direction }
 {
-    wrong_case(line, claim, direction, terms.leniency, &scratch.layout())
+    wrong_case(line, expected, direction, terms.leniency, &scratch.layout())
 }
 
 /// Puts the item at the end of the list, if there is one.
@@ -157,22 +157,22 @@ fn put<T: Copy>(list: &mut Vec<T>, item: Option<T>)
 pub fn find_wrong_cases(
     scratch: &mut Scratch,
     line: u64,
-    claim: Claim<'_>,
+    expected: Expected<'_>,
     terms: &Terms,
     found: &mut Vec<WrongCase>,
 )
-    requires fits { length claim.text.now ≤ room_of scratch.old }
+    requires fits { length expected.text.now ≤ room_of scratch.old }
     requires none { found.old.items ≡ [] }
-    requires room { length claim.directions.now ≤ vec_capacity found.old }
+    requires room { length expected.directions.now ≤ vec_capacity found.old }
     ensures found { found.new.items
-        ≡ wrong_cases_under terms.now line (claim_of claim.entry) claim.entry.directions.now }
+        ≡ wrong_cases_under terms.now line (expected_of expected.entry) expected.entry.directions.now }
     ensures room { room_of scratch.new ≡ room_of scratch.old }
     ensures capacity { vec_capacity found.new ≡ vec_capacity found.old }
 {
     let mut laid_out = None;
-    for direction in claim.directions {
-        laid_out = lay_out_anew(scratch, claim.text, *direction, terms.limits, laid_out);
-        let case = case_under(scratch, line, claim, *direction, terms);
+    for direction in expected.directions {
+        laid_out = lay_out_again(scratch, expected.text, *direction, terms.limits, laid_out);
+        let case = case_under(scratch, line, expected, *direction, terms);
         put(found, case);
     }
 }

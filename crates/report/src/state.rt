@@ -1,19 +1,19 @@
 //! The state of a report, without the tables that it borrows.
 ghost use Rattle.std.specs.Prelude.{◌≡◌, ◌≤◌, ◌<◌, ℕ, List, [], Option, IfOk, IfSome, OnErr, OnOk, length, take};
 ghost use Rattle.std.specs.Result.{result_err};
-ghost use Rattle.units.specs.LineAnswers.{CutIsShort};
+ghost use Rattle.units.specs.LineReturns.{CutIsShort};
 ghost use Rattle.report.specs.declared.terms.Terms.{Terms as TermsOf};
 ghost use Rattle.units.specs.Text.{longest_line};
 ghost use Rattle.ucdfiles.specs.Tables.{TablesOf};
 ghost use Rattle.bidtests.specs.JudgedSoFar.{tables_of};
-ghost use Rattle.report.specs.declared.wrong_case.WrongCase.{WrongCase as Told};
+ghost use Rattle.report.specs.declared.wrong_case.WrongCase.{WrongCase as Reported};
 ghost use Rattle.report.specs.FileReports.{report_of};
 ghost use Rattle.report.specs.Reporting.{IsAfterLast, IsAfterCut, HasNothingNew};
 ghost use Rattle.report.specs.Reporting.{malformed_by, malformed_last, report_at_end};
-ghost use Rattle.report.specs.ReportedSoFar.{HasToldFor, TakesIn, ended_in};
+ghost use Rattle.report.specs.ReportedSoFar.{HasReportedFor, TakesIn, ended_in};
 
 use crate::line_report::LineReport;
-use crate::tally::Tally;
+use crate::case_counts::CaseCounts;
 use crate::terms::Terms;
 use crate::wrong_case::WrongCase;
 use bidtests::kind::Kind;
@@ -29,7 +29,7 @@ use units::memory::Memory;
 /// has reported.
 #[derive(Drop)]
 pub struct ReportState {
-    cutter: LineCut,
+    splitter: LineCut,
     lines: LineReport,
     malformed: Option<(u64, Cause)>,
 }
@@ -39,7 +39,7 @@ impl Model for ReportState {
 
     ghost Value = { StateOf };
 
-    ghost view = { λ s. record { cutting = s.cutter; lines = s.lines; malformed = s.malformed } };
+    ghost view = { λ s. record { cutting = s.splitter; lines = s.lines; malformed = s.malformed } };
 }
 
 /// Reports on the line that a cut ends, if it ends one. Fails with its number and cause if it is malformed.
@@ -84,12 +84,12 @@ impl ReportState {
     /// Makes the state before the first byte of a file of either kind, with these terms. It takes all of its memory
     /// here. Fails with `Memory`.
     pub fn new(alloc: Global, terms: Terms) -> Result<ReportState, Memory>
-        ensures stands { IfOk result (λ state. (tables : Option TablesOf) → HasToldFor terms tables state [] []) }
+        ensures represents { IfOk result (λ state. (tables : Option TablesOf) → HasReportedFor terms tables state [] []) }
         ensures none { IfOk result (λ state. state.lines.found ≡ []) }
     {
         let lines = LineReport::new(alloc, terms)?;
         Ok(ReportState {
-            cutter: LineCut::new(),
+            splitter: LineCut::new(),
             lines,
             malformed: None,
         })
@@ -107,7 +107,7 @@ impl ReportState {
         if self.malformed.is_some() {
             return piece.len();
         }
-        let (used, taken) = self.cutter.take(piece);
+        let (used, taken) = self.splitter.take(piece);
         self.malformed = report_cut(kind, &mut self.lines, taken).err();
         used
     }
@@ -121,25 +121,25 @@ impl ReportState {
     }
 
     /// Takes the end of a file of this kind, which also ends the line that has begun. Afterwards `found` returns the
-    /// wrong cases of a last line that no LF ends, `tally` the counts of the file, and `malformed` its first malformed
+    /// wrong cases of a last line that no LF ends, `case_counts` the counts of the file, and `malformed` its first malformed
     /// line. It takes no memory and always succeeds. The contract doesn't say which bytes the state represents
     /// afterwards.
     pub fn finish(&mut self, kind: Kind<'_>)
-        ensures { (terms : TermsOf) (told : List Told) (b : List ℕ)
-            → HasToldFor terms (tables_of kind.entry) self.old told b
-            → report_of terms kind.entry b ≡ report_at_end told (ended_in self.new) }
+        ensures { (terms : TermsOf) (reported : List Reported) (b : List ℕ)
+            → HasReportedFor terms (tables_of kind.entry) self.old reported b
+            → report_of terms kind.entry b ≡ report_at_end reported (ended_in self.new) }
     {
         self.lines.forget();
         if self.malformed.is_none() {
-            self.malformed = report_last(kind, &mut self.lines, self.cutter.finish()).err();
+            self.malformed = report_last(kind, &mut self.lines, self.splitter.finish()).err();
         }
     }
 
     /// Returns the counts of the lines so far, up to the first malformed one.
-    pub fn tally(&self) -> Tally
-        ensures { result ≡ self.now.lines.tally }
+    pub fn case_counts(&self) -> CaseCounts
+        ensures { result ≡ self.now.lines.case_counts }
     {
-        self.lines.tally()
+        self.lines.case_counts()
     }
 
     /// Returns the number of the first malformed line and why it is malformed, if there is one.

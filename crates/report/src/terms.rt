@@ -1,6 +1,6 @@
 //! The terms of a report: the limits of its layouts, and which of a row's expected values it compares.
 ghost use Rattle.std.specs.Prelude.{◌≡◌};
-ghost use Rattle.report.specs.ReadClaims.{strict_terms};
+ghost use Rattle.report.specs.ReadExpected.{strict_terms};
 
 use units::level::Level;
 use units::limits::Limits;
@@ -25,7 +25,7 @@ pub enum Positions {
 }
 
 impl Positions {
-    ghost use Rattle.report.specs.ReadClaims.{is_compared};
+    ghost use Rattle.report.specs.ReadExpected.{is_compared};
 
     /// Returns whether a position with this level, or without one if X9 removes it, is compared.
     pub fn has(self, level: Option<Level>) -> bool

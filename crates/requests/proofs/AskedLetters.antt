@@ -32,10 +32,10 @@ chars_read (OfForm form) chars e = tt
 pub alphabet_done : (files : FileFacts) (k : FileKind) (source : TableSource) (kind : Kind) (letters : RowLetters) (xs : List Letter)
     → IsKindOfFile files k (Some source) kind → letters_asked kind letters ≡ Some xs → AreDone (alphabet_parts k letters)
 alphabet_done files Classes source kind letters xs h e =
-    let said = subst (λ (r : Kind). letters_asked r letters ≡ Some xs) h e in
-    let read = mapped_some (map letter.Class) (classes_asked letters) xs said in
+    let noted = subst (λ (r : Kind). letters_asked r letters ≡ Some xs) h e in
+    let read = mapped_some (map letter.Class) (classes_asked letters) xs noted in
     classes_read letters read.0 read.1
 alphabet_done files Characters source kind letters xs h e =
-    let said = subst (λ (r : Kind). letters_asked r letters ≡ Some xs) h.2 e in
-    let read = mapped_some (map (letter_by h.0.now)) (chars_asked letters) xs said in
+    let noted = subst (λ (r : Kind). letters_asked r letters ≡ Some xs) h.2 e in
+    let read = mapped_some (map (letter_by h.0.now)) (chars_asked letters) xs noted in
     chars_read letters read.0 read.1

@@ -14,9 +14,9 @@ use Rattle.requests.specs.ReadFiles.{AreTables, FileFacts, most_file_bytes, orig
 use Rattle.requests.specs.TableSources.{AreTablesBy}
 use Rattle.requests.specs.FaultText.{print_fault}
 use Rattle.requests.specs.Outcomes.{IsDone}
-use Rattle.requests.specs.ItemWords.{codes_said}
+use Rattle.requests.specs.ItemWords.{codes_named}
 use Rattle.requests.specs.Printed.{HoldsText, most_text_bytes}
-use Rattle.requests.specs.Parts.{AreDone, EndsWriting, FailsIn, FailsOver, IsFirstFault, RequestPart, all_parts_of, alphabet_parts, codes_parts, explaining_parts, file_part, lines_part, lines_parts, opening_part, printing_parts, row_parts, row_table_parts, row_text_parts, rows_parts, sought_part, source_parts, table_parts, text_parts, texts_part, whole_parts}
+use Rattle.requests.specs.Parts.{AreDone, EndsWriting, FailsIn, FailsOver, IsFirstFault, RequestPart, all_parts_of, alphabet_parts, codes_parts, explaining_parts, file_part, lines_part, lines_parts, opening_part, printing_parts, row_parts, row_table_parts, row_text_parts, rows_parts, row_search_part, source_parts, table_parts, text_parts, texts_part, whole_parts}
 use Rattle.requests.specs.DirectionWords.{SaysDirections}
 use Rattle.requests.specs.RowsPrinted.{HasPrintedRows}
 use Rattle.requests.proofs.AskedLetters.{alphabet_done}
@@ -28,7 +28,7 @@ use Rattle.requests.specs.declared.request.Request.{Request}
 use Rattle.requests.specs.declared.request.Request.TheVariants.{Text, ExplainClasses, ExplainCodes, ExplainRow, Judge, Report, Rows, RowsOf}
 use Rattle.requests.specs.declared.request.AskedLines.{AskedLines}
 use Rattle.requests.specs.declared.request.AskedRows.{AskedRows}
-use Rattle.requests.specs.declared.request.SoughtRow.{SoughtRow}
+use Rattle.requests.specs.declared.request.WantedRow.{WantedRow}
 use Rattle.requests.specs.declared.fault.Fault.{Fault}
 use Rattle.printing.specs.declared.fault.PrintFault.{PrintFault}
 use Rattle.printing.specs.declared.fault.PrintFault.TheVariants.{Write, Memory}
@@ -36,32 +36,32 @@ use Rattle.requests.specs.declared.outcome.Outcome.{Outcome}
 use Rattle.requests.specs.declared.outcome.Outcome.TheVariants.{Judged, Printed}
 
 -- a fault that is returned unchanged
-pub handed_on : (Ends : Fault → Type 0) {T : Type 0} (r : Result T Fault) (e : Fault) → IsErrAnd r (λ given. given ≡ e) → Ends e → IfErr r Ends
-handed_on Ends (Ok x) e same h = tt
-handed_on Ends (Err given) e same h = subst Ends (sym same) h
+pub passed_on : (Ends : Fault → Type 0) {T : Type 0} (r : Result T Fault) (e : Fault) → IsErrAnd r (λ given. given ≡ e) → Ends e → IfErr r Ends
+passed_on Ends (Ok x) e same h = tt
+passed_on Ends (Err given) e same h = subst Ends (sym same) h
 
 pub first_of_all : (xs ys : List RequestPart) (fault : Fault) → IsFirstFault xs fault → IsFirstFault (xs ++ ys) fault
 first_of_all [] ys fault h = absurd h
 first_of_all (x ∷ xs) ys fault (inl here) = inl here
 first_of_all (x ∷ xs) ys fault (inr later) = inr (later.0, first_of_all xs ys fault later.1)
 
-pub first_behind : (xs ys : List RequestPart) (fault : Fault) → AreDone xs → IsFirstFault ys fault → IsFirstFault (xs ++ ys) fault
-first_behind [] ys fault done h = h
-first_behind (x ∷ xs) ys fault done h = inr (done.0, first_behind xs ys fault done.1 h)
+pub first_fault_after : (xs ys : List RequestPart) (fault : Fault) → AreDone xs → IsFirstFault ys fault → IsFirstFault (xs ++ ys) fault
+first_fault_after [] ys fault done h = h
+first_fault_after (x ∷ xs) ys fault done h = inr (done.0, first_fault_after xs ys fault done.1 h)
 
 pub all_done : (xs ys : List RequestPart) → AreDone xs → AreDone ys → AreDone (xs ++ ys)
 all_done [] ys done rest = rest
 all_done (x ∷ xs) ys done rest = (done.0, all_done xs ys done.1 rest)
 
 -- what ends the parts after completed ones ends all
-pub FailsOver-behind : (xs first all : List RequestPart) (before after : Option (List ℕ)) (fault : Fault) → AreDone xs → FailsOver first all before after fault
+pub FailsOver-following : (xs first all : List RequestPart) (before after : Option (List ℕ)) (fault : Fault) → AreDone xs → FailsOver first all before after fault
     → FailsOver (xs ++ first) (xs ++ all) before after fault
-FailsOver-behind xs first all before after fault done (inl h) = inl (first_behind xs first fault done h.0, h.1)
-FailsOver-behind xs first all before after fault done (inr h) = inr (all_done xs all done h.0, h.1)
+FailsOver-following xs first all before after fault done (inl h) = inl (first_fault_after xs first fault done h.0, h.1)
+FailsOver-following xs first all before after fault done (inr h) = inr (all_done xs all done h.0, h.1)
 
-pub FailsIn-behind : (xs ys : List RequestPart) (before after : Option (List ℕ)) (fault : Fault) → AreDone xs → FailsIn ys before after fault
+pub FailsIn-following : (xs ys : List RequestPart) (before after : Option (List ℕ)) (fault : Fault) → AreDone xs → FailsIn ys before after fault
     → FailsIn (xs ++ ys) before after fault
-FailsIn-behind xs ys before after fault done h = FailsOver-behind xs ys ys before after fault done h
+FailsIn-following xs ys before after fault done h = FailsOver-following xs ys ys before after fault done h
 
 -- the tables that were read have no fault
 pub class_faultless : (bytes : List ℕ) → class_file_fault bytes ≡ None → first_fault class_fault [] (lines_of bytes) ≡ None
@@ -78,7 +78,7 @@ mirror_faultless bytes h = h
 
 pub tables_done : (files : FileFacts) (folder : List ℕ) (tables : TablesOf) → AreTables files folder tables → AreDone (table_parts files folder)
 tables_done files folder tables h = (
-  (h.class_path, h.class_found, (h.class_bytes, h.class_file, class_faultless h.class_bytes h.classes.faultless)),
+  (h.class_path, h.class_path_given, (h.class_bytes, h.class_file, class_faultless h.class_bytes h.classes.faultless)),
   (
     (h.bracket_bytes, h.bracket_file, bracket_faultless h.bracket_bytes h.brackets.faultless),
     ((h.mirror_bytes, h.mirror_file, mirror_faultless h.mirror_bytes h.mirrors.faultless), tt),
@@ -123,10 +123,10 @@ begun_done files source file tables h bytes begins =
 
 -- all parts of the explanation of code points are done
 pub codes_done : (files : FileFacts) (word : List ℕ) (source : TableSource) (tables : TablesOf) → AreTablesBy files source tables
-    → length word ≤ most_text_bytes → (chars : List ℕ) → codes_said word ≡ Some chars → AreDone (explaining_parts files word source)
+    → length word ≤ most_text_bytes → (chars : List ℕ) → codes_named word ≡ Some chars → AreDone (explaining_parts files word source)
 unfolding explaining_parts
-codes_done files word source tables h short chars said =
-    all_done (codes_parts word) (source_parts files source) (short, ((chars, said), tt)) (source_done files source tables h)
+codes_done files word source tables h short chars noted =
+    all_done (codes_parts word) (source_parts files source) (short, ((chars, noted), tt)) (source_done files source tables h)
 
 pub writing_ends : (f : PrintFault) → EndsWriting (print_fault f)
 writing_ends Write = tt
@@ -168,10 +168,10 @@ lines_done files asked directions says tables h text read short = (
 )
 
 -- if the search returned the row, all parts for it are done
-pub row_done : (files : FileFacts) (sought : SoughtRow) (rows : Kind) → IsKindOfFile files sought.kind sought.tables rows → (sought_part files sought).Done
-    → AreDone (row_parts files sought)
-row_done files sought rows is found = all_done (row_table_parts files sought.kind sought.tables) (sought_part files sought ∷ [])
-    (row_tables_done files sought.kind sought.tables rows is) (found, tt)
+pub row_done : (files : FileFacts) (wanted : WantedRow) (rows : Kind) → IsKindOfFile files wanted.kind wanted.tables rows → (row_search_part files wanted).Done
+    → AreDone (row_parts files wanted)
+row_done files wanted rows is found = all_done (row_table_parts files wanted.kind wanted.tables) (row_search_part files wanted ∷ [])
+    (row_tables_done files wanted.kind wanted.tables rows is) (found, tt)
 
 -- all parts of a completed request are done
 pub request_done : (files : FileFacts) (before after : Option (List ℕ)) (request : Request) (outcome : Outcome)
@@ -180,9 +180,9 @@ request_done files before after (Text source direction file print) Printed h =
     whole_done files source file.now h.tables h.stated h.text h.read
 request_done files before after (ExplainClasses word direction) Printed h = (h.short, ((h.classes, h.named), tt))
 request_done files before after (ExplainCodes word source direction) Printed h =
-    codes_done files word.now source h.tables h.stated h.short h.chars h.said_by
-request_done files before after (ExplainRow sought) Printed h =
-    row_done files sought h.rows h.is (h.rows, h.is, (h.row, h.found))
+    codes_done files word.now source h.tables h.stated h.short h.chars h.chars_named
+request_done files before after (ExplainRow wanted) Printed h =
+    row_done files wanted h.rows h.is (h.rows, h.is, (h.row, h.found))
 request_done files before after (Judge Classes tables file) (Judged status) h = ((h.bytes, h.read), tt)
 request_done files before after (Judge Characters (Some source) file) (Judged status) h =
     all_done (source_parts files source) (file_part files most_file_bytes file.now ∷ [])
@@ -195,7 +195,7 @@ request_done files before after (RowsOf asked) Printed h = lines_done files aske
 request_done files before after (Text source direction file print) (Judged status) h = absurd h
 request_done files before after (ExplainClasses word direction) (Judged status) h = absurd h
 request_done files before after (ExplainCodes word source direction) (Judged status) h = absurd h
-request_done files before after (ExplainRow sought) (Judged status) h = absurd h
+request_done files before after (ExplainRow wanted) (Judged status) h = absurd h
 request_done files before after (Judge Classes tables file) Printed h = absurd h
 request_done files before after (Judge Characters (Some source) file) Printed h = absurd h
 request_done files before after (Judge Characters None file) (Judged status) h = absurd h

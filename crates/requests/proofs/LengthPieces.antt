@@ -16,7 +16,7 @@ pieces-four : (a b c d : List ℕ) (more : List (List ℕ)) → lengths_of_piece
 pieces-four a [] c d more = refl
 pieces-four a (x ∷ b) c d more = refl
 
-pub pieces-behind : (a b c d : List ℕ) → lengths_of_pieces (a ∷ b ∷ c ∷ cut_at 46 d) ≡ None
-pieces-behind a b c d = let s = cut_at-some 46 d in rw s.2 (pieces-four a b c s.0 s.1)
+pub pieces-following : (a b c d : List ℕ) → lengths_of_pieces (a ∷ b ∷ c ∷ cut_at 46 d) ≡ None
+pieces-following a b c d = let s = cut_at-some 46 d in rw s.2 (pieces-four a b c s.0 s.1)
 
-pub ruleset length_pieces = (pieces-two, pieces-between, pieces-behind)
+pub ruleset length_pieces = (pieces-two, pieces-between, pieces-following)

@@ -3,6 +3,6 @@ pub mod FirstFaults
 pub mod LengthPieces
 pub mod MadeRows
 pub mod PrintedFails
-pub mod Refused
+pub mod Rejected
 pub mod TableEnds
 pub mod Reported

@@ -26,12 +26,12 @@ use Rattle.requests.specs.declared.request.FileKind.TheVariants.{Classes, Charac
 use Rattle.requests.specs.declared.request.RowLetters.TheVariants.{Alphabet}
 use Rattle.requests.specs.declared.request.RowsForm.{RowsForm}
 use Rattle.requests.proofs.AskedLetters.{alphabet_done, chars_read}
-use Rattle.requests.proofs.FirstFaults.{FailsIn-behind, first_behind, first_of_all, handed_on, row_tables_done}
+use Rattle.requests.proofs.FirstFaults.{FailsIn-following, first_fault_after, first_of_all, passed_on, row_tables_done}
 
 -- what ends a part before all others ends the request, and nothing is written
 pub first_fails : (parts : List RequestPart) (known : Option (List ℕ)) {T : Type 0} (r : Result T Fault) (e : Fault) → IsErrAnd r (λ given. given ≡ e)
     → IsFirstFault parts e → IfErr r (FailsIn parts known known)
-first_fails parts known r e same h = handed_on (FailsIn parts known known) r e same (inl (h, refl))
+first_fails parts known r e same h = passed_on (FailsIn parts known known) r e same (inl (h, refl))
 
 -- a failed allocation ends the making of texts
 pub memory_fails : (form : RowsForm) (texts : ExhaustiveOf) (known : Option (List ℕ)) {T : Type 0} (r : Result T Fault)
@@ -63,7 +63,7 @@ module _ (files : FileFacts) (asked : AskedRows) where
 
     letters_fail : (fault : Fault) → IsFirstFault letter_parts fault → IsFirstFault (rows_parts files asked) fault
     unfolding rows_parts
-    letters_fail fault h = first_behind word_parts letter_parts fault words_done h
+    letters_fail fault h = first_fault_after word_parts letter_parts fault words_done h
 
     -- what is read for the letters, in a file of this kind
     abbrev steps_in : FileKind → List RequestPart
@@ -84,7 +84,7 @@ module _ (files : FileFacts) (asked : AskedRows) where
     pub tables_fail : (chars : List ℕ) (fault : Fault) → asked.kind ≡ Characters → chars_asked asked.letters ≡ Some chars
         → IsFirstFault (source_parts files asked.tables) fault → IsFirstFault (rows_parts files asked) fault
     tables_fail chars fault k read h =
-        in_kind Characters fault k (first_behind (alphabet_parts Characters asked.letters) (source_parts files asked.tables ++ texts_part files asked ∷ []) fault
+        in_kind Characters fault k (first_fault_after (alphabet_parts Characters asked.letters) (source_parts files asked.tables ++ texts_part files asked ∷ []) fault
         (chars_read asked.letters chars read) (first_of_all (source_parts files asked.tables) (texts_part files asked ∷ []) fault h))
 
     module _ (before after : Option (List ℕ)) (letters : List Letter) where
@@ -98,11 +98,11 @@ module _ (files : FileFacts) (asked : AskedRows) where
         rows_fail : (fault : Fault) → FailsIn (making_part asked.form (texts_over letters least greatest) ∷ []) before after fault → FailsIn (rows_parts files asked) before after fault
         unfolding rows_parts
         rows_fail fault h =
-            let behind_tables = FailsIn-behind (row_table_parts files asked.kind (Some asked.tables)) (texts_part files asked ∷ []) before after fault
+            let after_tables = FailsIn-following (row_table_parts files asked.kind (Some asked.tables)) (texts_part files asked ∷ []) before after fault
             (row_tables_done files asked.kind (Some asked.tables) kind is) (texts_fail fault h) in
-            let behind_letters = FailsIn-behind (alphabet_parts asked.kind asked.letters) (row_table_parts files asked.kind (Some asked.tables) ++ texts_part files asked ∷ [])
-            before after fault (alphabet_done files asked.kind asked.tables kind asked.letters letters is are) behind_tables in
-            FailsIn-behind word_parts letter_parts before after fault words_done behind_letters
+            let after_letters = FailsIn-following (alphabet_parts asked.kind asked.letters) (row_table_parts files asked.kind (Some asked.tables) ++ texts_part files asked ∷ [])
+            before after fault (alphabet_done files asked.kind asked.tables kind asked.letters letters is are) after_tables in
+            FailsIn-following word_parts letter_parts before after fault words_done after_letters
 
         rows_fail_if : {T : Type 0} (r : Result T Fault) → IfErr r (FailsIn (making_part asked.form (texts_over letters least greatest) ∷ []) before after)
             → IfErr r (FailsIn (rows_parts files asked) before after)

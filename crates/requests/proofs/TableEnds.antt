@@ -4,7 +4,7 @@ use Rattle.std.specs.Borrow.{Bor}
 use Rattle.units.specs.Text.{lines_of}
 use Rattle.units.specs.declared.unread.Unread.{Unread}
 use Rattle.ucdfiles.specs.Faults.{first_fault}
-use Rattle.ucdfiles.specs.Reading.{IsFault, RefusesBytes}
+use Rattle.ucdfiles.specs.Reading.{IsFault, RejectsBytes}
 use Rattle.ucdfiles.specs.declared.fault.Fault.{Fault as LineFault}
 use Rattle.ucdfiles.specs.declared.fault.TableFault.{TableFault}
 use Rattle.ucdfiles.specs.declared.fault.TableFault.TheVariants.{CodePoint, Backwards, ClassName, Fields, Overlap, Twice, BracketKind, LineTooLong, TooMany, Read, Memory}
@@ -13,10 +13,10 @@ use Rattle.requests.specs.TableFaults.{EndsReading, HasFault, table_fault}
 
 module _ (files : FileFacts) (fault : List (List ℕ) → List ℕ → Option LineFault) (path : List ℕ) (ended : Type 0) (bytes : List ℕ)
     (unread : Unread) (begins : files.Begins (FileNamed path) most_file_bytes bytes) (whole : ended → files.Holds (FileNamed path) most_file_bytes bytes) where
-  of_line : (e : TableFault) → (e ≡ Memory → ⊥) → RefusesBytes fault bytes e ⊎ (ended × (first_fault fault [] (lines_of bytes) ≡ Some e))
+  of_line : (e : TableFault) → (e ≡ Memory → ⊥) → RejectsBytes fault bytes e ⊎ (ended × (first_fault fault [] (lines_of bytes) ≡ Some e))
       → HasFault files fault path e
   of_line e other (inl (inl memory)) = absurd (other memory)
-  of_line e other (inl (inr settled)) = (bytes, inl (begins, settled))
+  of_line e other (inl (inr decided)) = (bytes, inl (begins, decided))
   of_line e other (inr last) = (bytes, inr (whole last.0, last.1))
 
   pub table_ends : (name folder : Bor (List ℕ)) (e : TableFault) → (e ≡ Read → files.Fails (FileNamed path) most_file_bytes bytes unread)

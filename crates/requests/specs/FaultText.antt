@@ -22,7 +22,7 @@ use Rattle.printing.specs.LevelsText.{line_feed}
 use Rattle.printing.specs.declared.written.Written.{Written}
 use Rattle.printing.specs.declared.written.Written.TheVariants.{Whole, CutOff}
 use Rattle.rows.specs.declared.fault.RowsFault.{RowsFault}
-use Rattle.rows.specs.declared.fault.RowsFault.TheVariants as refused
+use Rattle.rows.specs.declared.fault.RowsFault.TheVariants as rejected
 
 -- the line that reports a faulty line of a table's file: the file's name, the line's number from 1, and the fault's
 -- name
@@ -43,16 +43,16 @@ abbrev pub no_direction_text : List ℕ → List ℕ
 no_direction_text item = concat (codes "bidi: " ∷ item ∷ codes " is no direction" ∷ line_feed ∷ [])
 
 -- why texts can't be enumerated or drawn
-abbrev pub rows_refusal : RowsFault → List ℕ
-rows_refusal refused.NoLetter = codes "--alphabet or --form gives no letter of this kind"
-rows_refusal refused.NoLength = codes "--length begins at 0"
-rows_refusal refused.TooLong = codes "--length ends above 4095"
-rows_refusal refused.TooMany = codes "there are too many texts"
-rows_refusal refused.NoneBetween = codes "--length ends before it begins"
+abbrev pub rows_rejection : RowsFault → List ℕ
+rows_rejection rejected.NoLetter = codes "--alphabet or --form gives no letter of this kind"
+rows_rejection rejected.NoLength = codes "--length begins at 0"
+rows_rejection rejected.TooLong = codes "--length ends above 4095"
+rows_rejection rejected.TooMany = codes "there are too many texts"
+rows_rejection rejected.NoneBetween = codes "--length ends before it begins"
 
 -- the line that reports why texts can't be enumerated or drawn
 abbrev pub no_rows_text : RowsFault → List ℕ
-no_rows_text fault = concat (codes "bidi: " ∷ rows_refusal fault ∷ line_feed ∷ [])
+no_rows_text fault = concat (codes "bidi: " ∷ rows_rejection fault ∷ line_feed ∷ [])
 
 -- the line that reports that the file of this name can't be read
 abbrev pub unread_text : List ℕ → List ℕ
@@ -148,7 +148,7 @@ all_written _ = true
 pub record EndsBy (detail : Detail) (fault : Fault) (before after : Option (List ℕ)) (ended : Ended) : Type 0 where
   pub status_is : ended.status ≡ fault_status fault
   pub written : ended.is_written ≡ all_written fault
-  pub says : ended.is_said ≡ true → Appends before after (fault_text detail fault)
+  pub says : ended.is_reported ≡ true → Appends before after (fault_text detail fault)
 
 -- when a fault ends the opening of this file: it can't be opened, for this reason, or an allocation failed
 abbrev pub EndsOpening : (Unread → Type 0) → NamedFile → Fault → Type 0

@@ -24,7 +24,7 @@ HasRowTables files Characters None tables = ⊥
 -- this is the kind of rows with these tables: classes if there are none
 abbrev pub AreRowsBy : Option TablesOf → Kind → Type 0
 AreRowsBy None rows = rows ≡ rows_of.Classes
-AreRowsBy (Some tables) rows = (lent : Bor TablesOf) × (lent.now ≡ tables) × (rows ≡ rows_of.Characters lent)
+AreRowsBy (Some tables) rows = (borrowed : Bor TablesOf) × (borrowed.now ≡ tables) × (rows ≡ rows_of.Characters borrowed)
 
 -- the kind of the rows of a file of this kind: classes, or characters with the tables of this source
 abbrev pub IsKindOfFile : FileFacts → FileKind → Option TableSource → Kind → Type 0

@@ -15,8 +15,8 @@ first_unread read items = find (λ item. not (is_some (read item))) items
 -- when a fault ends the reading of a value's items: an allocation failed, or it is the fault of the first item that
 -- can't be read
 abbrev pub EndsItems : {A : Type 0} → (List ℕ → Option A) → (Bor (List ℕ) → Bor (List ℕ) → Fault) → List ℕ → Fault → Type 0
-EndsItems read said word fault = (fault ≡ OutOfMemory) ⊎ ((whole : Bor (List ℕ)) × (item : Bor (List ℕ))
-    × (fault ≡ said whole item) × (whole.now ≡ word) × (first_unread read (items_of word) ≡ Some item.now))
+EndsItems read noted word fault = (fault ≡ OutOfMemory) ⊎ ((whole : Bor (List ℕ)) × (item : Bor (List ℕ))
+    × (fault ≡ noted whole item) × (whole.now ≡ word) × (first_unread read (items_of word) ≡ Some item.now))
 
 -- the classes of the short names that blanks separate, or none if an item is not such a name
 abbrev pub classes_named : List ℕ → Option (List Class)
@@ -24,5 +24,5 @@ classes_named word = each_read class_of_short (items_of word)
 
 -- the code points that blanks separate, each 4 to 6 upper-case hex digits, at most 10FFFF and no surrogate, or none if
 -- an item is not such a code point
-abbrev pub codes_said : List ℕ → Option (List ℕ)
-codes_said word = each_read char_of (items_of word)
+abbrev pub codes_named : List ℕ → Option (List ℕ)
+codes_named word = each_read char_of (items_of word)

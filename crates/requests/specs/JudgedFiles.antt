@@ -45,7 +45,7 @@ pub record HasJudged (files : FileFacts) (IsVerdict : List ℕ → Verdict → T
   pub read : files.Holds (origin_of file) most_file_bytes bytes
   pub verdict : Verdict
   pub is : IsVerdict bytes verdict
-  pub said : SaysVerdict before after verdict status
+  pub noted : SaysVerdict before after verdict status
 
 -- the same with the tables of this source, for a file whose rows are lists of code points
 abbrev pub HasJudgedBy : FileFacts → TableSource → List ℕ → Option (List ℕ) → Option (List ℕ) → ℕ → Type 0

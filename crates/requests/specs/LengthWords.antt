@@ -20,5 +20,5 @@ lengths_named word = lengths_of_pieces (cut_at 46 word)
 
 -- when a fault ends the reading of lengths: the value is not a range of lengths
 abbrev pub EndsLengths : List ℕ → Fault → Type 0
-EndsLengths word (NoLengths said) = (said.now ≡ word) × (lengths_named word ≡ None)
+EndsLengths word (NoLengths noted) = (noted.now ≡ word) × (lengths_named word ≡ None)
 EndsLengths word _ = ⊥

@@ -34,7 +34,7 @@ IsDone files before after (Text source direction file print) Printed =
 IsDone files before after (ExplainClasses word direction) Printed = HasExplained word.now direction before after
 IsDone files before after (ExplainCodes word source direction) Printed =
     HasExplainedCodes files word.now source direction before after
-IsDone files before after (ExplainRow sought) Printed = HasExplainedRow files sought before after
+IsDone files before after (ExplainRow wanted) Printed = HasExplainedRow files wanted before after
 IsDone files before after (Judge Classes tables file) (Judged status) =
     HasJudged files IsClassesVerdict file.now before after status
 IsDone files before after (Judge Characters (Some source) file) (Judged status) =
@@ -72,19 +72,19 @@ takes_memory_first (RowsOf asked) = true
 takes_memory_first _ = false
 
 -- the output after a failed allocation, for such a request
-abbrev pub RefusalLeaves : Option (List ℕ) → Option (List ℕ) → Request → Fault → Type 0
-RefusalLeaves before after request fault = takes_memory_first request ≡ true → MemoryLeaves before after fault
+abbrev pub RequestLeaves : Option (List ℕ) → Option (List ℕ) → Request → Fault → Type 0
+RequestLeaves before after request fault = takes_memory_first request ≡ true → MemoryLeaves before after fault
 
 -- a request is done, or it fails
 abbrev pub IsDoneOrFails : FileFacts → Option (List ℕ) → Option (List ℕ) → Request → Result Outcome Fault → Type 0
 IsDoneOrFails files before after request (Ok outcome) = IsDone files before after request outcome
-IsDoneOrFails files before after request (Err fault) = Fails files before after request fault × RefusalLeaves before after request fault
+IsDoneOrFails files before after request (Err fault) = Fails files before after request fault × RequestLeaves before after request fault
 
 -- a run ends without a fault: with this status, and the known contents of standard error are unchanged
 pub record EndsWell (status : ℕ) (before after : Option (List ℕ)) (ended : Ended) : Type 0 where
   pub status_is : ended.status ≡ status
   pub written : ended.is_written ≡ true
-  pub said : ended.is_said ≡ true
+  pub noted : ended.is_reported ≡ true
   pub silent : after ≡ before
 
 -- a run ends with the result of its request: with its status, and if a fault is reported, the known contents of

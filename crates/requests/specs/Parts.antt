@@ -7,7 +7,7 @@ use Rattle.ucdfiles.specs.ClassFile.{class_fault}
 use Rattle.ucdfiles.specs.PairFiles.{bracket_fault, char_of, mirror_fault}
 use Rattle.ucdfiles.specs.declared.fault.Fault.{Fault as LineFault}
 use Rattle.bidtests.specs.declared.kind.Kind.{Kind}
-use Rattle.explain.specs.SoughtRows.{RowView}
+use Rattle.explain.specs.WantedRows.{RowView}
 use Rattle.units.specs.ClassNames.{class_of_short}
 use Rattle.units.specs.declared.class.Class.{Class}
 use Rattle.rows.specs.Exhaustive.{ExhaustiveOf}
@@ -25,16 +25,16 @@ use Rattle.requests.specs.declared.request.TableSource.{TableSource}
 use Rattle.requests.specs.declared.request.TableSource.TheVariants.{Folder, BuiltIn}
 use Rattle.requests.specs.declared.request.Request.{Request}
 use Rattle.requests.specs.declared.request.RowsForm.{RowsForm}
-use Rattle.requests.specs.declared.request.SoughtRow.{SoughtRow}
+use Rattle.requests.specs.declared.request.WantedRow.{WantedRow}
 use Rattle.requests.specs.declared.request.Request.TheVariants.{Text, ExplainClasses, ExplainCodes, ExplainRow, Judge, Report, Rows, RowsOf}
 use Rattle.requests.specs.declared.fault.Fault.{Fault}
 use Rattle.requests.specs.declared.fault.Fault.TheVariants.{TablesNeeded, ClassesTooLong, CodesTooLong, NoClass, NoCodePoint, CannotRead, NotUtf8, LongLine, CannotWrite, OutOfMemory}
 use Rattle.requests.specs.RowsExplained.{FindsNoRow, HasAtLine}
 use Rattle.requests.specs.FaultText.{EndsOpening}
 use Rattle.requests.specs.FileRows.{IsKindOfFile}
-use Rattle.requests.specs.ItemWords.{EndsItems, classes_named, codes_said}
+use Rattle.requests.specs.ItemWords.{EndsItems, classes_named, codes_named}
 use Rattle.requests.specs.Printed.{HoldsText, most_text_bytes}
-use Rattle.requests.specs.RowsPrinted.{CanBeMade, EndsMaking, EndsTexts, refusal_in}
+use Rattle.requests.specs.RowsPrinted.{CanBeMade, EndsMaking, EndsTexts, rows_fault_in}
 use Rattle.requests.specs.LengthWords.{EndsLengths, lengths_named}
 use Rattle.requests.specs.ReadFiles.{FileFacts, IsClassPath, bracket_name, mirror_name, in_folder, most_file_bytes, named_file, origin_of, word_file}
 use Rattle.requests.specs.TableFaults.{EndsClasses, EndsTable, IsFaultless}
@@ -62,7 +62,7 @@ EndsUnnamed fault = fault ≡ TablesNeeded
 -- allocation failed
 abbrev pub EndsFile : FileFacts → ℕ → List ℕ → Fault → Type 0
 EndsFile files most file (CannotRead name folder limit unread Whole) = (named_file name folder limit ≡ word_file most file)
-    × (files.Refuses (origin_of file) most unread ⊎ ((bytes : List ℕ) × files.Fails (origin_of file) most bytes unread))
+    × (files.Rejects (origin_of file) most unread ⊎ ((bytes : List ℕ) × files.Fails (origin_of file) most bytes unread))
 EndsFile files most file OutOfMemory = Unit {0}
 EndsFile files most file _ = ⊥
 
@@ -70,7 +70,7 @@ EndsFile files most file _ = ⊥
 -- opened, or the search in it ends so
 abbrev pub EndsSearch : FileFacts → Kind → ℕ → List ℕ → Fault → Type 0
 EndsSearch files rows number file fault =
-    EndsOpening (files.Refuses (origin_of file) most_file_bytes) (word_file most_file_bytes file) fault
+    EndsOpening (files.Rejects (origin_of file) most_file_bytes) (word_file most_file_bytes file) fault
     ⊎ FindsNoRow files rows number file fault
 
 -- when a fault ends the reading of the characters of FILE: its bytes are not UTF-8, or an allocation failed
@@ -106,7 +106,7 @@ classes_parts word = length_part ClassesTooLong word ∷ names_part word ∷ []
 -- the reading of the code points in a value
 abbrev pub codes_part : List ℕ → RequestPart
 codes_part word = record {
-  Done = (chars : List ℕ) × (codes_said word ≡ Some chars);
+  Done = (chars : List ℕ) × (codes_named word ≡ Some chars);
   EndsBy = EndsItems char_of NoCodePoint word;
 }
 
@@ -124,7 +124,7 @@ lengths_part word = record {
 -- that there is a file of this form for these texts
 abbrev pub making_part : RowsForm → ExhaustiveOf → RequestPart
 making_part form texts = record {
-  Done = refusal_in form texts ≡ None;
+  Done = rows_fault_in form texts ≡ None;
   EndsBy = EndsMaking form texts;
 }
 
@@ -223,7 +223,7 @@ module _ (files : FileFacts) where
   abbrev pub opening_part : ℕ → List ℕ → RequestPart
   opening_part most file = record {
     Done = (bytes : List ℕ) × files.Begins (origin_of file) most bytes;
-    EndsBy = EndsOpening (files.Refuses (origin_of file) most) (word_file most file);
+    EndsBy = EndsOpening (files.Rejects (origin_of file) most) (word_file most file);
   }
 
   -- the reading of the characters of FILE
@@ -264,16 +264,16 @@ module _ (files : FileFacts) where
   explaining_parts word source = codes_parts word ++ source_parts source
 
   -- the search for the wanted row
-  abbrev pub sought_part : SoughtRow → RequestPart
-  sought_part sought = record {
-    Done = (rows : Kind) × IsKindOfFile files sought.kind sought.tables rows
-        × ((row : RowView) × HasAtLine files rows sought.line.value sought.file.now (Ok row));
-    EndsBy = λ fault. (rows : Kind) × IsKindOfFile files sought.kind sought.tables rows × EndsSearch files rows sought.line.value sought.file.now fault;
+  abbrev pub row_search_part : WantedRow → RequestPart
+  row_search_part wanted = record {
+    Done = (rows : Kind) × IsKindOfFile files wanted.kind wanted.tables rows
+        × ((row : RowView) × HasAtLine files rows wanted.line.value wanted.file.now (Ok row));
+    EndsBy = λ fault. (rows : Kind) × IsKindOfFile files wanted.kind wanted.tables rows × EndsSearch files rows wanted.line.value wanted.file.now fault;
   }
 
   -- what is read to explain a row
-  abbrev pub row_parts : SoughtRow → List RequestPart
-  row_parts sought = row_table_parts sought.kind sought.tables ++ sought_part sought ∷ []
+  abbrev pub row_parts : WantedRow → List RequestPart
+  row_parts wanted = row_table_parts wanted.kind wanted.tables ++ row_search_part wanted ∷ []
 
   -- what is read for a request, in this order, before anything is written
   abbrev pub parts_of : Request → List RequestPart
@@ -282,7 +282,7 @@ module _ (files : FileFacts) where
   parts_of (Text source direction file Explained) = whole_parts source file.now
   parts_of (ExplainClasses word direction) = classes_parts word.now
   parts_of (ExplainCodes word source direction) = explaining_parts word.now source
-  parts_of (ExplainRow sought) = row_parts sought
+  parts_of (ExplainRow wanted) = row_parts wanted
   parts_of (Judge kind tables file) = row_table_parts kind tables ++ file_part most_file_bytes file.now ∷ []
   parts_of (Report kind tables file options) = row_table_parts kind tables ++ opening_part most_file_bytes file.now ∷ []
   parts_of (Rows asked) = rows_parts asked

@@ -7,7 +7,7 @@ use Rattle.units.specs.declared.level.Direction.{Direction}
 use Rattle.ucdfiles.specs.Tables.{TablesOf}
 use Rattle.explain.specs.Explained.{explained, explained_classes}
 use Rattle.printing.specs.PrintedTexts.{printed_levels, printed_reorder}
-use Rattle.requests.specs.ItemWords.{classes_named, codes_said}
+use Rattle.requests.specs.ItemWords.{classes_named, codes_named}
 use Rattle.requests.specs.declared.request.Print.{Print}
 use Rattle.requests.specs.declared.request.Print.TheVariants.{Levels, Reorder, Explained}
 use Rattle.requests.specs.declared.request.TableSource.{TableSource}
@@ -39,21 +39,21 @@ pub record HasPrinted (files : FileFacts) (printed : TablesOf → List ℕ → L
   pub stated : AreTablesBy files source tables
   pub text : List ℕ
   pub read : HoldsText files file text
-  pub said : Appends before after (printed tables text)
+  pub noted : Appends before after (printed tables text)
 
 -- a value lists classes, and the known output grew by what `explain` prints of them
 pub record HasExplained (word : List ℕ) (direction : Direction) (before after : Option (List ℕ)) : Type 0 where
   pub short : length word ≤ most_text_bytes
   pub classes : List Class
   pub named : classes_named word ≡ Some classes
-  pub said : Appends before after (explained_classes classes direction)
+  pub noted : Appends before after (explained_classes classes direction)
 
 -- a value lists code points, and the known output grew by what `explain` prints of a text of these characters with the
 -- tables of this source
 pub record HasExplainedCodes (files : FileFacts) (word : List ℕ) (source : TableSource) (direction : Direction) (before after : Option (List ℕ)) : Type 0 where
   pub short : length word ≤ most_text_bytes
   pub chars : List ℕ
-  pub said_by : codes_said word ≡ Some chars
+  pub chars_named : codes_named word ≡ Some chars
   pub tables : TablesOf
   pub stated : AreTablesBy files source tables
-  pub said : Appends before after (explained tables chars direction)
+  pub noted : Appends before after (explained tables chars direction)

@@ -20,7 +20,7 @@ pub record HasPrintedEnded (files : FileFacts) (form : Form) (direction : Direct
   pub stated : AreTablesBy files source tables
   pub bytes : List ℕ
   pub read : Read bytes
-  pub said : IsWritten written before after (printed_ended form tables bytes direction)
+  pub noted : IsWritten written before after (printed_ended form tables bytes direction)
 
 -- when a fault breaks off the printing of the text of FILE: a read fails after these bytes, for the reason in the
 -- fault; or they are all bytes, and are not UTF-8 after this place; or, after FILE was opened, nobody reads the output

@@ -27,7 +27,7 @@ naming_in Characters tables = naming.Codes tables
 -- under these directions, with the standard limits; the judge's verdict on that file is a yes
 pub record HasPrintedTextRows (naming : Naming) (directions : List Direction) (text : List ℕ) (before after : Option (List ℕ)) : Type 0 where
   pub short : first_long_line text ≡ None
-  pub said : Appends before after (cases_text standard (kind_of naming) (cases_of_text naming directions text))
+  pub noted : Appends before after (cases_text standard (kind_of naming) (cases_of_text naming directions text))
   pub right : JudgeSaysYes standard (kind_of naming) (cases_of_text naming directions text)
 
 -- the lines of the text of FILE were printed as rows, with the kind, the tables and the directions of the request

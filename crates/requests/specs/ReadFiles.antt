@@ -3,15 +3,15 @@ use Rattle.std.specs.Prelude.{◌≡◌, ◌⊎◌, ℕ, ◌^◌, List, [], ◌�
 use Rattle.std.specs.Borrow.{Bor}
 use Rattle.std.specs.List.{concat}
 use Rattle.std.specs.Str.{bytes_eq}
-use Rattle.units.specs.HandsOut.{Reading, HandsOut}
+use Rattle.units.specs.Provides.{Reading, Provides}
 use Rattle.units.specs.declared.unread.Unread.{Unread}
 use Rattle.ucdfiles.specs.ClassFile.{StatesClasses}
 use Rattle.ucdfiles.specs.PairFiles.{StatesBrackets, StatesMirrors}
-use Rattle.ucdfiles.specs.Tables.{TablesOf, class_by, bracket_by, glyph_by}
+use Rattle.ucdfiles.specs.Tables.{TablesOf, class_by, bracket_by, mirror_by}
 
 -- a source returned these bytes between two states
 abbrev pub Gives : Reading → List ℕ → Reading → Type 0
-Gives opened bytes now = HandsOut opened.remaining now.remaining opened.left now.left opened.state now.state bytes
+Gives opened bytes now = Provides opened.remaining now.remaining opened.limit now.limit opened.state now.state bytes
 
 -- where bytes come from: standard input, or the file of a name
 pub data Origin : Type 0 where
@@ -29,7 +29,7 @@ OfOrigin = Origin → ℕ → List ℕ → Type 0
 -- statements about origins: that one can't be opened with a limit, and why; that it begins with these bytes; that it
 -- has them and no more; that a read after them fails, and why
 pub record FileFacts : Type 1 where
-  pub Refuses : Origin → ℕ → Unread → Type 0
+  pub Rejects : Origin → ℕ → Unread → Type 0
   pub Begins : OfOrigin
   pub Holds : OfOrigin
   pub Fails : Origin → ℕ → List ℕ → Unread → Type 0
@@ -76,7 +76,7 @@ in_folder folder name = concat (folder ∷ codes "/" ∷ name ∷ [])
 
 -- the file of this name in the folder can't be opened, for this reason
 abbrev pub CannotOpen : FileFacts → List ℕ → List ℕ → Unread → Type 0
-CannotOpen files folder name unread = files.Refuses (FileNamed (in_folder folder name)) most_file_bytes unread
+CannotOpen files folder name unread = files.Rejects (FileNamed (in_folder folder name)) most_file_bytes unread
 
 -- this is the path of the classes' file: the one in the folder or, if that can't be opened, the one in its subfolder
 -- `extracted`
@@ -99,7 +99,7 @@ HoldsTable files folder name States =
 pub record AreTables (files : FileFacts) (folder : List ℕ) (tables : TablesOf) : Type 0 where
   pub class_path : List ℕ
   pub class_bytes : List ℕ
-  pub class_found : IsClassPath files folder class_path
+  pub class_path_given : IsClassPath files folder class_path
   pub class_file : files.Holds (FileNamed class_path) most_file_bytes class_bytes
   pub classes : StatesClasses class_bytes (class_by tables.classes)
   pub bracket_bytes : List ℕ
@@ -107,4 +107,4 @@ pub record AreTables (files : FileFacts) (folder : List ℕ) (tables : TablesOf)
   pub brackets : StatesBrackets bracket_bytes (bracket_by tables.brackets)
   pub mirror_bytes : List ℕ
   pub mirror_file : files.Holds (FileNamed (in_folder folder mirror_name)) most_file_bytes mirror_bytes
-  pub mirrors : StatesMirrors mirror_bytes (glyph_by tables.mirrors)
+  pub mirrors : StatesMirrors mirror_bytes (mirror_by tables.mirrors)

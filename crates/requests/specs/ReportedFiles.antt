@@ -7,8 +7,8 @@ use Rattle.bidtests.specs.FileKinds.{verdict_of}
 use Rattle.bidtests.specs.declared.kind.Kind.{Kind}
 use Rattle.printing.specs.ReadTexts.{IsWritten}
 use Rattle.printing.specs.declared.written.Written.{Written}
-use Rattle.report.specs.FileReports.{is_right, report_of, settled_cases}
-use Rattle.report.specs.ReadClaims.{strict}
+use Rattle.report.specs.FileReports.{is_right, report_of, decided_cases}
+use Rattle.report.specs.ReadExpected.{strict}
 use Rattle.report.specs.ReportText.{first_cases_text, report_text}
 use Rattle.requests.specs.FileRows.{IsKindOfFile}
 use Rattle.requests.specs.JudgedFiles.{verdict_status}
@@ -38,7 +38,7 @@ pub record HasReportedAs (files : FileFacts) (rows : Kind) (file : List ℕ) (op
   pub bytes : List ℕ
   pub begins : files.Begins (origin_of file) most_file_bytes bytes
   pub read : files.Holds (origin_of file) most_file_bytes bytes
-  pub said : Appends before after (report_text options.most (report_of (terms_by options.leniency) rows bytes))
+  pub noted : Appends before after (report_text options.most (report_of (terms_by options.leniency) rows bytes))
   pub status_is : status ≡ report_status (is_right (report_of (terms_by options.leniency) rows bytes))
   pub as_judged : options.leniency ≡ strict → status ≡ verdict_status (verdict_of standard rows bytes)
 
@@ -47,7 +47,7 @@ pub record HasReportedAs (files : FileFacts) (rows : Kind) (file : List ℕ) (op
 pub record ReadFailsAs (files : FileFacts) (rows : Kind) (file : List ℕ) (options : ReportOptions) (before after : Option (List ℕ)) (unread : Unread) (written : Written) : Type 0 where
   pub bytes : List ℕ
   pub failed : files.Fails (origin_of file) most_file_bytes bytes unread
-  pub said : IsWritten written before after (first_cases_text options.most (settled_cases (terms_by options.leniency) rows bytes))
+  pub noted : IsWritten written before after (first_cases_text options.most (decided_cases (terms_by options.leniency) rows bytes))
 
 -- when a fault breaks off a report on a file of these rows: a read fails, for the reason in the fault; or, after FILE
 -- was opened, nobody reads the output any more

@@ -6,7 +6,7 @@ use Rattle.units.specs.declared.unread.Unread.{Unread}
 use Rattle.bidtests.specs.declared.kind.Kind.{Kind}
 use Rattle.printing.specs.declared.written.Written.TheVariants.{Whole}
 use Rattle.explain.specs.RowTexts.{row_text}
-use Rattle.explain.specs.SoughtRows.{IsSought, IsUnsettled, RowView}
+use Rattle.explain.specs.WantedRows.{IsWanted, IsUnsettled, RowView}
 use Rattle.explain.specs.declared.row_fault.RowFault.{RowFault}
 use Rattle.explain.specs.declared.row_fault.RowFault.TheVariants.{Malformed, NoRow}
 use Rattle.requests.specs.FileRows.{IsKindOfFile, kind_of}
@@ -14,14 +14,14 @@ use Rattle.requests.specs.ReadFiles.{FileFacts, most_file_bytes, named_file, ori
 use Rattle.requests.specs.declared.fault.Fault.{Fault}
 use Rattle.requests.specs.declared.fault.Fault.TheVariants.{CannotRead, LineIsNoRow, MalformedLine, OutOfMemory}
 use Rattle.requests.specs.declared.request.FileKind.{FileKind}
-use Rattle.requests.specs.declared.request.SoughtRow.{SoughtRow}
+use Rattle.requests.specs.declared.request.WantedRow.{WantedRow}
 
 -- FILE, as a file of these rows, has this result at the line of this number: it begins with bytes that decide the
 -- result; if they are all bytes of FILE, they decide it for a file that ends there
 pub record HasAtLine (files : FileFacts) (rows : Kind) (number : ℕ) (file : List ℕ) (found : Result RowView RowFault) : Type 0 where
   pub bytes : List ℕ
   pub begins : files.Begins (origin_of file) most_file_bytes bytes
-  pub sought : IsSought (files.Holds (origin_of file) most_file_bytes bytes) rows number bytes found
+  pub wanted : IsWanted (files.Holds (origin_of file) most_file_bytes bytes) rows number bytes found
 
 -- the fault of a file of this kind that has no row at the line of this number
 abbrev pub row_fault : Bor (List ℕ) → FileKind → ℕ → RowFault → Fault
@@ -47,9 +47,9 @@ FindsNoRow files rows number file _ = ⊥
 
 -- the search returned the wanted row, with the tables of its source if they are needed, and the known output grew by
 -- what is printed of the row
-pub record HasExplainedRow (files : FileFacts) (sought : SoughtRow) (before after : Option (List ℕ)) : Type 0 where
+pub record HasExplainedRow (files : FileFacts) (wanted : WantedRow) (before after : Option (List ℕ)) : Type 0 where
   pub rows : Kind
-  pub is : IsKindOfFile files sought.kind sought.tables rows
+  pub is : IsKindOfFile files wanted.kind wanted.tables rows
   pub row : RowView
-  pub found : HasAtLine files rows sought.line.value sought.file.now (Ok row)
-  pub said : Appends before after (row_text sought.line.value row)
+  pub found : HasAtLine files rows wanted.line.value wanted.file.now (Ok row)
+  pub noted : Appends before after (row_text wanted.line.value row)

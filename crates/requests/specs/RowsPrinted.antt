@@ -10,7 +10,7 @@ use Rattle.bidtests.specs.declared.kind.Kind.TheVariants as file
 use Rattle.rows.specs.declared.fault.RowsFault.{RowsFault}
 use Rattle.rows.specs.declared.letter.Letter.{Letter}
 use Rattle.rows.specs.declared.letter.Letter.TheVariants as letter
-use Rattle.rows.specs.Exhaustive.{ExhaustiveOf, cases_in, refusal_of}
+use Rattle.rows.specs.Exhaustive.{ExhaustiveOf, cases_in, rejection_of}
 use Rattle.rows.specs.Forms.{form_characters, form_classes}
 use Rattle.rows.specs.Letters.{letter_by}
 use Rattle.rows.specs.Random.{RandomOf, cases_drawn, no_drawing_of}
@@ -18,7 +18,7 @@ use Rattle.rows.specs.Judged.{JudgeSaysYes}
 use Rattle.rows.specs.RowTexts.{Case, cases_text}
 use Rattle.requests.specs.DirectionWords.{SaysDirections}
 use Rattle.requests.specs.FileRows.{IsKindOfFile}
-use Rattle.requests.specs.ItemWords.{classes_named, codes_said}
+use Rattle.requests.specs.ItemWords.{classes_named, codes_named}
 use Rattle.requests.specs.ReadFiles.{FileFacts}
 use Rattle.requests.specs.LengthWords.{lengths_named}
 use Rattle.requests.specs.declared.request.AskedRows.{AskedRows}
@@ -36,7 +36,7 @@ classes_asked (OfForm form) = Some (form_classes form)
 
 -- the requested characters for the texts: those with the code points of the alphabet, or those of a form
 abbrev pub chars_asked : RowLetters → Option (List ℕ)
-chars_asked (Alphabet word) = codes_said word.now
+chars_asked (Alphabet word) = codes_named word.now
 chars_asked (OfForm form) = Some (form_characters form)
 
 -- the requested letters of rows of this kind
@@ -59,9 +59,9 @@ drawn_from seed count texts = record {
 }
 
 -- the first reason why these texts have no file of this form
-abbrev pub refusal_in : RowsForm → ExhaustiveOf → Option RowsFault
-refusal_in Exhaustive texts = refusal_of texts
-refusal_in (Random seed count) texts = no_drawing_of (drawn_from seed count texts)
+abbrev pub rows_fault_in : RowsForm → ExhaustiveOf → Option RowsFault
+rows_fault_in Exhaustive texts = rejection_of texts
+rows_fault_in (Random seed count) texts = no_drawing_of (drawn_from seed count texts)
 
 -- the cases of that file under these directions: of all these texts, or of the drawn ones
 abbrev pub cases_of_form : RowsForm → List Direction → ExhaustiveOf → List Case
@@ -70,8 +70,8 @@ cases_of_form (Random seed count) directions texts = cases_drawn (drawn_from see
 
 -- such a file exists, and the known output grew by it, with the standard limits; the judge's verdict on it is a yes
 pub record HasPrintedTexts (kind : Kind) (form : RowsForm) (directions : List Direction) (texts : ExhaustiveOf) (before after : Option (List ℕ)) : Type 0 where
-  pub some : refusal_in form texts ≡ None
-  pub said : Appends before after (cases_text standard kind (cases_of_form form directions texts))
+  pub some : rows_fault_in form texts ≡ None
+  pub noted : Appends before after (cases_text standard kind (cases_of_form form directions texts))
   pub right : JudgeSaysYes standard kind (cases_of_form form directions texts)
 
 -- the request contains the letters and the lengths of these texts
@@ -91,14 +91,14 @@ pub record HasPrintedRows (files : FileFacts) (asked : AskedRows) (before after 
 
 -- when a fault ends the printing of texts: there is no such file, for this reason, or an allocation failed
 abbrev pub EndsMaking : RowsForm → ExhaustiveOf → Fault → Type 0
-EndsMaking form texts (NoRows fault) = refusal_in form texts ≡ Some fault
+EndsMaking form texts (NoRows fault) = rows_fault_in form texts ≡ Some fault
 EndsMaking form texts OutOfMemory = Unit {0}
 EndsMaking form texts _ = ⊥
 
 -- the requested texts have such a file
 abbrev pub CanBeMade : FileFacts → AskedRows → Type 0
 CanBeMade files asked = (kind : Kind) × IsKindOfFile files asked.kind (Some asked.tables) kind
-    × (texts : ExhaustiveOf) × AreTextsOf kind asked texts × (refusal_in asked.form texts ≡ None)
+    × (texts : ExhaustiveOf) × AreTextsOf kind asked texts × (rows_fault_in asked.form texts ≡ None)
 
 -- when a fault ends the printing of the requested texts
 abbrev pub EndsTexts : FileFacts → AskedRows → Fault → Type 0

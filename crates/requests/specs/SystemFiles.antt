@@ -1,14 +1,14 @@
 -- What reading a file of the system or its standard input gives, with the limit that it was opened with. Nothing is
 -- known from its name.
 use Rattle.std.specs.Prelude.{◌≡◌, ℕ, List}
-use Rattle.units.specs.HandsOut.{Reading, ReaderHasEnded, failures_of, unread_of}
+use Rattle.units.specs.Provides.{Reading, ReaderHasEnded, failures_of, unread_of}
 use Rattle.units.specs.declared.reader_source.State.TheVariants.{Open}
 use Rattle.units.specs.declared.unread.Unread.{Unread}
 use Rattle.requests.specs.ReadFiles.{FileFacts, Gives}
 
 -- a source with this limit that was not read so far
 pub record IsOpened (most : ℕ) (source : Reading) : Type 0 where
-  pub left : source.left ≡ most
+  pub limit : source.limit ≡ most
   pub state : source.state ≡ Open
 
 -- a source was opened with this limit and returned these bytes
@@ -38,7 +38,7 @@ pub record GaveUp (most : ℕ) (bytes : List ℕ) (unread : Unread) : Type 0 whe
 -- the statements about files of the system and its standard input: none about whether one can be opened
 abbrev pub system_facts : FileFacts
 system_facts = record {
-  Refuses = λ _ _ _. Unit {0};
+  Rejects = λ _ _ _. Unit {0};
   Begins = λ _ most bytes. HasBegun most bytes;
   Holds = λ _ most bytes. WasReadWhole most bytes;
   Fails = λ _ most bytes unread. GaveUp most bytes unread;

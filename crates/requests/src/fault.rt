@@ -279,7 +279,7 @@ impl Fault<'_> {
         Ended {
             status: self.status(),
             is_written: self.all_written(),
-            is_said: written.is_ok() && flushed.is_ok(),
+            is_reported: written.is_ok() && flushed.is_ok(),
         }
     }
 }

@@ -4,7 +4,7 @@ ghost use Rattle.std.specs.List.{concat};
 ghost use Rattle.std.specs.Io.KnownBytes.{Appends};
 ghost use Rattle.printing.specs.LevelsText.{line_feed};
 ghost use Rattle.requests.specs.FaultText.{faulty_line_text, long_line_text, malformed_line_text, no_row_text};
-ghost use Rattle.requests.specs.FaultText.{no_rows_text, not_utf8_text, rows_refusal, unread_text};
+ghost use Rattle.requests.specs.FaultText.{no_rows_text, not_utf8_text, rows_rejection, unread_text};
 
 use bidtests::verdict::Cause;
 use bidtests::verdict_line::name_of_cause;
@@ -75,13 +75,13 @@ pub fn print_malformed_line<E: Write>(
     writeln!(err, "bidi: {name}: line {line}: malformed: {cause}")
 }
 
-/// Writes a line that reports an item of an option's value. `said` is what is wrong with it.
-pub fn print_item<E: Write>(err: &mut E, item: &[u8], said: &[u8]) -> io::Result<()>
-    ensures { OnOk result (Appends (E.contents err.old) (E.contents err.new) (codes "bidi: " ++ item.now ++ said.now)) }
+/// Writes a line that reports an item of an option's value. `noted` is what is wrong with it.
+pub fn print_item<E: Write>(err: &mut E, item: &[u8], noted: &[u8]) -> io::Result<()>
+    ensures { OnOk result (Appends (E.contents err.old) (E.contents err.new) (codes "bidi: " ++ item.now ++ noted.now)) }
 {
     err.write_all(b"bidi: ")?;
     err.write_all(item)?;
-    err.write_all(said)
+    err.write_all(noted)
 }
 
 /// Writes the line that reports that a value is not a range of lengths.
@@ -93,8 +93,8 @@ pub fn print_no_lengths<E: Write>(err: &mut E, word: &str) -> io::Result<()>
 }
 
 /// Returns in words why texts can't be enumerated or drawn.
-fn refusal_in_words(fault: RowsFault) -> &'static str
-    ensures { result.now ≡ rows_refusal fault }
+fn words_of_rows_fault(fault: RowsFault) -> &'static str
+    ensures { result.now ≡ rows_rejection fault }
 {
     match fault {
         RowsFault::NoLetter => "--alphabet or --form gives no letter of this kind",
@@ -109,6 +109,6 @@ fn refusal_in_words(fault: RowsFault) -> &'static str
 pub fn print_no_rows<E: Write>(err: &mut E, fault: RowsFault) -> io::Result<()>
     ensures { OnOk result (Appends (E.contents err.old) (E.contents err.new) (no_rows_text fault)) }
 {
-    let refusal = refusal_in_words(fault);
-    writeln!(err, "bidi: {refusal}")
+    let rejection = words_of_rows_fault(fault);
+    writeln!(err, "bidi: {rejection}")
 }

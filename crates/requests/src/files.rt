@@ -1,6 +1,6 @@
 // Files by name, and standard input.
 ghost use Rattle.std.specs.Prelude.{◌≡◌, ◌≤◌, ℕ, List, IfOk, IfErr, refl};
-ghost use Rattle.units.specs.HandsOut.{unread_of};
+ghost use Rattle.units.specs.Provides.{unread_of};
 ghost use Rattle.units.specs.declared.unread.Unread.{Unread};
 ghost use Rattle.requests.specs.ReadFiles.{FileFacts, FileNamed, Origin, StandardInput};
 ghost use Rattle.requests.specs.SystemFiles.{IsOpened, system_facts};
@@ -51,16 +51,16 @@ pub trait Files {
     /// file does not exist or can't be opened, with the reason, and with `Memory` if an allocation fails.
     fn file(&self, alloc: Global, name: &str, most: u64) -> Result<Self::Source, OpenFault>
         ensures opened { IfOk result (opens self.now (FileNamed name.now) most) }
-        ensures limit { IfOk result (λ source. Self.Source.most_left source ≤ most) }
+        ensures limit { IfOk result (λ source. Self.Source.most_remaining source ≤ most) }
         ensures cannot { IfErr result (λ fault. (unread : Unread) → fault ≡ OpenFault.Cannot unread
-            → (facts self.now).Refuses (FileNamed name.now) most unread) };
+            → (facts self.now).Rejects (FileNamed name.now) most unread) };
 
     /// Opens standard input as a source. A read after the first `most` bytes fails. The faults are the same.
     fn input(&self, alloc: Global, most: u64) -> Result<Self::Source, OpenFault>
         ensures opened { IfOk result (opens self.now StandardInput most) }
-        ensures limit { IfOk result (λ source. Self.Source.most_left source ≤ most) }
+        ensures limit { IfOk result (λ source. Self.Source.most_remaining source ≤ most) }
         ensures cannot { IfErr result (λ fault. (unread : Unread) → fault ≡ OpenFault.Cannot unread
-            → (facts self.now).Refuses StandardInput most unread) };
+            → (facts self.now).Rejects StandardInput most unread) };
 
     /// Returns why a read of this source failed. If none has failed, the result has no meaning.
     fn unread(&self, source: &Self::Source) -> Unread

@@ -3,7 +3,7 @@ ghost use Rattle.std.specs.Borrow.{Bor};
 ghost use Rattle.std.specs.Prelude.{◌≡◌, ◌≤◌, ℕ, List, Option, Some, length, IfOk, IfErr, OnOk};
 ghost use Rattle.units.specs.Layout.{longest_text};
 ghost use Rattle.units.specs.Text.{each_read, items_of};
-ghost use Rattle.requests.specs.ItemWords.{EndsItems, classes_named, codes_said};
+ghost use Rattle.requests.specs.ItemWords.{EndsItems, classes_named, codes_named};
 ghost use Rattle.requests.specs.Parts.{IsFirstFault, classes_parts, codes_parts};
 ghost use Rattle.requests.specs.Printed.{most_text_bytes};
 ghost use Rattle.requests.specs.declared.fault.Fault.{Fault as FaultOf};
@@ -42,13 +42,13 @@ pub fn read_all<'a, T: Copy, R: ReadsItem<T>>(
     ensures fault { IfErr result (EndsItems (R.reading reader.now) (R.unread reader.now) word.now) }
 {
     let mut values = Vec::new(alloc);
-    let mut left = word.as_bytes();
-    while let Some((item, rest)) = next_item(left) {
+    let mut limit = word.as_bytes();
+    while let Some((item, rest)) = next_item(limit) {
         match reader.read(item) {
             None => return Err(reader.fault(word, item)),
             Some(value) => values.push(value)?,
         }
-        left = rest;
+        limit = rest;
     }
     Ok(values)
 }
@@ -114,7 +114,7 @@ pub fn classes_in<'a>(alloc: Global, word: &'a str) -> Result<Vec<Class>, Fault<
 /// `word` has more bytes than a text may have, with `NoCodePoint` at the first item that is not a code point, and with
 /// `OutOfMemory` if an allocation fails.
 pub fn chars_in<'a>(alloc: Global, word: &'a str) -> Result<Vec<char>, Fault<'a>>
-    ensures chars { IfOk result (λ chars. codes_said word.now ≡ Some chars.items) }
+    ensures chars { IfOk result (λ chars. codes_named word.now ≡ Some chars.items) }
     ensures bound { IfOk result (λ chars. length chars.items ≤ longest_text) }
     ensures short { OnOk result (length word.now ≤ most_text_bytes) }
     ensures fault { IfErr result (IsFirstFault (codes_parts word.now)) }

@@ -1,7 +1,7 @@
 // Judges a file, and prints the verdict.
 ghost use Rattle.std.specs.Prelude.{◌≡◌, [], ◌∷◌, ℕ, List, IfOk, IfErr};
 ghost use Rattle.units.specs.Limits.{standard};
-ghost use Rattle.bidtests.specs.JudgedSoFar.{IsVerdictBehind, Judges};
+ghost use Rattle.bidtests.specs.JudgedSoFar.{IsVerdictAfter, Judges};
 ghost use Rattle.requests.specs.JudgedFiles.{HasJudged, IsVerdictOn, verdict_status};
 ghost use Rattle.requests.specs.Outcomes.{IsDone};
 ghost use Rattle.requests.specs.ReadFiles.{most_file_bytes, origin_of};
@@ -43,7 +43,7 @@ fn verdict_on<'a, F: Files>(
 ) -> Result<Verdict, Fault<'a>>
     ensures verdict { IfOk result (λ verdict. (bytes : List ℕ)
         × (F.facts files.now).Holds (origin_of file.now) most_file_bytes bytes
-        × IsVerdictBehind judge.entry bytes verdict) }
+        × IsVerdictAfter judge.entry bytes verdict) }
     ensures fault { IfErr result (EndsFile (F.facts files.now) most_file_bytes file.now) }
 {
     let mut source = open(alloc, files, file, MOST_FILE_BYTES)?;

@@ -27,9 +27,9 @@ fn source_of<F: Files>(
     most: u64,
 ) -> Result<F::Source, OpenFault>
     ensures opened { IfOk result (F.opens files.now (origin_of file.now) most) }
-    ensures limit { IfOk result (λ source. F.Source.ByteSource.most_left source ≤ most) }
+    ensures limit { IfOk result (λ source. F.Source.ByteSource.most_remaining source ≤ most) }
     ensures cannot { IfErr result (λ fault. (unread : Unread) → fault ≡ OpenFault.Cannot unread
-        → (F.facts files.now).Refuses (origin_of file.now) most unread) }
+        → (F.facts files.now).Rejects (origin_of file.now) most unread) }
 {
     if file == STANDARD_INPUT {
         files.input(alloc, most)
@@ -48,9 +48,9 @@ pub fn open<'a, F: Files>(
     most: u64,
 ) -> Result<F::Source, Fault<'a>>
     ensures opened { IfOk result (F.opens files.now (origin_of file.now) most) }
-    ensures limit { IfOk result (λ source. F.Source.ByteSource.most_left source ≤ most) }
+    ensures limit { IfOk result (λ source. F.Source.ByteSource.most_remaining source ≤ most) }
     ensures fault { IfErr result
-        (EndsOpening ((F.facts files.now).Refuses (origin_of file.now) most) (word_file most file.now)) }
+        (EndsOpening ((F.facts files.now).Rejects (origin_of file.now) most) (word_file most file.now)) }
 {
     match source_of(alloc, files, file, most) {
         Ok(source) => Ok(source),

@@ -21,7 +21,7 @@ pub struct Ended {
     /// Whether no write to the output failed.
     pub is_written: bool,
     /// Whether the line that reports the fault, if there is one, was written completely.
-    pub is_said: bool,
+    pub is_reported: bool,
 }
 
 impl Outcome {

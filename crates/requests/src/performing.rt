@@ -1,6 +1,6 @@
 // Performs a request.
 ghost use Rattle.std.specs.Prelude.{IfOk, IfErr, OnOk};
-ghost use Rattle.requests.specs.Outcomes.{Fails, IsDone, RefusalLeaves};
+ghost use Rattle.requests.specs.Outcomes.{Fails, IsDone, RequestLeaves};
 ghost use Rattle.requests.specs.Printed.{HasExplained, HasExplainedCodes, HasPrinted, printed_text};
 ghost use Rattle.requests.specs.Parts.{FailsIn, classes_parts, explaining_parts, whole_parts};
 ghost use Rattle.requests.specs.declared.request.Request.TheVariants.{Text as TextOf};
@@ -117,7 +117,7 @@ pub fn perform<'a, F: Files, W: Write>(
         (W.contents out.old) (W.contents out.new) request.entry) }
     ensures fault { IfErr result (Fails (F.facts files.now)
         (W.contents out.old) (W.contents out.new) request.entry) }
-    ensures memory { IfErr result (RefusalLeaves (W.contents out.old) (W.contents out.new) request.entry) }
+    ensures memory { IfErr result (RequestLeaves (W.contents out.old) (W.contents out.new) request.entry) }
 {
     match request {
         Request::Text {
@@ -134,7 +134,7 @@ pub fn perform<'a, F: Files, W: Write>(
             tables,
             direction,
         } => explain_codes(alloc, codes, tables, direction, files, out)?,
-        Request::ExplainRow(sought) => explain_row(alloc, sought, files, out)?,
+        Request::ExplainRow(wanted) => explain_row(alloc, wanted, files, out)?,
         Request::Judge { kind, tables, file } => {
             return judge_file(alloc, kind, tables, file, files, out);
         }

@@ -81,7 +81,7 @@ pub struct AskedLines<'a> {
 
 /// The row of a conformance file that is to be explained.
 #[derive(Clone, Copy, Debug, PartialEq, Eq)]
-pub struct SoughtRow<'a> {
+pub struct WantedRow<'a> {
     /// The kind of the file.
     pub kind: FileKind,
     /// The tables. Only a file of characters needs them.
@@ -123,7 +123,7 @@ pub enum Request<'a> {
     },
     /// Print what each rule does to the text of this row, under each of its directions, and the expected results beside
     /// the defined ones.
-    ExplainRow(SoughtRow<'a>),
+    ExplainRow(WantedRow<'a>),
     /// Judge a conformance file. Only a file of characters needs the tables.
     Judge {
         kind: FileKind,

@@ -7,11 +7,11 @@ ghost use Rattle.requests.specs.Parts.{EndsSearch, FailsIn, row_parts};
 use crate::fault::Fault;
 use crate::files::Files;
 use crate::opening::{MOST_FILE_BYTES, open};
-use crate::request::{FileKind, SoughtRow};
+use crate::request::{FileKind, WantedRow};
 use crate::row_tables::{row_tables, rows_by};
 use bidtests::kind::Kind;
 use explain::find::find_row;
-use explain::found_row::FoundRow;
+use explain::chosen_row::ChosenRow;
 use explain::row_fault::{RowFault, SearchFault};
 use explain::row_print::print_row;
 use printing::written::Written;
@@ -54,7 +54,7 @@ fn row_in_file<'a, F: Files>(
     line: NonZeroU64,
     file: &'a str,
     files: &F,
-) -> Result<FoundRow, Fault<'a>>
+) -> Result<ChosenRow, Fault<'a>>
     ensures row { IfOk result (λ row. HasAtLine (F.facts files.now) rows.entry line.value file.now (Ok row)) }
     ensures fault { IfErr result (EndsSearch (F.facts files.now) rows.entry line.value file.now) }
 {
@@ -82,17 +82,17 @@ fn row_in_file<'a, F: Files>(
 /// row, or if an allocation or a write fails.
 pub fn explain_row<'a, F: Files, W: Write>(
     alloc: Global,
-    sought: SoughtRow<'a>,
+    wanted: WantedRow<'a>,
     files: &F,
     out: &mut W,
 ) -> Result<(), Fault<'a>>
     ensures printed { OnOk result
-        (HasExplainedRow (F.facts files.now) sought.entry (W.contents out.old) (W.contents out.new)) }
-    ensures fault { IfErr result (FailsIn (row_parts (F.facts files.now) sought.entry)
+        (HasExplainedRow (F.facts files.now) wanted.entry (W.contents out.old) (W.contents out.new)) }
+    ensures fault { IfErr result (FailsIn (row_parts (F.facts files.now) wanted.entry)
         (W.contents out.old) (W.contents out.new)) }
 {
-    let tables = row_tables(alloc, files, sought.kind, sought.tables)?;
-    let row = row_in_file(alloc, rows_by(&tables), sought.line, sought.file, files)?;
-    print_row(alloc, out, sought.line.get(), &row)?;
+    let tables = row_tables(alloc, files, wanted.kind, wanted.tables)?;
+    let row = row_in_file(alloc, rows_by(&tables), wanted.line, wanted.file, files)?;
+    print_row(alloc, out, wanted.line.get(), &row)?;
     Ok(())
 }

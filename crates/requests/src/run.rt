@@ -1,7 +1,7 @@
 // Runs a request to its end.
 ghost use Rattle.std.specs.Prelude.{◌≡◌, ◌≤◌, IfOk, IfErr};
 ghost use Rattle.std.specs.Io.KnownBytes.{Keeps};
-ghost use Rattle.requests.specs.Outcomes.{Fails, HasEnded, IsDone, RefusalLeaves};
+ghost use Rattle.requests.specs.Outcomes.{Fails, HasEnded, IsDone, RequestLeaves};
 
 use crate::fault::{Detail, Fault};
 use crate::files::Files;
@@ -33,7 +33,7 @@ fn perform_and_flush<'a, F: Files, W: Write>(
         (W.contents out.old) (W.contents out.new) request.entry) }
     ensures fault { IfErr result (Fails (F.facts files.now)
         (W.contents out.old) (W.contents out.new) request.entry) }
-    ensures memory { IfErr result (RefusalLeaves (W.contents out.old) (W.contents out.new) request.entry) }
+    ensures memory { IfErr result (RequestLeaves (W.contents out.old) (W.contents out.new) request.entry) }
 {
     let outcome = perform(alloc, request, files, out)?;
     flush(out)?;
@@ -73,7 +73,7 @@ pub fn run_request<'a, F: Files, W: Write, E: Write>(
         Ok(outcome) => Ended {
             status: outcome.status(),
             is_written: true,
-            is_said: true,
+            is_reported: true,
         },
         Err(fault) => fault.report(err, detail),
     }

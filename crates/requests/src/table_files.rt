@@ -3,7 +3,7 @@ ghost use Rattle.std.specs.Prelude.{◌≡◌, ℕ, List, IfOk, IfErr};
 ghost use Rattle.units.specs.declared.unread.Unread.{Unread};
 ghost use Rattle.ucdfiles.specs.ClassFile.{StatesClasses};
 ghost use Rattle.ucdfiles.specs.PairFiles.{bracket_fault, mirror_fault, StatesBrackets, StatesMirrors};
-ghost use Rattle.ucdfiles.specs.Tables.{class_by, bracket_by, glyph_by};
+ghost use Rattle.ucdfiles.specs.Tables.{class_by, bracket_by, mirror_by};
 ghost use Rattle.requests.specs.FaultText.{EndsOpening};
 ghost use Rattle.requests.specs.ReadFiles.{AreTables, CannotOpen, FileNamed, HoldsClasses, HoldsTable, IsClassPath};
 ghost use Rattle.requests.specs.ReadFiles.{bracket_name, class_name, extracted_name, in_folder, mirror_name};
@@ -195,7 +195,7 @@ fn read_mirrors<'a, F: Files>(
     folder: &'a str,
 ) -> Result<MirrorTable, Fault<'a>>
     ensures ok { IfOk result (λ table. HoldsTable (F.facts files.now) folder.now mirror_name
-        (λ bytes. StatesMirrors bytes (glyph_by table))) }
+        (λ bytes. StatesMirrors bytes (mirror_by table))) }
     ensures err { IfErr result (EndsTable (F.facts files.now) mirror_fault folder.now mirror_name) }
 {
     let mut source = open_table(alloc, files, folder, MIRRORS)?;

@@ -1,6 +1,6 @@
 // Prints a text while it is read.
 ghost use Rattle.std.specs.Prelude.{IfErr, OnOk};
-ghost use Rattle.printing.specs.Behind.{printed_as};
+ghost use Rattle.printing.specs.Following.{printed_as};
 ghost use Rattle.requests.specs.Printed.{HasPrinted};
 ghost use Rattle.requests.specs.PrintedFiles.{FailsToPrint};
 

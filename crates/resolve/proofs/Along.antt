@@ -11,7 +11,7 @@ use Rattle.sequences.specs.Links.{ArePositions}
 use Rattle.resolve.specs.Repeats.{with_along, AreAll}
 use Rattle.resolve.proofs.Gathered.{apart}
 use Rattle.resolve.proofs.Raising.{RaisePass, raise_write}
-use Rattle.resolve.proofs.Walked.{Walk, WalkSteps, walked, walk_next, walk_value, walk_steps_next}
+use Rattle.resolve.proofs.StatePasses.{StatePass, StatePassSteps, after_state_pass, state_pass_next, state_pass_value, state_pass_steps_next}
 
 -- the class at a later index is unchanged
 pub unwritten : (ps : List ℕ) (start n j : ℕ) (v : Class) (cs : List Class) → ArePositions ps (length cs) → start + n ≤ j → j < length ps →
@@ -44,9 +44,9 @@ all_more {IsSuch} {ps} {start} {k} {cs} all inside here = record {
 pub all_more_written : {IsSuch : Class → Type 0} {ps : List ℕ} {start k : ℕ} {old now : List Class} (made : Class) → ArePositions ps (length old) → now ≡ with_along ps start (k - start) made old →
     AreAll IsSuch ps start k old → k < length ps → IsSuch (class_at now (slice_index ps k)) → AreAll IsSuch ps start (k + 1) old
 all_more_written {IsSuch} {ps} {start} {k} {old} {now} made are is all inside here =
-    let kept : class_at now (slice_index ps k) ≡ class_at old (slice_index ps k) =
+    let unchanged : class_at now (slice_index ps k) ≡ class_at old (slice_index ps k) =
     ap (λ (cs : List Class). class_at cs (slice_index ps k)) is ∙ unwritten ps start (k - start) k made old are (omega (arith, all.from_start)) inside in
-    all_more all inside (subst IsSuch kept here)
+    all_more all inside (subst IsSuch unchanged here)
 
 pub along_next : {X : Type 0} {start k : ℕ} {now : List X} (ps : List ℕ) (v : X) (xs : List X) → start ≤ k → now ≡ with_along ps start (k - start) v xs →
     set now (slice_index ps k) v ≡ with_along ps start (k + 1 - start) v xs
@@ -56,54 +56,54 @@ along_next {X} {start} {k} {now} ps v xs low is =
     ap (λ (ys : List X). set ys (slice_index ps k) v) is ∙ ap (λ i. set (with_along ps start (k - start) v xs) (slice_index ps i) v) (sym there) ∙ ap (λ m. with_along ps start m v xs) (sym more)
 
 module _ {X : Type 0} {given : X → Class → List Class → Class} {past : X → Class → List Class → X} {begin : X} {ps : List ℕ} {start now : List Class} {x : X} {k : ℕ}
-    (w : Walk given past begin ps start now x k) (class made : Class) (gives : (cs : List Class) → given x class cs ≡ made) (stays : (cs : List Class) → past x class cs ≡ x) where
+    (w : StatePass given past begin ps start now x k) (class made : Class) (gives : (cs : List Class) → given x class cs ≡ made) (stays : (cs : List Class) → past x class cs ≡ x) where
   -- the class at the next index after n indices of a run
   run_reads : (n : ℕ) → k + n < length ps → class_at now (slice_index ps (k + n)) ≡ class → class_at (with_along ps k n made now) (slice_index ps (k + n)) ≡ class
   run_reads n within same = unwritten ps k n (k + n) made now w.pass.positions (omega arith) within ∙ same
 
   -- a run gets one class, and what is known after it is unchanged
-  pub walk_run : (n : ℕ) → k + n ≤ length ps → ((i : ℕ) → k ≤ i → i < k + n → class_at now (slice_index ps i) ≡ class) →
-      Walk given past begin ps start (with_along ps k n made now) x (k + n)
-  walk_run zero within same = let e : k ≡ k + 0 = omega arith in subst (λ m. Walk given past begin ps start now x m) e w
-  walk_run (suc n) within same =
-      let before : Walk given past begin ps start (with_along ps k n made now) x (k + n) = walk_run n (omega arith) (λ i low high. same i low (omega arith)) in
+  pub state_pass_run : (n : ℕ) → k + n ≤ length ps → ((i : ℕ) → k ≤ i → i < k + n → class_at now (slice_index ps i) ≡ class) →
+      StatePass given past begin ps start (with_along ps k n made now) x (k + n)
+  state_pass_run zero within same = let e : k ≡ k + 0 = omega arith in subst (λ m. StatePass given past begin ps start now x m) e w
+  state_pass_run (suc n) within same =
+      let before : StatePass given past begin ps start (with_along ps k n made now) x (k + n) = state_pass_run n (omega arith) (λ i low high. same i low (omega arith)) in
       let inside : k + n < length ps = omega arith in
       let read = run_reads n inside (same (k + n) (omega arith) (omega arith)) in
       let cs : List Class = classes_at (with_along ps k n made now) (drop (k + n + 1) ps) in
       let e : k + n + 1 ≡ k + suc n = omega arith in
-      subst (λ m. Walk given past begin ps start (with_along ps k (suc n) made now) x m) e
-      (walk_next before inside made x (drop (k + n + 1) ps) refl
+      subst (λ m. StatePass given past begin ps start (with_along ps k (suc n) made now) x m) e
+      (state_pass_next before inside made x (drop (k + n + 1) ps) refl
       (sym (ap (λ (c : Class). given x c cs) read ∙ gives cs))
       (sym (ap (λ (c : Class). past x c cs) read ∙ stays cs)))
 
   -- the class that the pass gives to each class of a run
   pub run_value : (n : ℕ) → k + n < length ps → ((i : ℕ) → k ≤ i → i ≤ k + n → class_at now (slice_index ps i) ≡ class) →
-      made ≡ class_at (walked given past begin (classes_at start ps)) (k + n)
+      made ≡ class_at (after_state_pass given past begin (classes_at start ps)) (k + n)
   run_value n inside same =
-      let before = walk_run n (omega arith) (λ i low high. same i low (omega arith)) in
+      let before = state_pass_run n (omega arith) (λ i low high. same i low (omega arith)) in
       let read = run_reads n inside (same (k + n) (omega arith) (omega arith)) in
       let cs : List Class = classes_at (with_along ps k n made now) (drop (k + n + 1) ps) in
-      sym (ap (λ (c : Class). given x c cs) read ∙ gives cs) ∙ walk_value before inside (drop (k + n + 1) ps) refl
+      sym (ap (λ (c : Class). given x c cs) read ∙ gives cs) ∙ state_pass_value before inside (drop (k + n + 1) ps) refl
 
   -- a step for each class of a run
-  pub walk_steps_run : (owed : X → List Class → ℕ) → ((cs : List Class) → owed x (class ∷ cs) ≤ owed x cs + 1) → (first last : ℕ) →
-      WalkSteps owed (classes_at start ps) x k first last →
+  pub state_pass_steps_run : (owed : X → List Class → ℕ) → ((cs : List Class) → owed x (class ∷ cs) ≤ owed x cs + 1) → (first last : ℕ) →
+      StatePassSteps owed (classes_at start ps) x k first last →
       (n : ℕ) → k + n ≤ length ps → ((i : ℕ) → k ≤ i → i < k + n → class_at now (slice_index ps i) ≡ class) →
-      WalkSteps owed (classes_at start ps) x (k + n) first (last + n)
-  walk_steps_run owed owes first last s zero within same =
+      StatePassSteps owed (classes_at start ps) x (k + n) first (last + n)
+  state_pass_steps_run owed owes first last s zero within same =
       let e : k ≡ k + 0 = omega arith in
       let f : last ≡ last + 0 = omega arith in
-      subst (λ m. WalkSteps owed (classes_at start ps) x m first (last + 0)) e (subst (λ m. WalkSteps owed (classes_at start ps) x k first m) f s)
-  walk_steps_run owed owes first last s (suc n) within same =
-      let before = walk_run n (omega arith) (λ i low high. same i low (omega arith)) in
+      subst (λ m. StatePassSteps owed (classes_at start ps) x m first (last + 0)) e (subst (λ m. StatePassSteps owed (classes_at start ps) x k first m) f s)
+  state_pass_steps_run owed owes first last s (suc n) within same =
+      let before = state_pass_run n (omega arith) (λ i low high. same i low (omega arith)) in
       let inside : k + n < length ps = omega arith in
       let read = run_reads n inside (same (k + n) (omega arith) (omega arith)) in
       let cs : List Class = classes_at (with_along ps k n made now) (drop (k + n + 1) ps) in
-      let less = walk_steps_run owed owes first last s n (omega arith) (λ i low high. same i low (omega arith)) in
+      let less = state_pass_steps_run owed owes first last s n (omega arith) (λ i low high. same i low (omega arith)) in
       let most : owed x (class_at (with_along ps k n made now) (slice_index ps (k + n)) ∷ cs) ≤ owed x cs + 1 = subst (λ (c : Class). owed x (c ∷ cs) ≤ owed x cs + 1) (sym read) (owes cs) in
       let e : k + n + 1 ≡ k + suc n = omega arith in
-      subst (λ m. WalkSteps owed (classes_at start ps) x m first (last + suc n)) e
-      (walk_steps_next before inside owed x (drop (k + n + 1) ps) refl first (last + n) (last + suc n) less (omega arith) (omega arith))
+      subst (λ m. StatePassSteps owed (classes_at start ps) x m first (last + suc n)) e
+      (state_pass_steps_next before inside owed x (drop (k + n + 1) ps) refl first (last + n) (last + suc n) less (omega arith) (omega arith))
 
 -- a run is given one level
 pub raise_run : {level : ℕ} {to : List Class} {ps : List ℕ} {old now : List (Option ℕ)} {k : ℕ} → RaisePass level to ps old now k → (v : ℕ) (n : ℕ) → k + n ≤ length ps →

@@ -51,8 +51,8 @@ pub record IsGiving (before : List Class) (b : ℕ) (direction : Class) (old now
   pub long : length now ≡ length old
   pub follows : (j : ℕ) → b ≤ j → j < k → follows_bracket before b j ≡ true
   pub taken : (j : ℕ) → b ≤ j → j < k → class_at now j ≡ direction
-  pub kept_below : (j : ℕ) → j < b → class_at now j ≡ class_at old j
-  pub kept_above : (j : ℕ) → k ≤ j → class_at now j ≡ class_at old j
+  pub same_below : (j : ℕ) → j < b → class_at now j ≡ class_at old j
+  pub same_above : (j : ℕ) → k ≤ j → class_at now j ≡ class_at old j
 
 pub giving_starts : (before : List Class) (b : ℕ) (direction : Class) (old : List Class) → b < length old → IsGiving before b direction old (set old b direction) (b + 1)
 giving_starts before b direction old lt =
@@ -80,8 +80,8 @@ giving_goes_on before b direction old now (suc k) g lt mark =
         | inl earlier ↦ get_or-set_other now (suc k) j direction L (let apart : j ≢ suc k = omega arith in apart) ∙ g.taken j ge earlier
         | inr here ↦ (let e : j ≡ suc k = omega arith in ap (class_at (set now (suc k) direction)) e ∙ get_or-set_same now (suc k) direction L within)
       ];
-      kept_below = λ j below. get_or-set_other now (suc k) j direction L (let apart : j ≢ suc k = omega arith in apart) ∙ g.kept_below j below;
-      kept_above = λ j above. get_or-set_other now (suc k) j direction L (let apart : j ≢ suc k = omega arith in apart) ∙ g.kept_above j (omega arith);
+      same_below = λ j below. get_or-set_other now (suc k) j direction L (let apart : j ≢ suc k = omega arith in apart) ∙ g.same_below j below;
+      same_above = λ j above. get_or-set_other now (suc k) j direction L (let apart : j ≢ suc k = omega arith in apart) ∙ g.same_above j (omega arith);
     }
 
 -- from k on no mark follows the bracket
@@ -94,9 +94,9 @@ giving_ends before b direction old now k g past =
     let within : j < length old = omega (arith, g.long) in
     let at_j = class_at-at_each f old j within in
     elim (cases_lt j b) [
-      | inl below ↦ g.kept_below j below ∙ sym (at_j ∙ ap (λ t. cond t direction (class_at old j)) (follows_bracket-below before b j below))
+      | inl below ↦ g.same_below j below ∙ sym (at_j ∙ ap (λ t. cond t direction (class_at old j)) (follows_bracket-below before b j below))
       | inr from ↦ elim (cases_lt j k) [
         | inl earlier ↦ g.taken j from earlier ∙ sym (at_j ∙ ap (λ t. cond t direction (class_at old j)) (g.follows j from earlier))
-        | inr later ↦ g.kept_above j later ∙ sym (at_j ∙ ap (λ t. cond t direction (class_at old j)) (past j later within))
+        | inr later ↦ g.same_above j later ∙ sym (at_j ∙ ap (λ t. cond t direction (class_at old j)) (past j later within))
       ]
     ])

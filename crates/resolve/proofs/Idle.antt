@@ -11,11 +11,11 @@ use Rattle.units.specs.declared.bracket.Unit.{Unit as BidiUnit}
 use Rattle.units.specs.declared.class.Class.{Class}
 use Rattle.units.specs.declared.class.Class.TheVariants.{L, R, AL, EN, ES, ET, CS, NSM, BN}
 use Rattle.resolve.specs.Contexts.{context_at_start, by_w4_w5, context_past, by_context}
-use Rattle.resolve.specs.Sought.{may_weaken, is_imposed, AreOwn}
+use Rattle.resolve.specs.Wanted.{may_weaken, is_imposed, AreOwn}
 use Rattle.resolve.specs.declared.weak.Context.{Context}
 use Rattle.resolve.proofs.Gathered.{contains_index, length-classes_at}
-use Rattle.resolve.proofs.Walked.{walked}
-use Rattle.resolve.proofs.Walks.{after_weak-walked}
+use Rattle.resolve.proofs.StatePasses.{after_state_pass}
+use Rattle.resolve.proofs.WeakPasses.{after_weak-after_state_pass}
 
 pub by_w1-idle : (base c : Class) → may_weaken c ≡ false → by_w1 base c ≡ c
 by_w1-idle base NSM h = cc
@@ -30,11 +30,11 @@ pub by_w3-idle : (c : Class) → may_weaken c ≡ false → by_w3 c ≡ c
 by_w3-idle AL h = cc
 by_w3-idle c h = refl
 
-pub by_w4_w5-idle : (before settled c next ahead : Class) → may_weaken c ≡ false → by_w4_w5 before settled c next ahead ≡ c
-by_w4_w5-idle before settled ES next ahead h = cc
-by_w4_w5-idle before settled CS next ahead h = cc
-by_w4_w5-idle before settled ET next ahead h = cc
-by_w4_w5-idle before settled c next ahead h = refl
+pub by_w4_w5-idle : (before decided c next ahead : Class) → may_weaken c ≡ false → by_w4_w5 before decided c next ahead ≡ c
+by_w4_w5-idle before decided ES next ahead h = cc
+by_w4_w5-idle before decided CS next ahead h = cc
+by_w4_w5-idle before decided ET next ahead h = cc
+by_w4_w5-idle before decided c next ahead h = refl
 
 by_w6-idle : (c : Class) → may_weaken c ≡ false → by_w6 c ≡ c
 by_w6-idle ES h = cc
@@ -50,13 +50,13 @@ by_w7-idle strong c h = refl
 pub by_context-idle : (x : Context) (c : Class) (cs : List Class) → may_weaken c ≡ false → by_context x c cs ≡ c
 by_context-idle x c cs h = grind (arith, by_w1-idle, by_w2-idle, by_w3-idle, by_w4_w5-idle, by_w6-idle, by_w7-idle)
 
-walked-idle : (x : Context) (cs : List Class) → list_any may_weaken cs ≡ false → walked by_context context_past x cs ≡ cs
-walked-idle x [] none = refl
-walked-idle x (c ∷ cs) none = grind (arith, or_parts, by_context-idle, walked-idle (context_past x c cs) cs)
+after_state_pass-idle : (x : Context) (cs : List Class) → list_any may_weaken cs ≡ false → after_state_pass by_context context_past x cs ≡ cs
+after_state_pass-idle x [] none = refl
+after_state_pass-idle x (c ∷ cs) none = grind (arith, or_parts, by_context-idle, after_state_pass-idle (context_past x c cs) cs)
 
 -- W1 to W7 over such classes
 pub after_weak-idle : (sos : Class) (cs : List Class) → list_any may_weaken cs ≡ false → after_weak sos cs ≡ cs
-after_weak-idle sos cs none = after_weak-walked sos cs ∙ walked-idle (context_at_start sos) cs none
+after_weak-idle sos cs none = after_weak-after_state_pass sos cs ∙ after_state_pass-idle (context_at_start sos) cs none
 
 -- a class that replaces own ones is no such class
 imposed-idle : (c : Class) → is_imposed c ≡ true → may_weaken c ≡ false

@@ -8,7 +8,7 @@ use Rattle.units.specs.Runs.{SequenceView, direction_of}
 use Rattle.units.specs.Weak.{after_weak}
 use Rattle.units.specs.declared.bracket.Unit.{Unit as BidiUnit}
 use Rattle.units.specs.declared.class.Class.{Class}
-use Rattle.resolve.specs.InOrder.{AfterEach, AreLeftInOrder, AreResolved}
+use Rattle.resolve.specs.InOrder.{AfterEach, AreColumnsInOrder, AreResolved}
 use Rattle.resolve.specs.Paired.{HoldsPairsAfterWeak, RewritesByBrackets}
 use Rattle.resolve.specs.Pairs.{HoldsPairs, HoldsPairsOf}
 use Rattle.resolve.specs.Raised.{Raises}
@@ -36,11 +36,11 @@ module _ (most_open : ℕ) (s : SequenceView) (us : List BidiUnit) (before old w
       }
 
   pub pairs_by : (table : List (Option ℕ)) → HoldsPairs most_open s.positions us weak table → HoldsPairsAfterWeak most_open s us before table
-  pairs_by table held = let P : List Class → Type 0 = λ cs. HoldsPairsOf most_open s.positions (brackets_of s us cs) table in subst P weakened held
+  pairs_by table stored = let P : List Class → Type 0 = λ cs. HoldsPairsOf most_open s.positions (brackets_of s us cs) table in subst P weakened stored
 
 pub resolved-in-order : (most_open : ℕ) (s : SequenceView) (us : List BidiUnit) (before old_classes : List Class) (old_levels : List (Option ℕ)) (after : AfterEach) →
-    AreLeftInOrder most_open s us before old_classes old_levels after → AreResolved most_open s us before old_classes old_levels after
-resolved-in-order most_open s us before old_classes old_levels after left = record {
-  resolved = resolves_by most_open s us before old_classes after.weak left.copy left.weak after.paired after.neutral old_levels after.levels (left.paired most_open us left.closers) left.neutral left.levels;
-  pairs = pairs_by most_open s us before old_classes after.weak left.copy left.weak after.closers left.closers;
+    AreColumnsInOrder most_open s us before old_classes old_levels after → AreResolved most_open s us before old_classes old_levels after
+resolved-in-order most_open s us before old_classes old_levels after remaining = record {
+  resolved = resolves_by most_open s us before old_classes after.weak remaining.copy remaining.weak after.paired after.neutral old_levels after.levels (remaining.paired most_open us remaining.closers) remaining.neutral remaining.levels;
+  pairs = pairs_by most_open s us before old_classes after.weak remaining.copy remaining.weak after.closers remaining.closers;
 }

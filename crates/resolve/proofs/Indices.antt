@@ -97,6 +97,6 @@ classes_at-set_of cs ps p c are within =
     ap (λ (q : ℕ). classes_at (set cs q c) ps) (sym (index-index_of ps p within)) ∙ classes_at-set cs ps (index_of ps p) c are within
 
 pub keeps-set_of : (ps : List ℕ) (old now : List Class) (p : ℕ) (c : Class) → KeepsOthers ps old now → index_of ps p < length ps → KeepsOthers ps old (set now p c)
-keeps-set_of ps old now p c kept within =
+keeps-set_of ps old now p c unchanged within =
     let P : ℕ → Type 0 = λ q. KeepsOthers ps old (set now q c) in
-    subst P (index-index_of ps p within) (keeps-set ps old now (index_of ps p) c kept within)
+    subst P (index-index_of ps p within) (keeps-set ps old now (index_of ps p) c unchanged within)

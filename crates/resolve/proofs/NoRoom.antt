@@ -4,7 +4,7 @@ use Rattle.std.proofs.lemmas.Bool.{and_from, and_parts, both_ways, eq-eqb, false
 use Rattle.units.specs.Brackets.{bracket_at, is_open, is_open_at, is_uncovered, pairs_before, open_before, has_no_room, stop_of, bracket_pairs_of}
 use Rattle.units.specs.declared.bracket.Bracket.{Bracket}
 use Rattle.units.proofs.Positions.{first_from_is, first_from_nowhere}
-use Rattle.resolve.specs.PairLaws.{StopsAtFirstOpener}
+use Rattle.resolve.specs.PairTheorems.{StopsAtFirstOpener}
 use Rattle.resolve.proofs.Positions.{first_from-cases, length-passing_below-less}
 use Rattle.resolve.proofs.BracketSteps.{opener_at, open_before-below, pairs_before-none}
 use Rattle.resolve.proofs.CountingPairs.{opener_cases}

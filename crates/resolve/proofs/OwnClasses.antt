@@ -11,7 +11,7 @@ use Rattle.units.specs.Positions.{positions_of}
 use Rattle.units.specs.declared.class.Class.{Class}
 use Rattle.units.specs.declared.class.Class.TheVariants.{L, R, BN, LRO, RLO}
 use Rattle.units.proofs.Positions.{length-positions_from, get_or-positions_from}
-use Rattle.resolve.specs.Sought.{is_imposed}
+use Rattle.resolve.specs.Wanted.{is_imposed}
 
 -- an override is a direction
 abbrev IsDirection : Option Class → Type 0

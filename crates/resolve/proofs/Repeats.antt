@@ -9,7 +9,7 @@ use Rattle.units.specs.Weak.{by_w1, by_w2, by_w3, by_w6, by_w7, is_any}
 use Rattle.units.specs.declared.class.Class.{Class}
 use Rattle.units.specs.declared.class.Class.TheVariants.{L, R, AL, EN, ET, AN, WS, ON, S, NSM}
 use Rattle.resolve.specs.Ahead.{first_class}
-use Rattle.resolve.specs.Contexts.{by_w4_w5, settled_by, context_past, by_context, owed_in}
+use Rattle.resolve.specs.Contexts.{by_w4_w5, by_w1_to_w5, context_past, by_context, owed_in}
 use Rattle.resolve.specs.Neutrals.{taken_before, by_run, sides_past, owed_along, owed_in_run}
 use Rattle.resolve.specs.Repeats.{is_plain}
 use Rattle.resolve.specs.ThroughW3.{by_w1_to_w3, preceding_past, all_by_w1_to_w3, is_no_terminator}
@@ -52,15 +52,15 @@ again_past f WS h = refl
 again_past f ON h = refl
 again_past f c h = cc
 
-plain_stays : (before settled c next ahead : Class) → is_plain c ≡ true → by_w4_w5 before settled (by_w3 c) next ahead ≡ by_w3 c
-plain_stays before settled L next ahead h = refl
-plain_stays before settled R next ahead h = refl
-plain_stays before settled AL next ahead h = refl
-plain_stays before settled AN next ahead h = refl
-plain_stays before settled S next ahead h = refl
-plain_stays before settled WS next ahead h = refl
-plain_stays before settled ON next ahead h = refl
-plain_stays before settled c next ahead h = cc
+plain_stays : (before decided c next ahead : Class) → is_plain c ≡ true → by_w4_w5 before decided (by_w3 c) next ahead ≡ by_w3 c
+plain_stays before decided L next ahead h = refl
+plain_stays before decided R next ahead h = refl
+plain_stays before decided AL next ahead h = refl
+plain_stays before decided AN next ahead h = refl
+plain_stays before decided S next ahead h = refl
+plain_stays before decided WS next ahead h = refl
+plain_stays before decided ON next ahead h = refl
+plain_stays before decided c next ahead h = cc
 
 plain_is_no_en : (c : Class) → is_plain c ≡ true → is_en c ≡ false
 plain_is_no_en EN h = cc
@@ -70,31 +70,31 @@ by_w1-plain : (base c : Class) → is_plain c ≡ true → by_w1 base c ≡ c
 by_w1-plain base NSM h = cc
 by_w1-plain base c h = refl
 
-settled_plain : (x : Context) (c : Class) (cs : List Class) → is_plain c ≡ true → settled_by x c cs ≡ by_w3 c
-settled_plain x c cs h =
+by_w1_to_w5_plain : (x : Context) (c : Class) (cs : List Class) → is_plain c ≡ true → by_w1_to_w5 x c cs ≡ by_w3 c
+by_w1_to_w5_plain x c cs h =
     let ds : List Class = all_by_w1_to_w3 (preceding_past x.preceding c) cs in
     let next : Class = first_class is_any ds ON in
     let ahead : Class = first_class is_no_terminator ds ON in
-    ap (λ (d : Class). by_w4_w5 x.before x.settled (by_w3 (by_w2 x.preceding.strong d)) next ahead) (by_w1-plain x.preceding.base c h)
-    ∙ ap (λ (d : Class). by_w4_w5 x.before x.settled (by_w3 d) next ahead) (w2_stays x.preceding.strong c (plain_is_no_en c h))
-    ∙ plain_stays x.before x.settled c next ahead h
+    ap (λ (d : Class). by_w4_w5 x.before x.decided (by_w3 (by_w2 x.preceding.strong d)) next ahead) (by_w1-plain x.preceding.base c h)
+    ∙ ap (λ (d : Class). by_w4_w5 x.before x.decided (by_w3 d) next ahead) (w2_stays x.preceding.strong c (plain_is_no_en c h))
+    ∙ plain_stays x.before x.decided c next ahead h
 
-plain_again : (x : Context) (c : Class) (cs : List Class) → is_plain c ≡ true → settled_by (context_past x c cs) c cs ≡ settled_by x c cs
-plain_again x c cs h = settled_plain (context_past x c cs) c cs h ∙ sym (settled_plain x c cs h)
+plain_again : (x : Context) (c : Class) (cs : List Class) → is_plain c ≡ true → by_w1_to_w5 (context_past x c cs) c cs ≡ by_w1_to_w5 x c cs
+plain_again x c cs h = by_w1_to_w5_plain (context_past x c cs) c cs h ∙ sym (by_w1_to_w5_plain x c cs h)
 
 -- W1 to W7
-weak_given : (x : Context) (c : Class) (cs ds : List Class) → settled_by x c cs ≡ settled_by x c ds → by_context x c cs ≡ by_context x c ds
+weak_given : (x : Context) (c : Class) (cs ds : List Class) → by_w1_to_w5 x c cs ≡ by_w1_to_w5 x c ds → by_context x c cs ≡ by_context x c ds
 weak_given x c cs ds e = ap (λ (s : Class). by_w7 (preceding_past x.preceding c).strong (by_w6 s)) e
 
 abbrev context_with : Context → Class → Class → Context
-context_with x c s = record { preceding = preceding_past x.preceding c; before = by_w1_to_w3 x.preceding c; settled = s }
+context_with x c s = record { preceding = preceding_past x.preceding c; before = by_w1_to_w3 x.preceding c; decided = s }
 
-weak_past : (x : Context) (c : Class) (cs ds : List Class) → settled_by x c cs ≡ settled_by x c ds → context_past x c cs ≡ context_past x c ds
+weak_past : (x : Context) (c : Class) (cs ds : List Class) → by_w1_to_w5 x c cs ≡ by_w1_to_w5 x c ds → context_past x c cs ≡ context_past x c ds
 weak_past x c cs ds e = ap (context_with x c) e
 
 weak_given_again : (x : Context) (c : Class) (cs : List Class) → is_plain c ≡ true → by_context (context_past x c cs) c cs ≡ by_context x c cs
 weak_given_again x c cs h =
-    ap (λ (f : Preceding). by_w7 f.strong (by_w6 (settled_by (context_past x c cs) c cs))) (again_past x.preceding c h)
+    ap (λ (f : Preceding). by_w7 f.strong (by_w6 (by_w1_to_w5 (context_past x c cs) c cs))) (again_past x.preceding c h)
     ∙ ap (λ (s : Class). by_w7 (preceding_past x.preceding c).strong (by_w6 s)) (plain_again x c cs h)
 
 weak_past_again : (x : Context) (c : Class) (cs : List Class) → is_plain c ≡ true → context_past (context_past x c cs) c cs ≡ context_past x c cs
@@ -160,13 +160,13 @@ plain_no_et c h e = cc
 pub repeats_plain : (x : Context) (c : Class) (ds : List Class) → is_plain c ≡ true → Repeats c (by_context x c ds) (context_past x c ds)
 repeats_plain x c ds h =
     let y : Context = context_past x c ds in
-    let same : (cs : List Class) → settled_by y c cs ≡ settled_by y c ds = λ cs. settled_plain y c cs h ∙ sym (settled_plain y c ds h) in
+    let same : (cs : List Class) → by_w1_to_w5 y c cs ≡ by_w1_to_w5 y c ds = λ cs. by_w1_to_w5_plain y c cs h ∙ sym (by_w1_to_w5_plain y c ds h) in
     let given : (cs : List Class) → by_context y c cs ≡ by_context x c ds = λ cs. weak_given y c cs ds (same cs) ∙ weak_given_again x c ds h in
     let past : (cs : List Class) → context_past y c cs ≡ y = λ cs. weak_past y c cs ds (same cs) ∙ weak_past_again x c ds h in
     let class : by_w1_to_w3 y.preceding c ≡ by_w3 c =
     ap (λ (d : Class). by_w3 (by_w2 y.preceding.strong d)) (by_w1-plain y.preceding.base c h) ∙ ap by_w3 (w2_stays y.preceding.strong c (plain_is_no_en c h)) in
     let owes : (cs : List Class) → owed_in y (c ∷ cs) ≡ 0 =
-    λ cs. owes_not_here y.settled (by_w1_to_w3 y.preceding c) (all_by_w1_to_w3 (preceding_past y.preceding c) cs)
+    λ cs. owes_not_here y.decided (by_w1_to_w3 y.preceding c) (all_by_w1_to_w3 (preceding_past y.preceding c) cs)
     (λ e. plain_no_et c h (sym class ∙ e)) in
     record { given = given; past = past; owes = owes }
 

@@ -4,7 +4,7 @@ use Rattle.std.specs.Int.RustNames.{bit_and}
 use Rattle.units.specs.Classes.{is_neutral}
 use Rattle.units.specs.declared.class.Class.{Class}
 use Rattle.units.specs.declared.class.Class.TheVariants.{L, R, AL, EN, ES, ET, AN, CS, NSM, BN, B, S, WS, ON, LRE, LRO, RLE, RLO, PDF, LRI, RLI, FSI, PDI}
-use Rattle.resolve.specs.Sought.{may_weaken}
+use Rattle.resolve.specs.Wanted.{may_weaken}
 use Rattle.resolve.specs.declared.class_set.ClassSet.{ClassSet}
 
 -- the number of a class among the 23
@@ -38,10 +38,10 @@ abbrev pub holds : ClassSet → Class → Bool
 holds set c = bit_and (set.bits / 2 ^ class_number c) 1 == 1
 
 -- a neutral, or L or R itself if it is the direction
-abbrev pub is_leaning : Class → Class → Bool
-is_leaning L L = true
-is_leaning R R = true
-is_leaning direction c = is_neutral c
+abbrev pub is_neutral_or : Class → Class → Bool
+is_neutral_or L L = true
+is_neutral_or R R = true
+is_neutral_or direction c = is_neutral c
 
 -- the classes that W1 to W7 change in the same way in every context: AL becomes R, the others are unchanged
 abbrev pub is_context_free : Class → Bool
@@ -52,4 +52,4 @@ is_context_free c = not (may_weaken c)
 -- is L or R, a neutral, or AN
 abbrev pub is_passed : Class → Class → Bool
 is_passed strong AN = true
-is_passed strong c = is_leaning strong c
+is_passed strong c = is_neutral_or strong c

@@ -3,7 +3,7 @@ use Rattle.std.specs.Prelude.{ℕ, true, false, List, ◌≡◌}
 use Rattle.units.specs.Classes.{class_at, is_nonspacing}
 use Rattle.units.specs.Layout.{current_at}
 use Rattle.units.specs.declared.class.Class.{Class}
-use Rattle.resolve.specs.Sought.{is_imposed}
+use Rattle.resolve.specs.Wanted.{is_imposed}
 
 -- X1 to X9: the class is the position's own, unless it is one that replaces own classes
 abbrev pub IsOwnUnlessImposed : Class → Class → Type 0

@@ -2,7 +2,7 @@
 use Rattle.std.specs.Prelude.{Bool, true, false, ℕ, zero, suc, ◌+◌, ◌<◌, ◌≤◌, ◌≡◌, List, length, set, slice_index}
 use Rattle.units.specs.Classes.{class_at}
 use Rattle.units.specs.declared.class.Class.{Class}
-use Rattle.resolve.specs.ClassSets.{is_leaning, is_passed}
+use Rattle.resolve.specs.ClassSets.{is_neutral_or, is_passed}
 use Rattle.units.specs.declared.class.Class.TheVariants.{L, R, AL, AN, S, WS, ON}
 
 -- letters, Arabic numbers and spaces: W1 to W7 change one as they change the one of its kind before it, whatever comes
@@ -28,8 +28,8 @@ abbrev pub IsRunOf : Class → List ℕ → ℕ → ℕ → List Class → Type 
 IsRunOf class = AreAll (λ c. c ≡ class)
 
 -- the classes are neutral or this direction
-abbrev pub AreLeaning : Class → List ℕ → ℕ → ℕ → List Class → Type 0
-AreLeaning direction = AreAll (λ c. is_leaning direction c ≡ true)
+abbrev pub AreNeutralOr : Class → List ℕ → ℕ → ℕ → List Class → Type 0
+AreNeutralOr direction = AreAll (λ c. is_neutral_or direction c ≡ true)
 
 -- W1 to W7 leave the classes unchanged, and know the same last strong class after each
 abbrev pub ArePassed : Class → List ℕ → ℕ → ℕ → List Class → Type 0

@@ -1,7 +1,7 @@
 //! Sets of classes.
 ghost use Rattle.std.specs.Prelude.{◌≡◌};
 ghost use Rattle.units.specs.declared.class.Class.{Class as BidiClass};
-ghost use Rattle.resolve.specs.ClassSets.{holds, is_context_free, is_leaning, is_passed};
+ghost use Rattle.resolve.specs.ClassSets.{holds, is_context_free, is_neutral_or, is_passed};
 
 use units::class::Class;
 
@@ -30,8 +30,8 @@ impl ClassSet {
     }
 
     /// Returns the neutrals, and L or R if it is this direction.
-    pub(crate) fn leaning(direction: Class) -> ClassSet
-        ensures { (class : BidiClass) → holds result class ≡ is_leaning direction class }
+    pub(crate) fn neutral_or(direction: Class) -> ClassSet
+        ensures { (class : BidiClass) → holds result class ≡ is_neutral_or direction class }
     {
         let bits = match direction {
             Class::L => NEUTRALS | 0b01,

@@ -1,8 +1,8 @@
 //! The direction that a bracket pair takes (N0 b to d), from its content and the strong class before it.
 ghost use Rattle.std.specs.Prelude.{◌≡◌, ◌<◌, ◌≤◌, ◌+◌, ◌-◌, length};
-ghost use Rattle.units.specs.Brackets.{strong_as, same_direction, opposite, is_found_in, context_before, direction_of_pair};
+ghost use Rattle.units.specs.Brackets.{strong_as, same_direction, opposite, occurs_in, context_before, direction_of_pair};
 ghost use Rattle.units.specs.Classes.{classes_at};
-ghost use Rattle.resolve.specs.Inside.{closer_index, classes_inside, MissesNone, BothMissNone, StillMissesNone, BothStillMissNone, AreLookoutsFor, IsNearest, passed_inside, looked_back, seen_by, context_of};
+ghost use Rattle.resolve.specs.Inside.{closer_index, classes_inside, MissesNone, BothMissNone, StillMissesNone, BothStillMissNone, AreCursorsFor, IsNearest, passed_inside, looked_back, seen_by, context_of};
 
 use crate::next_pair::Pair;
 use sequences::sequence::Sequence;
@@ -115,20 +115,20 @@ impl Nearest {
 /// Searches a sequence for a class that counts as one direction. The cursor only moves forward, so all pairs together
 /// search the sequence once.
 #[derive(Clone, Copy)]
-struct Lookout {
+struct Cursor {
     direction: Class,
 
     /// The index that the search has reached.
     next: usize,
 }
 
-impl Lookout {
+impl Cursor {
     /// Returns a cursor before the first index.
     fn new(direction: Class) -> Self
         ensures direction { result.direction ≡ direction }
         ensures next { result.next ≡ 0 }
     {
-        Lookout { direction, next: 0 }
+        Cursor { direction, next: 0 }
     }
 
     /// Returns whether a class that counts as the direction is strictly inside a pair. Each class that is passed is a
@@ -146,7 +146,7 @@ impl Lookout {
         requires next { self.old.next ≤ length s.now.positions - 1 }
         requires passed { MissesNone
             (classes_at classes.now s.now.positions) self.old pair.index (closer_index s.now pair) }
-        ensures value { result ≡ is_found_in (classes_inside classes.now s.now pair) self.old.direction }
+        ensures value { result ≡ occurs_in (classes_inside classes.now s.now pair) self.old.direction }
         ensures direction { self.new.direction ≡ self.old.direction }
         ensures next { self.new.next ≤ length s.now.positions - 1 }
         ensures passed { StillMissesNone (classes_at classes.now s.now.positions) pair.index self.old self.new }
@@ -171,18 +171,18 @@ impl Lookout {
 /// The content of the pairs of a sequence, which are handled in the order of their openers.
 #[derive(Clone, Copy)]
 pub(crate) struct Insides {
-    embedding: Lookout,
-    opposite: Lookout,
+    embedding: Cursor,
+    opposite: Cursor,
 }
 
 impl Insides {
     /// Returns the state before the first pair.
     pub(crate) fn new(embedding: Class) -> Self
-        ensures lookouts { AreLookoutsFor embedding 0 result }
+        ensures cursors { AreCursorsFor embedding 0 result }
     {
         Insides {
-            embedding: Lookout::new(embedding),
-            opposite: Lookout::new(opposite(embedding)),
+            embedding: Cursor::new(embedding),
+            opposite: Cursor::new(opposite(embedding)),
         }
     }
 
@@ -198,17 +198,17 @@ impl Insides {
         requires classes { length classes.now ≡ s.now.extent }
         requires order { pair.index < closer_index s.now pair }
         requires within { closer_index s.now pair < length s.now.positions }
-        requires lookouts { AreLookoutsFor self.old.embedding.direction (length s.now.positions) self.old }
+        requires cursors { AreCursorsFor self.old.embedding.direction (length s.now.positions) self.old }
         requires passed { BothMissNone
             (classes_at classes.now s.now.positions) self.old pair.index (closer_index s.now pair) }
         requires nearest { IsNearest (classes_at classes.now s.now.positions) s.now.sos nearest.old }
-        requires behind { nearest.old.index ≤ pair.index }
+        requires following { nearest.old.index ≤ pair.index }
         ensures value { result ≡ direction_of_pair
             self.old.embedding.direction (context_of classes.now s.now pair) (classes_inside classes.now s.now pair) }
-        ensures lookouts { AreLookoutsFor self.old.embedding.direction (length s.now.positions) self.new }
+        ensures cursors { AreCursorsFor self.old.embedding.direction (length s.now.positions) self.new }
         ensures passed { BothStillMissNone (classes_at classes.now s.now.positions) pair.index self.old self.new }
         ensures nearest { IsNearest (classes_at classes.now s.now.positions) s.now.sos nearest.new }
-        ensures behind { nearest.new.index ≤ pair.index }
+        ensures following { nearest.new.index ≤ pair.index }
         ensures at_least { steps.old ≤ steps.new }
         ensures at_most { steps.new + seen_by self.old nearest.old ≤ steps.old + seen_by self.new nearest.new }
     {

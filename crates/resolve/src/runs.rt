@@ -2,7 +2,7 @@
 ghost use Rattle.std.specs.Prelude.{◌≡◌, ℕ, ◌+◌, ◌-◌, ◌<◌, ◌≤◌, Some, length, slice_index};
 ghost use Rattle.sequences.specs.Links.{ArePositions};
 ghost use Rattle.units.specs.Classes.{class_at};
-ghost use Rattle.resolve.specs.Repeats.{with_along, AreLeaning, ArePassed, IsRunOf};
+ghost use Rattle.resolve.specs.Repeats.{with_along, AreNeutralOr, ArePassed, IsRunOf};
 
 use crate::class_set::ClassSet;
 use crate::rules::is_same;
@@ -79,14 +79,14 @@ pub(crate) fn give_direction<L: Ledger>(
     requires positions { ArePositions positions.now (length classes.old) }
     requires start { start ≤ length positions.now }
     requires levels { length levels.old ≡ length classes.old }
-    ensures leaning { AreLeaning direction positions.now start result classes.old }
+    ensures neutral_or { AreNeutralOr direction positions.now start result classes.old }
     ensures classes { classes.new ≡ with_along positions.now start (result - start) direction classes.old }
     ensures levels { levels.new ≡ with_along positions.now start (result - start) (Some resolved) levels.old }
     ensures steps { steps.new + start ≡ steps.old + result }
 {
-    let leaning = ClassSet::leaning(direction);
+    let neutral_or = ClassSet::neutral_or(direction);
     let mut k = start;
-    while k < positions.len() && leaning.holds(classes[positions[k] as usize]) {
+    while k < positions.len() && neutral_or.holds(classes[positions[k] as usize]) {
         steps.tick();
         let p = positions[k] as usize;
         classes[p] = direction;

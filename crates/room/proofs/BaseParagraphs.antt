@@ -8,7 +8,7 @@ use Rattle.units.specs.Paragraphs.{paragraphs_of}
 use Rattle.units.specs.declared.bracket.Unit.{Unit as BidiUnit}
 use Rattle.units.specs.declared.level.Direction.{Direction}
 use Rattle.explicit.specs.FirstParagraph.{first_length}
-use Rattle.explicit.proofs.LevelsFound.OneCutting.{paragraphs_of_split}
+use Rattle.explicit.proofs.LevelsComputed.OneCutting.{paragraphs_of_split}
 use Rattle.room.specs.BaseLevels.{base_level, first_paragraph}
 
 -- what follows the first paragraph, depending on its first unit
@@ -43,9 +43,9 @@ module _ (units rest : List BidiUnit) (some : 0 < length units) (is : rest ≡ d
       ∙ ap (λ (ls : List ℕ). take k levels ++ ls) (sym (next_level direction)) ∙ now
 
 -- if a level remains to be written, a paragraph remains too
-pub paragraph_left : (all rest : List BidiUnit) (direction : Direction) (levels : List ℕ) (k : ℕ) → k < length levels → length levels ≡ length (paragraphs_of all)
+pub rest_is_not_empty : (all rest : List BidiUnit) (direction : Direction) (levels : List ℕ) (k : ℕ) → k < length levels → length levels ≡ length (paragraphs_of all)
     → take k levels ++ para_levels_of rest direction ≡ para_levels_of all direction → 0 < length rest
-paragraph_left all [] direction levels k place long so =
+rest_is_not_empty all [] direction levels k place long so =
     let counted = ap length so ∙ length-map (paragraphs_of all) (λ us. para_level_of (classes_of us) direction) in
     absurd (omega (arith, counted, length-append (take k levels) (para_levels_of [] direction), length-take-le k levels (omega arith), place, long))
-paragraph_left all (unit ∷ rest) direction levels k place long so = omega arith
+rest_is_not_empty all (unit ∷ rest) direction levels k place long so = omega arith

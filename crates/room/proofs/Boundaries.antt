@@ -6,7 +6,7 @@ use Rattle.std.proofs.lemmas.Bool.{cases_lt}
 use Rattle.room.specs.Boundaries.{IsBoundary}
 use Rattle.room.specs.Looking.{IsAt, size_in}
 use Rattle.room.specs.Rooms.{RoomOf, characters_in, offset_in}
-use Rattle.room.proofs.LevelWalk.{Rise}
+use Rattle.room.proofs.LevelPass.{Rise}
 
 module _ (room : RoomOf) (rise : Rise room) where
   -- offsets rise, or are those of one character
@@ -47,8 +47,8 @@ module _ (room : RoomOf) (rise : Rise room) where
       ]
 
   -- no character begins after the text
-  behind_none : (at : ℕ) → size_in room ≤ at → (size_in room ≡ at → ⊥) → IsBoundary (offset_in room) (characters_in room) at → ⊥
-  behind_none at past other boundary =
+  none_after : (at : ℕ) → size_in room ≤ at → (size_in room ≡ at → ⊥) → IsBoundary (offset_in room) (characters_in room) at → ⊥
+  none_after at past other boundary =
       let begins = boundary.begins in
       let up : offset_in room boundary.index ≤ size_in room = not_below boundary.index (characters_in room) boundary.inside (omega arith) in
       other (omega (arith, begins, up, past))
@@ -56,5 +56,5 @@ module _ (room : RoomOf) (rise : Rise room) where
   -- only the character with this index, or the text's end, could begin there
   pub no_boundary : (at : ℕ) (found : Option ℕ) (index : ℕ) → MatchOption found (size_in room ≤ at) (IsAt room at) → index ≡ unwrap_or found (characters_in room)
       → (offset_in room index ≡ at → ⊥) → IsBoundary (offset_in room) (characters_in room) at → ⊥
-  no_boundary at None index past is other = behind_none at past (λ e. other (ap (offset_in room) is ∙ e))
+  no_boundary at None index past is other = none_after at past (λ e. other (ap (offset_in room) is ∙ e))
   no_boundary at (Some k) index within is other = within_none at k within (λ e. other (ap (offset_in room) is ∙ e))

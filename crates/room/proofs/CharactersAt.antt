@@ -20,7 +20,7 @@ use Rattle.decoding.specs.LossyTexts.{chunks, replaced, utf8_lossy_text}
 use Rattle.decoding.specs.Offsets.{Spelled, codes_of, offset_of}
 use Rattle.decoding.specs.Spelling.{IsSpelled}
 use Rattle.decoding.specs.declared.fault.Faults.{Faults}
-use Rattle.decoding.specs.declared.fault.Faults.TheVariants.{Refused, Replaced}
+use Rattle.decoding.specs.declared.fault.Faults.TheVariants.{Rejected, Replaced}
 use Rattle.decoding.proofs.LossyChunks.{lossy_step, replaced_some}
 use Rattle.decoding.proofs.Utf16Texts.{one_unit, two_units}
 use Rattle.sources.proofs.FirstChars.{lossy_fault, lossy_first}
@@ -105,7 +105,7 @@ begins_char bs (c ∷ cs) back scalar is some =
     let same : bs ≡ encode_utf8 c ++ tail = is ∙ append_assoc (encode_utf8 c) (encode_utf8_all cs) back in
     let spelled : IsSpelled bs 0 (c, n) = record {
       scalar = (and_parts _ _ scalar).0;
-      behind = omega arith;
+      following = omega arith;
       inside = omega (arith, ap length same, length-append (encode_utf8 c) tail);
       spelled = ap (take n) same ∙ take-append_seam (encode_utf8 c) tail;
     } in
@@ -150,8 +150,8 @@ code_of_char bs at c n is =
 
 pub code_of_fault : (bs : List ℕ) (at : ℕ) → at < length bs → StartsWithNoChar (take (length bs - at) (drop at bs)) → 0xFFFD ≡ utf8_code_at bs at
 code_of_fault bs at lt none =
-    let left = drop at bs in
-    sym (ap first_code (lossy_fault left (utf8_invalid_len left) (omega (arith, lt, length-drop at bs)) (subst StartsWithNoChar (rest_of bs at) none) refl))
+    let remaining = drop at bs in
+    sym (ap first_code (lossy_fault remaining (utf8_invalid_len remaining) (omega (arith, lt, length-drop at bs)) (subst StartsWithNoChar (rest_of bs at) none) refl))
 
 -- a well-formed text is read the same if faults are replaced
 no_bytes : utf8_lossy_text [] ≡ utf8_text []
@@ -189,8 +189,8 @@ reads_utf8 room bytes Replaced whole h = λ k lt.
     let at = has_offsets (Utf8 bytes Replaced) room whole h in
     let inside : k < length (utf8_lossy_text bytes) = omega (arith, lt, at.count) in
     ap (utf8_code_at bytes) (at.offsets k (omega (arith, inside))) ∙ utf8_code_from k bytes inside
-reads_utf8 room bytes Refused whole h = λ k lt.
-    let at = has_offsets (Utf8 bytes Refused) room whole h in
+reads_utf8 room bytes Rejected whole h = λ k lt.
+    let at = has_offsets (Utf8 bytes Rejected) room whole h in
     let inside : k < length (utf8_text bytes) = omega (arith, lt, at.count) in
     let same : utf8_lossy_text bytes ≡ utf8_text bytes = well_formed_text bytes h.well_formed in
     ap (utf8_code_at bytes) (at.offsets k (omega (arith, inside)) ∙ ap (λ (t : List Spelled). offset_of t k) (sym same))
@@ -213,7 +213,7 @@ pair_or_not u v = elim (cases_lt u 0xD800) [
       | inl under ↦ inr (λ pair. omega (arith, under, pair.2))
       | inr above ↦ elim (cases_lt v 0xE000) [
         | inl before ↦ inl (from, upto, above, before)
-        | inr behind ↦ inr (λ pair. omega (arith, behind, pair.3))
+        | inr following ↦ inr (λ pair. omega (arith, following, pair.3))
       ]
     ]
   ]

@@ -7,7 +7,7 @@ use Rattle.ucdfiles.specs.Tables.{TablesOf}
 use Rattle.decoding.specs.Decoded.{AreDecoded}
 use Rattle.decoding.specs.Offsets.{code_units}
 use Rattle.decoding.specs.Starts.{AreOffsets}
-use Rattle.decoding.proofs.FoundBreaks.{last_start}
+use Rattle.decoding.proofs.BreakIndices.{last_start}
 use Rattle.decoding.proofs.OffsetLemmas.{few_characters, offsets_of_text}
 use Rattle.sources.specs.Sources.{SourceOf, IsEncoded, characters_of, size_of, source_offset, text_in, units_of}
 use Rattle.room.proofs.Encoded.{characters_encoded, offset_encoded, text_spelled, units_encoded}

@@ -2,7 +2,7 @@
 use Rattle.std.proofs.Common.{◌≡◌, ℕ, arith, length, refl}
 use Rattle.ucdfiles.specs.Tables.{TablesOf, units_by}
 use Rattle.decoding.specs.Offsets.{IsSpelledOut, codes_of, offset_of}
-use Rattle.decoding.specs.declared.fault.Faults.TheVariants.{Refused, Replaced}
+use Rattle.decoding.specs.declared.fault.Faults.TheVariants.{Rejected, Replaced}
 use Rattle.decoding.proofs.LossyChunks.{lossy_spelled}
 use Rattle.decoding.proofs.Utf16Texts.{utf16_spelled}
 use Rattle.decoding.proofs.Utf8Texts.{utf8_spelled}
@@ -13,7 +13,7 @@ pub text_spelled : (source : SourceOf) → IsSpelledOut (text_in source)
 text_spelled (Codes numbers) = λ k d lt. absurd (omega (arith, lt))
 text_spelled (Classes numbers) = λ k d lt. absurd (omega (arith, lt))
 text_spelled (Units numbered) = λ k d lt. absurd (omega (arith, lt))
-text_spelled (Utf8 bytes Refused) = utf8_spelled bytes
+text_spelled (Utf8 bytes Rejected) = utf8_spelled bytes
 text_spelled (Utf8 bytes Replaced) = lossy_spelled bytes
 text_spelled (Utf16 units faults) = utf16_spelled units
 

@@ -14,7 +14,7 @@ use Rattle.units.specs.declared.class.Class.{Class}
 use Rattle.units.specs.declared.level.Direction.{Direction}
 use Rattle.units.proofs.Positions.{get_or-positions_from, length-positions_from}
 use Rattle.lines.specs.Layouts.{no_line}
-use Rattle.lines.proofs.Law.{line_order-is}
+use Rattle.lines.proofs.Theorem.{line_order-is}
 use Rattle.lines.proofs.Lengths.{length-levels}
 use Rattle.room.specs.OrderedLines.{HasOrder, LinesHaveOrder}
 

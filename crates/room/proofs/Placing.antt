@@ -12,7 +12,7 @@ decide room at k inside = elim (cases_lt at (offset_in room k)) [
   | inl below ↦ inr (λ is. omega (arith, is.from, below))
   | inr from ↦ elim (cases_lt at (offset_in room (k + 1))) [
     | inl before ↦ inl (record { inside = inside; from = from; before = before })
-    | inr behind ↦ inr (λ is. omega (arith, is.before, behind))
+    | inr following ↦ inr (λ is. omega (arith, is.before, following))
   ]
 ]
 

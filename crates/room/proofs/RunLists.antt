@@ -8,7 +8,7 @@ use Rattle.visual.specs.VisualRuns.{IsInOrder, IsRunAt}
 use Rattle.visual.specs.declared.line.OrderedLine.{OrderedLine}
 use Rattle.visual.specs.declared.line_runs.Runs.{Runs}
 use Rattle.visual.specs.declared.runs.VisualRun.{VisualRun}
-use Rattle.visual.proofs.Walked.{AreGiven}
+use Rattle.visual.proofs.Passed.{AreGiven}
 use Rattle.room.specs.Looking.{HasParaLevelOf}
 use Rattle.room.specs.Rooms.{RoomOf}
 use Rattle.room.specs.RunsIn.{IsOrderedLine, PutsRuns, WritesRuns, run_in}
@@ -24,13 +24,13 @@ run_within line runs old run new order given next =
     record { forward = omega (arith, at.level.some); end = at.level.within }
 
 -- one run more is written
-pub written_run : (room : RoomOf) (runs : List VisualRun) (run : VisualRun) (out out_then : List VisualRun) (count : ℕ) (told : VisualRun)
-    → length out_then ≡ length out → told ≡ run_in room run
-    → (count < length out → take (count + 1) out_then ≡ take count out ++ told ∷ [])
+pub written_run : (room : RoomOf) (runs : List VisualRun) (run : VisualRun) (out out_then : List VisualRun) (count : ℕ) (converted : VisualRun)
+    → length out_then ≡ length out → converted ≡ run_in room run
+    → (count < length out → take (count + 1) out_then ≡ take count out ++ converted ∷ [])
     → (count ≤ length out → take count out ≡ map (run_in room) runs)
     → count + 1 ≤ length out_then → take (count + 1) out_then ≡ map (run_in room) (runs ++ run ∷ [])
-written_run room runs run out out_then count told len is put before le =
-    put (omega (arith, le, len)) ∙ ap (λ (xs : List VisualRun). xs ++ told ∷ []) (before (omega (arith, le, len)))
+written_run room runs run out out_then count converted len is put before le =
+    put (omega (arith, le, len)) ∙ ap (λ (xs : List VisualRun). xs ++ converted ∷ []) (before (omega (arith, le, len)))
     ∙ ap (λ (x : VisualRun). map (run_in room) runs ++ x ∷ []) is ∙ sym (map-append (run_in room) runs (run ∷ []))
 
 -- the line has the number k, and is in a paragraph with its level
@@ -60,8 +60,8 @@ module _ (room : RoomOf) (k : ℕ) (line : OrderedLine) (of : IsLineOf room k li
         writes = record {
           count = sym n;
           written = λ _. ap (λ (m : ℕ). take m new) n ∙ puts.written (omega (arith, puts.counted, fits, len));
-          behind = ap (λ (m : ℕ). drop m new) n ∙ puts.behind ∙ ap (λ (m : ℕ). drop m old) (sym n);
-          kept = λ short. absurd (omega (arith, short, fits, puts.counted, n));
+          following = ap (λ (m : ℕ). drop m new) n ∙ puts.following ∙ ap (λ (m : ℕ). drop m old) (sym n);
+          unchanged = λ short. absurd (omega (arith, short, fits, puts.counted, n));
         };
       }
 
@@ -78,7 +78,7 @@ module _ (room : RoomOf) (k : ℕ) (line : OrderedLine) (of : IsLineOf room k li
         writes = record {
           count = sym n;
           written = λ fits. absurd (omega (arith, few, fits, n));
-          behind = refl;
-          kept = λ _. refl;
+          following = refl;
+          unchanged = λ _. refl;
         };
       }

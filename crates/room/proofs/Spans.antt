@@ -4,14 +4,14 @@ use Rattle.std.specs.Prelude.{slice_index_or, slice_range}
 use Rattle.std.proofs.lemmas.List.{drop-drop, get_or-drop, get_or-take, get_or_append_left, length-map, length-take-le, take-append-le, take_all}
 use Rattle.std.proofs.lemmas.Slice.{drop-append-drop}
 use Rattle.units.specs.Reordering.{line_order}
-use Rattle.lines.specs.LinesAlone.{RefusesSpan}
+use Rattle.lines.specs.LinesAlone.{RejectsSpan}
 use Rattle.lines.specs.declared.alone.SpanFault.{SpanFault}
 use Rattle.lines.specs.declared.alone.SpanFault.TheVariants.{NotForward, BeyondText, CrossesParagraph}
 use Rattle.room.specs.LineOf.{IsSpan, RejectsLineIn, WritesCharacters, WritesLineOf, broken_at, fault_of_span}
 use Rattle.room.specs.Looking.{IsAt}
 use Rattle.room.specs.Rooms.{RoomOf, characters_in, offset_in}
 use Rattle.room.proofs.Boundaries.{before_it, not_below, spread_out}
-use Rattle.room.proofs.LevelWalk.{Rise}
+use Rattle.room.proofs.LevelPass.{Rise}
 
 -- lists that are equal after an index are equal after a later one
 later : {A : Type 0} (n m : ℕ) (xs ys : List A) → n ≤ m → drop n xs ≡ drop n ys → drop m xs ≡ drop m ys
@@ -44,10 +44,10 @@ module _ (room : RoomOf) (rise : Rise room) (start end first last : ℕ) (span :
       (omega (arith, low), high)
 
   -- the levels of its units are those of its characters
-  pub told : (levels front spread : List (Option ℕ)) → take (last - first) front ≡ slice_range levels first last
+  pub converted : (levels front spread : List (Option ℕ)) → take (last - first) front ≡ slice_range levels first last
       → ((i k : ℕ) → i < end - start → IsAt room (offset_in room first + i) k → slice_index_or spread i None ≡ slice_index_or front (k - first) None)
       → (i j : ℕ) → i < end - start → IsAt room (start + i) j → slice_index_or spread i None ≡ slice_index_or levels j None
-  told levels front spread same are i j lt at =
+  converted levels front spread same are i j lt at =
       let here : IsAt room (offset_in room first + i) j = subst (λ (n : ℕ). IsAt room (n + i) j) (sym span.begins) at in
       let inside = within i j lt here in
       are i j lt here
@@ -88,16 +88,16 @@ module _ (room : RoomOf) (rise : Rise room) (start end first last : ℕ) (span :
       span = span;
       taken = w.taken;
       line = λ breaks is. record {
-        leveled = told (broken_at room breaks).levels levels1 (spread ++ drop count levels1) (w.line breaks is).leveled unit_level;
+        leveled = converted (broken_at room breaks).levels levels1 (spread ++ drop count levels1) (w.line breaks is).leveled unit_level;
         ordered = shown_order (line_order (broken_at room breaks).levels first last) (w.line breaks is).ordered;
       };
       few = omega (arith, w.few, narrow);
-      levels_behind = drop-append-drop count levels1 spread (end - start) (omega (arith, counted)) (len ∙ long) ∙ later (last - first) (end - start) levels1 levels narrow w.levels_behind;
-      order_behind = drop-append-drop shown order1 turned (end - start) (omega (arith, w.few, narrow)) turned_len ∙ later (last - first) (end - start) order1 order narrow w.order_behind;
+      levels_after = drop-append-drop count levels1 spread (end - start) (omega (arith, counted)) (len ∙ long) ∙ later (last - first) (end - start) levels1 levels narrow w.levels_after;
+      order_after = drop-append-drop shown order1 turned (end - start) (omega (arith, w.few, narrow)) turned_len ∙ later (last - first) (end - start) order1 order narrow w.order_after;
     }
 
   -- if the line of its characters is rejected, so is the line of its units
-  pub refused : (places : ℕ) (fault : SpanFault) → length room.text.units ≡ characters_in room → end - start ≤ places → RefusesSpan room.text.units first last fault → RejectsLineIn room start end places (fault_of_span fault)
-  refused places NotForward all fits h = absurd (omega (arith, h, span.forward))
-  refused places BeyondText all fits h = absurd (omega (arith, h.1, all, span.inside))
-  refused places CrossesParagraph all fits h = (fits, record { first = first; last = last; span = span; separates = h.2 })
+  pub rejected : (places : ℕ) (fault : SpanFault) → length room.text.units ≡ characters_in room → end - start ≤ places → RejectsSpan room.text.units first last fault → RejectsLineIn room start end places (fault_of_span fault)
+  rejected places NotForward all fits h = absurd (omega (arith, h, span.forward))
+  rejected places BeyondText all fits h = absurd (omega (arith, h.1, all, span.inside))
+  rejected places CrossesParagraph all fits h = (fits, record { first = first; last = last; span = span; separates = h.2 })

@@ -5,12 +5,12 @@ use Rattle.std.proofs.lemmas.Bool.{cases_eq}
 use Rattle.room.specs.Looking.{IsAt}
 use Rattle.room.specs.Rooms.{RoomOf, characters_in, offset_in}
 use Rattle.room.proofs.Boundaries.{not_below, spread_out}
-use Rattle.room.proofs.LevelWalk.{Rise}
+use Rattle.room.proofs.LevelPass.{Rise}
 
 -- the levels of characters from this one on are spread, and the items before it are unchanged
 pub record AreSpread (room : RoomOf) (first from : ℕ) (old now : List (Option ℕ)) : Type 0 where
   pub len : length now ≡ length old
-  pub kept : (i : ℕ) → offset_in room first + i < offset_in room from → slice_index_or now i None ≡ slice_index_or old i None
+  pub unchanged : (i : ℕ) → offset_in room first + i < offset_in room from → slice_index_or now i None ≡ slice_index_or old i None
   pub spread : (i j : ℕ) → i < length old → from ≤ j → IsAt room (offset_in room first + i) j → slice_index_or now i None ≡ slice_index_or old (j - first) None
 
 module _ (room : RoomOf) (rise : Rise room) (first k : ℕ) (begun : first ≤ k) (inside : k < characters_in room) where
@@ -34,7 +34,7 @@ module _ (room : RoomOf) (rise : Rise room) (first k : ℕ) (begun : first ≤ k
     spread_more i j lt le at = elim (cases_eq j k) [
       | inl here ↦
           let is_at : IsAt room (offset_in room first + i) k = subst (λ (n : ℕ). IsAt room (offset_in room first + i) n) here at in
-          put i (omega (arith, is_at.from)) (omega (arith, is_at.before)) (omega (arith, lt, now.len)) ∙ is ∙ now.kept (k - first) item_inside
+          put i (omega (arith, is_at.from)) (omega (arith, is_at.before)) (omega (arith, lt, now.len)) ∙ is ∙ now.unchanged (k - first) item_inside
           ∙ ap (λ (n : ℕ). slice_index_or old (n - first) None) (sym here)
       | inr other ↦
           let up : offset_in room (k + 1) ≤ offset_in room j = not_below room rise (k + 1) j (omega (arith, le, other)) (omega (arith, at.inside)) in
@@ -46,7 +46,7 @@ module _ (room : RoomOf) (rise : Rise room) (first k : ℕ) (begun : first ≤ k
         let up : offset_in room k < offset_in room (k + 1) = rise k (k + 1) (omega arith) (omega (arith, inside)) in
         record {
           len = len ∙ now.len;
-          kept = λ i lt. others i (inl (omega (arith, lt))) ∙ now.kept i (omega (arith, lt, up));
+          unchanged = λ i lt. others i (inl (omega (arith, lt))) ∙ now.unchanged i (omega (arith, lt, up));
           spread = spread_more;
         }
 

@@ -61,18 +61,18 @@ pub whole_more : (room : RoomOf) (k before value : ℕ) (levels : List ℕ) → 
     → AreWholeUpTo room k levels → AreWholeUpTo room (k + 1) (set levels k value)
 whole_more room k before value levels inside is last are = λ q lt.
     let after = set levels k value in
-    let kept : (j : ℕ) → j < k → slice_index after j ≡ slice_index levels j = λ j low. let other : j ≢ k = omega (arith, low) in get_or-set_other levels k j value 0 other in
+    let unchanged : (j : ℕ) → j < k → slice_index after j ≡ slice_index levels j = λ j low. let other : j ≢ k = omega (arith, low) in get_or-set_other levels k j value 0 other in
     let here : slice_index after k ≡ value = get_or-set_same levels k value 0 inside in
     let first : k ≡ 0 → whole_level room before k ≡ whole_level room (slice_index after (k - 1)) k =
     λ none. subst (λ (n : ℕ). whole_level room before n ≡ whole_level room (slice_index after (n - 1)) n) {x = 0} {y = k} (sym none) refl in
     let at : slice_index after k ≡ whole_level room (slice_index after (k - 1)) k = elim (cases_lt 0 k) [
-      | inl some ↦ here ∙ is ∙ ap (λ (b : ℕ). whole_level room b k) (last some ∙ sym (kept (k - 1) (omega (arith, some))))
+      | inl some ↦ here ∙ is ∙ ap (λ (b : ℕ). whole_level room b k) (last some ∙ sym (unchanged (k - 1) (omega (arith, some))))
       | inr none ↦ here ∙ is ∙ first (omega (arith, none))
     ] in
     elim (cases_lt q k) [
       | inl below ↦ elim (cases_lt 0 q) [
-        | inl some ↦ kept q below ∙ are q below ∙ ap (λ (b : ℕ). whole_level room b q) (sym (kept (q - 1) (omega (arith, below, some))))
-        | inr none ↦ kept q below ∙ are q below ∙ ap (λ (b : ℕ). whole_level room b q) (sym (kept (q - 1) (omega (arith, below, none))))
+        | inl some ↦ unchanged q below ∙ are q below ∙ ap (λ (b : ℕ). whole_level room b q) (sym (unchanged (q - 1) (omega (arith, below, some))))
+        | inr none ↦ unchanged q below ∙ are q below ∙ ap (λ (b : ℕ). whole_level room b q) (sym (unchanged (q - 1) (omega (arith, below, none))))
       ]
       | inr above ↦ subst (λ (n : ℕ). slice_index after n ≡ whole_level room (slice_index after (n - 1)) n) {x = k} {y = q} (omega (arith, above, lt)) at
     ]

@@ -48,4 +48,4 @@ pub record WritesBaseLevels (tables : TablesOf) (source : SourceOf) (direction :
   pub well_formed : IfOk counted (λ _. IsWellFormed source)
   pub written : IfOk counted (λ count. WritesWhole (para_levels_of (units_of tables source) direction) count old new)
   pub fault : IfErr counted (IsFirstFault source)
-  pub kept : OnErr counted (new ≡ old)
+  pub unchanged : OnErr counted (new ≡ old)

@@ -50,7 +50,7 @@ pub record IsAsked (ask : AskOf) (tables : TablesOf) (text : TextOf) : Type 0 wh
 pub record LeavesText (IsTaken : Type 0) (IsRejected : LayoutFault → Type 0) (IsText : TextOf → Type 0) (breaks : List ℕ) (old new : RoomOf) (done : Result (Unit {0}) LayoutFault) : Type 0 where
   pub capacity : new.capacity ≡ old.capacity
   pub encodes : new.encodes ≡ old.encodes
-  pub kept : OnErr done (new ≡ old)
+  pub unchanged : OnErr done (new ≡ old)
   pub rejected : IfErr done IsRejected
   pub taken : OnOk done IsTaken
   pub text : OnOk done (IsText new.text)

@@ -12,7 +12,7 @@ pub mod Rooms
 pub mod RunsIn
 pub mod Showing
 pub mod ShownUnits
-pub mod StaysLeft
+pub mod StaysAtZero
 pub mod Texts
 pub mod WholeLevels
 pub mod Written

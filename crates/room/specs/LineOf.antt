@@ -29,8 +29,8 @@ pub record WritesCharacters (room : RoomOf) (first last : ℕ) (levels levels2 :
   pub line : (breaks : List ℕ) → IsLineIn room.text.units breaks first last →
       IsLineLaidOut (broken_at room breaks) first last (take (last - first) levels2) (take shown order2)
   pub few : shown ≤ last - first
-  pub levels_behind : drop (last - first) levels2 ≡ drop (last - first) levels
-  pub order_behind : drop (last - first) order2 ≡ drop (last - first) order
+  pub levels_after : drop (last - first) levels2 ≡ drop (last - first) levels
+  pub order_after : drop (last - first) order2 ≡ drop (last - first) order
 
 -- L1, L2: in this layout each unit from the start on has the level of its character, and the characters from the first
 -- up to the last begin in this order
@@ -47,8 +47,8 @@ pub record WritesLineOf (room : RoomOf) (start end : ℕ) (levels levels2 : List
   pub line : (breaks : List ℕ) → IsLineIn room.text.units breaks first last →
       IsLineInUnits room (broken_at room breaks) start end first last levels2 (take shown order2)
   pub few : shown ≤ end - start
-  pub levels_behind : drop (end - start) levels2 ≡ drop (end - start) levels
-  pub order_behind : drop (end - start) order2 ≡ drop (end - start) order
+  pub levels_after : drop (end - start) levels2 ≡ drop (end - start) levels
+  pub order_after : drop (end - start) order2 ≡ drop (end - start) order
 
 -- P1: a paragraph ends within the line, before its last character
 pub record CrossesIn (room : RoomOf) (start end : ℕ) : Type 0 where

@@ -27,7 +27,7 @@ pub record PutsRuns (room : RoomOf) (line : OrderedLine) (count : ℕ) (old new 
   pub are : AreRunsOf line runs
   pub counted : count ≡ length runs
   pub written : count ≤ length new → take count new ≡ map (run_in room) runs
-  pub behind : drop count new ≡ drop count old
+  pub following : drop count new ≡ drop count old
 
 -- L2: the runs of the line with the number k, in its paragraph, are counted, and written so whole or not at all
 pub record WritesRuns (room : RoomOf) (k : ℕ) (counted : ℕ) (old new : List VisualRun) : Type 0 where

@@ -4,13 +4,13 @@ use Rattle.std.specs.Char.{IsScalar}
 use Rattle.std.specs.Option.{unwrap_or}
 use Rattle.units.specs.Reordering.{is_odd_level}
 use Rattle.lines.specs.Layouts.{line_at}
-use Rattle.ucdfiles.specs.Tables.{TablesOf, glyph_by}
+use Rattle.ucdfiles.specs.Tables.{TablesOf, mirror_by}
 use Rattle.room.specs.Rooms.{RoomOf}
 use Rattle.room.specs.Written.{Writes}
 
 -- L4: the character that is shown for a character with this level: its mirror image, if the level is odd and it has one
 abbrev pub shown_char : TablesOf → Option ℕ → ℕ → ℕ
-shown_char tables level c = if is_odd_level level then unwrap_or (glyph_by tables.mirrors c) c else c
+shown_char tables level c = if is_odd_level level then unwrap_or (mirror_by tables.mirrors c) c else c
 
 -- L4: what is shown for a code point with this level; a number that isn't a scalar value is shown unchanged
 pub record IsShown (tables : TablesOf) (level : Option ℕ) (code shown : ℕ) : Type 0 where

@@ -3,7 +3,7 @@ use Rattle.std.specs.Prelude.{ℕ, ◌≤◌, ◌<◌, List, length}
 use Rattle.units.specs.Layout.{LineLayout, TextLayout, longest_text}
 use Rattle.units.specs.Reordering.{shown_of}
 use Rattle.lines.specs.LineBreaks.{AreBreaks, IsFirstBreakFault}
-use Rattle.ucdfiles.specs.Tables.{TablesOf, glyph_by}
+use Rattle.ucdfiles.specs.Tables.{TablesOf, mirror_by}
 use Rattle.room.specs.declared.text.Text.{Text}
 use Rattle.room.specs.declared.text.TextFault.{TextFault}
 use Rattle.room.specs.declared.text.TextFault.TheVariants.{TooLong, Break, Memory}
@@ -23,7 +23,7 @@ layout_in_text text = text.room.layout
 -- L4: the characters of a line from left to right, those at odd levels as their mirror images
 abbrev pub shown_in : Text → LineLayout → List ℕ
 shown_in text line =
-    shown_of (glyph_by (tables_in_text text).mirrors) (layout_in_text text).levels (chars_in text) line.order
+    shown_of (mirror_by (tables_in_text text).mirrors) (layout_in_text text).levels (chars_in text) line.order
 
 -- a text is laid out: it is not too long, and the breaks rise within it
 pub record TakesText (chars breaks : List ℕ) : Type 0 where

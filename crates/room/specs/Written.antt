@@ -6,8 +6,8 @@ use Rattle.std.specs.Prelude.{ℕ, ◌≡◌, ◌≤◌, ◌<◌, List, length, 
 pub record Writes {A : Type 0} (n : ℕ) (AreRight : List A → Type 0) (counted : ℕ) (old new : List A) : Type 0 where
   pub count : counted ≡ n
   pub written : n ≤ length old → AreRight (take n new)
-  pub behind : drop n new ≡ drop n old
-  pub kept : length old < n → new ≡ old
+  pub following : drop n new ≡ drop n old
+  pub unchanged : length old < n → new ≡ old
 
 -- the items are counted, and written to the front whole or not at all
 abbrev pub WritesWhole : {A : Type 0} → List A → ℕ → List A → List A → Type 0

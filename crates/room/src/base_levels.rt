@@ -7,7 +7,7 @@ ghost use Rattle.units.specs.Layout.{para_levels_of};
 ghost use Rattle.units.specs.Limits.{LimitsOf};
 ghost use Rattle.units.specs.Paragraphs.{paragraphs_of};
 ghost use Rattle.units.specs.declared.bracket.Unit.{Unit as BidiUnit};
-ghost use Rattle.room.specs.StaysLeft.{AreLevelsZero, all_stay_left, stays_left};
+ghost use Rattle.room.specs.StaysAtZero.{AreLevelsZero, all_stay_at_zero, stays_at_zero};
 ghost use Rattle.room.specs.BaseLevels.{IsAfterParagraph, IsNextText, WritesBaseLevels};
 ghost use Rattle.room.specs.BaseLevels.{base_level, depth_after, first_side};
 ghost use Rattle.sources.specs.Seen.{source_seen};
@@ -41,7 +41,7 @@ fn depth_after(class: Class, depth: usize) -> usize
 
 /// P1, P2: returns the side of the first strong class of a text's first paragraph outside of all isolates. Reads no
 /// further than that class or the paragraph, so it takes at most one step for each unit of the text.
-#[tactic(auto, using(crate::proofs::BaseSides::side_found))]
+#[tactic(auto, using(crate::proofs::BaseSides::first_side_from))]
 fn first_side<L: Ledger>(tables: &Tables, source: Source<'_>, steps: &mut Steps<L>) -> Side
     requires { IsWellFormed (source_seen source) }
     ensures side { result ≡ first_side (units_of tables.now (source_seen source.entry)) }
@@ -182,8 +182,8 @@ fn write_base_levels(
 
 /// Returns whether a class leaves a paragraph of level 0, and each position in it, at that level: it is neither R, AL
 /// or AN nor an initiator of an embedding, an override or an isolate.
-fn stays_left(class: Class) -> bool
-    ensures { result ≡ stays_left class }
+fn stays_at_zero(class: Class) -> bool
+    ensures { result ≡ stays_at_zero class }
 {
     !matches!(
         class,
@@ -201,13 +201,13 @@ fn stays_left(class: Class) -> bool
 }
 
 /// Returns whether the classes of a text leave all levels at 0.
-fn all_stay_left(tables: &Tables, source: Source<'_>) -> bool
+fn all_stay_at_zero(tables: &Tables, source: Source<'_>) -> bool
     requires { IsWellFormed (source_seen source) }
-    ensures { result ≡ all_stay_left (classes_of (units_of tables.now (source_seen source.entry))) }
+    ensures { result ≡ all_stay_at_zero (classes_of (units_of tables.now (source_seen source.entry))) }
 {
     let mut rest = source;
     while let Some((unit, after)) = rest.split_first(tables) {
-        if !stays_left(unit.class) {
+        if !stays_at_zero(unit.class) {
             return false;
         }
         rest = after;
@@ -254,16 +254,16 @@ pub fn base_levels(
 pub fn is_left_to_right(tables: &Tables, source: Source<'_>) -> Result<bool, usize>
     ensures well_formed { OnOk result (IsWellFormed (source_seen source.entry)) }
     ensures stays { IfOk result (λ stays. stays
-        ≡ all_stay_left (classes_of (units_of tables.now (source_seen source.entry)))) }
+        ≡ all_stay_at_zero (classes_of (units_of tables.now (source_seen source.entry)))) }
     ensures fault { IfErr result (IsFirstFault (source_seen source.entry)) }
 {
     source.check()?;
-    Ok(all_stay_left(tables, source))
+    Ok(all_stay_at_zero(tables, source))
 }
 
 /// States that each position of a text with only classes that stay at level 0 has the level 0, unless X9 removes it.
 /// The direction must be `Auto` or `Ltr`.
 pub fn levels_are_zero()
-    ensures { (limits : LimitsOf) (text : List BidiUnit) → all_stay_left (classes_of text) ≡ true
+    ensures { (limits : LimitsOf) (text : List BidiUnit) → all_stay_at_zero (classes_of text) ≡ true
         → AreLevelsZero limits text }
 {}

@@ -35,7 +35,7 @@ pub(crate) fn decode(
 {
     match source {
         Source::Utf8(bytes, faults) => match faults {
-            Faults::Refused => decode_utf8(bytes, tables, units, starts),
+            Faults::Rejected => decode_utf8(bytes, tables, units, starts),
             Faults::Replaced => Ok(decode_utf8_lossy(bytes, tables, units, starts)),
         },
         Source::Utf16(text, faults) => decode_utf16(text, faults, tables, units, starts),

@@ -1,7 +1,7 @@
 //! Turns breaks at offsets into breaks at characters.
 ghost use Rattle.std.specs.Prelude.{◌≡◌, ◌<◌, ◌≤◌, ◌-◌, length, slice_index, take, IfErr, OnOk};
 ghost use Rattle.lines.specs.LineBreaks.{AreBreaks};
-ghost use Rattle.decoding.specs.Starts.{AreFound, AreOffsets};
+ghost use Rattle.decoding.specs.Starts.{AreIndicesOf, AreOffsets};
 ghost use Rattle.room.specs.Boundaries.{RejectsBreaks};
 
 use crate::fault::LayoutFault;
@@ -23,7 +23,7 @@ pub(crate) fn find_indices(
         IfErr result (RejectsBreaks (slice_index starts.now) count (slice_index starts.now count) breaks.now) }
     ensures rising { OnOk result (AreBreaks breaks.now (slice_index starts.now (length starts.now - 1))) }
     ensures few { OnOk result (length breaks.now ≤ length indices.old) }
-    ensures found { OnOk result (AreFound starts.now breaks.now (take (length breaks.now) indices.new)) }
+    ensures found { OnOk result (AreIndicesOf starts.now breaks.now (take (length breaks.now) indices.new)) }
     ensures characters { OnOk result (AreBreaks (take (length breaks.now) indices.new) (length starts.now - 1)) }
 {
     let len = starts[starts.len() - 1] as usize;

@@ -3,12 +3,12 @@ ghost use Rattle.std.specs.Prelude.{◌≡◌, ◌≤◌, [], length};
 ghost use Rattle.units.specs.Layout.{layout_of};
 ghost use Rattle.units.specs.Limits.{standard};
 ghost use Rattle.units.specs.declared.level.Direction.TheVariants.{Auto};
-ghost use Rattle.lines.specs.Scratches.{room_of, layout_in, HoldsSomeLayoutOf, HoldsText, IsBrokenAnew, IsFilled};
+ghost use Rattle.lines.specs.Scratches.{room_of, layout_in, HoldsSomeLayoutOf, HoldsText, HasSetLines, IsFilled};
 ghost use Rattle.lines.specs.Scratches.{StillHoldsText};
 ghost use Rattle.room.specs.OrderedLines.{LinesHaveOrder};
 
 use lines::breaks::Breaks;
-use lines::lay_out::{break_anew_into, lay_out_into_with};
+use lines::lay_out::{set_lines_into, lay_out_into_with};
 use lines::scratch::Scratch;
 use units::bracket::Unit;
 use units::level::Direction;
@@ -39,11 +39,11 @@ pub(crate) fn set_lines_of_units(scratch: &mut Scratch, text: &[Unit], breaks: &
     requires holds { HoldsSomeLayoutOf text.now scratch.old }
     ensures room { room_of scratch.new ≡ room_of scratch.old }
     ensures filled { IsFilled scratch.new }
-    ensures laid_out { IsBrokenAnew text.now breaks.now.positions scratch.old (layout_in scratch.new) }
+    ensures laid_out { HasSetLines text.now breaks.now.positions scratch.old (layout_in scratch.new) }
     ensures holds { StillHoldsText text.now scratch.old scratch.new }
     ensures in_order { LinesHaveOrder (layout_in scratch.new) }
 {
-    break_anew_into(scratch, text, breaks);
+    set_lines_into(scratch, text, breaks);
 }
 
 /// Lays out an empty text, which fits in any scratch.

@@ -129,8 +129,8 @@ impl Room {
         ensures line { MatchResult result
             (WritesLineOf self.old start end levels.old levels.new order.old order.new)
             (RejectsLineIn self.old start end (min (length levels.old) (length order.old))) }
-        ensures kept_levels { OnErr result (levels.new ≡ levels.old) }
-        ensures kept_order { OnErr result (order.new ≡ order.old) }
+        ensures levels_stay { OnErr result (levels.new ≡ levels.old) }
+        ensures order_stays { OnErr result (order.new ≡ order.old) }
     {
         self.offsets_rise();
         self.units_are_characters();

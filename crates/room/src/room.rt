@@ -91,7 +91,7 @@ impl Room {
     ghost use Rattle.units.specs.Layout.{longest_text, text_levels};
     ghost use Rattle.ucdfiles.specs.Tables.{TablesOf};
     ghost use Rattle.lines.specs.Layouts.{view_of};
-    ghost use Rattle.lines.specs.LinesAlone.{RefusesSpan};
+    ghost use Rattle.lines.specs.LinesAlone.{RejectsSpan};
     ghost use Rattle.room.specs.OrderedLines.{LinesHaveOrder};
     ghost use Rattle.room.specs.Leaving.{Leaves, SetsLines};
     ghost use Rattle.room.specs.LineOf.{WritesCharacters};
@@ -358,10 +358,10 @@ impl Room {
         ensures same { self.new ≡ self.old }
         ensures line { MatchResult result
             (WritesCharacters self.old first last levels.old levels.new order.old order.new)
-            (RefusesSpan self.old.text.units first last) }
+            (RejectsSpan self.old.text.units first last) }
         ensures inside { IfOk result (λ shown. All (λ k. k < characters_in self.old) (take shown order.new)) }
-        ensures kept_levels { OnErr result (levels.new ≡ levels.old) }
-        ensures kept_order { OnErr result (order.new ≡ order.old) }
+        ensures levels_stay { OnErr result (levels.new ≡ levels.old) }
+        ensures order_stays { OnErr result (order.new ≡ order.old) }
     {
         let count = self.characters();
         let text = &self.units[..count];

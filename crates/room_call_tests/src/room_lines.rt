@@ -92,7 +92,7 @@ fn needs_items(rt: &impl Abort, room: &mut Room) {
 
 /// Lays out the letters from left to right, in one line.
 fn lay_out_letters(room: &mut Room, tables: &Tables) -> Result<(), LayoutFault> {
-    let text = Source::Utf8(LETTERS, Faults::Refused);
+    let text = Source::Utf8(LETTERS, Faults::Rejected);
     lay_out(room, tables, text, Direction::Ltr, &[])
 }
 
@@ -131,7 +131,7 @@ fn has_para_levels(rt: &impl Abort, room: &Room, levels: &[Option<ParaLevel>]) {
 fn finds_levels_of_paragraphs(rt: HostRuntime) -> Result<(), Fail> {
     let tables = tables(rt.alloc())?;
     let mut room = Room::with_room(rt.alloc(), 4, true)?;
-    let text = Source::Utf8(b"\xD7\x90\na", Faults::Refused);
+    let text = Source::Utf8(b"\xD7\x90\na", Faults::Rejected);
     lay_out(&mut room, &tables, text, Direction::Auto, &[])?;
     let (zero, one) = (Some(ParaLevel::Zero), Some(ParaLevel::One));
     has_para_levels(&rt, &room, &[one, one, one, zero, None]);
@@ -148,7 +148,7 @@ fn has_resolved_levels(rt: &impl Abort, room: &Room) {
 fn keeps_levels_before_l1(rt: HostRuntime) -> Result<(), Fail> {
     let tables = tables(rt.alloc())?;
     let mut room = Room::with_room(rt.alloc(), 5, true)?;
-    let text = Source::Utf8(LETTERS, Faults::Refused);
+    let text = Source::Utf8(LETTERS, Faults::Rejected);
     lay_out(&mut room, &tables, text, Direction::Ltr, &[3])?;
     has_resolved_levels(&rt, &room);
     Ok(())

@@ -12,13 +12,13 @@ use ucdfiles::tables::Tables;
 use units::level::{Direction, Level};
 
 /// A Hebrew letter, of two bytes, a blank and a Latin letter.
-const HELD: &[u8] = b"\xD7\x90 a";
+const LAID_OUT_TEXT: &[u8] = b"\xD7\x90 a";
 
 /// Texts that a room for four units rejects, with their breaks. For code points and classes the room checks the breaks
 /// before the text, for code units the text before the breaks.
 const REJECTED: [(Source<'static>, &[usize], LayoutFault); 14] = [
     (
-        Source::Utf8(b"1234\xFF", Faults::Refused),
+        Source::Utf8(b"1234\xFF", Faults::Rejected),
         &[9],
         LayoutFault::TooLong,
     ),
@@ -33,12 +33,12 @@ const REJECTED: [(Source<'static>, &[usize], LayoutFault); 14] = [
         LayoutFault::TooLong,
     ),
     (
-        Source::Utf8(b"a\xFFb", Faults::Refused),
+        Source::Utf8(b"a\xFFb", Faults::Rejected),
         &[9],
         LayoutFault::IllFormed(1),
     ),
     (
-        Source::Utf16(&[0x5D0, 0xD83D, 0xDE00, 0xD83D], Faults::Refused),
+        Source::Utf16(&[0x5D0, 0xD83D, 0xDE00, 0xD83D], Faults::Rejected),
         &[2],
         LayoutFault::IllFormed(3),
     ),
@@ -63,17 +63,17 @@ const REJECTED: [(Source<'static>, &[usize], LayoutFault); 14] = [
         LayoutFault::IllFormed(1),
     ),
     (
-        Source::Utf8(HELD, Faults::Refused),
+        Source::Utf8(LAID_OUT_TEXT, Faults::Rejected),
         &[1, 9],
         LayoutFault::Break(BreakFault::OutOfRange(1)),
     ),
     (
-        Source::Utf8(HELD, Faults::Refused),
+        Source::Utf8(LAID_OUT_TEXT, Faults::Rejected),
         &[2, 2],
         LayoutFault::Break(BreakFault::NotRising(1)),
     ),
     (
-        Source::Utf8(HELD, Faults::Refused),
+        Source::Utf8(LAID_OUT_TEXT, Faults::Rejected),
         &[1],
         LayoutFault::BreakInside(0),
     ),
@@ -128,7 +128,7 @@ fn are_rejected(rt: &impl Abort, room: &mut Room, tables: &Tables) {
 
 /// Lays out a text in two lines, and then the texts that the room rejects.
 fn holds_and_rejects(rt: &impl Abort, room: &mut Room, tables: &Tables) -> Result<(), LayoutFault> {
-    let text = Source::Utf8(HELD, Faults::Refused);
+    let text = Source::Utf8(LAID_OUT_TEXT, Faults::Rejected);
     lay_out(room, tables, text, Direction::Ltr, &[2])?;
     holds_text(rt, room, 2);
     are_rejected(rt, room, tables);
@@ -149,7 +149,7 @@ fn rejects_code_units_without_offsets(rt: HostRuntime) -> Result<(), Fail> {
     let tables = tables(rt.alloc())?;
     let mut room = Room::with_room(rt.alloc(), 2, false)?;
     for text in [
-        Source::Utf8(b"ab\xFF", Faults::Refused),
+        Source::Utf8(b"ab\xFF", Faults::Rejected),
         Source::Utf16(&[0x61], Faults::Replaced),
     ] {
         is_rejected(&rt, &mut room, &tables, text, &[0], LayoutFault::NoOffsets);
@@ -181,9 +181,9 @@ fn holds_and_sets_lines(
     room: &mut Room,
     tables: &Tables,
 ) -> Result<(), LayoutFault> {
-    let text = Source::Utf8(HELD, Faults::Refused);
+    let text = Source::Utf8(LAID_OUT_TEXT, Faults::Rejected);
     lay_out(room, tables, text, Direction::Ltr, &[2])?;
-    let other = Source::Utf8(b"1234", Faults::Refused);
+    let other = Source::Utf8(b"1234", Faults::Rejected);
     let fault = LayoutFault::Break(BreakFault::OutOfRange(0));
     is_rejected(rt, room, tables, other, &[4], fault);
     sets_lines_once(rt, room);
@@ -226,7 +226,7 @@ fn leaves_short_lists_of_lines(rt: &impl Abort, room: &Room) {
 fn leaves_lists_that_are_too_short(rt: HostRuntime) -> Result<(), Fail> {
     let tables = tables(rt.alloc())?;
     let mut room = Room::with_room(rt.alloc(), 4, true)?;
-    let text = Source::Utf8(HELD, Faults::Refused);
+    let text = Source::Utf8(LAID_OUT_TEXT, Faults::Rejected);
     lay_out(&mut room, &tables, text, Direction::Ltr, &[2])?;
     leaves_short_lists(&rt, &room);
     leaves_short_lists_of_lines(&rt, &room);

@@ -49,9 +49,9 @@ fn level_of_the_first_paragraph(rt: HostRuntime) -> Result<(), Fail> {
 
 /// The names of a text's classes, with brackets as themselves, the text, and whether it has only classes that stay at
 /// level 0. The classes of all paragraphs and inside isolates count.
-type LeftRow = (&'static str, Source<'static>, bool);
+type LevelZeroRow = (&'static str, Source<'static>, bool);
 
-const LEFT_TO_RIGHT: [LeftRow; 8] = [
+const LEFT_TO_RIGHT: [LevelZeroRow; 8] = [
     (
         "L EN ES ET CS NSM BN B S WS ON PDF PDI",
         Source::Classes(&[0, 3, 4, 5, 7, 8, 9, 10, 11, 12, 13, 18, 22]),
@@ -71,7 +71,7 @@ const LEFT_TO_RIGHT: [LeftRow; 8] = [
 ];
 
 /// Compares whether a row's text has only such classes.
-fn stays_left(rt: &impl Abort, tables: &Tables, row: LeftRow) {
+fn stays_at_zero(rt: &impl Abort, tables: &Tables, row: LevelZeroRow) {
     let (names, text, stays) = row;
     let found = is_left_to_right(tables, text);
     assert_eq!(rt; found, Ok(stays), "{names}");
@@ -82,6 +82,6 @@ fn stays_left(rt: &impl Abort, tables: &Tables, row: LeftRow) {
 fn texts_that_stay_at_level_zero(rt: HostRuntime) {
     let tables = standard::tables();
     for row in LEFT_TO_RIGHT {
-        stays_left(&rt, &tables, row);
+        stays_at_zero(&rt, &tables, row);
     }
 }

@@ -170,7 +170,7 @@ const ROWS: [Row; 9] = [
         lines: &OF_ONE_UNIT,
     },
     Row {
-        source: Source::Utf8(b"\xD7\x90 ab", Faults::Refused),
+        source: Source::Utf8(b"\xD7\x90 ab", Faults::Rejected),
         direction: Direction::Rtl,
         breaks: &[2],
         starts: &[0, 2, 3, 4, 5],
@@ -178,7 +178,7 @@ const ROWS: [Row; 9] = [
         lines: &OF_BYTES,
     },
     Row {
-        source: Source::Utf16(&[0x5D0, 0x20, 0x61, 0xD83D, 0xDE00], Faults::Refused),
+        source: Source::Utf16(&[0x5D0, 0x20, 0x61, 0xD83D, 0xDE00], Faults::Rejected),
         direction: Direction::Rtl,
         breaks: &[1],
         starts: &[0, 1, 2, 3, 5],
@@ -186,7 +186,7 @@ const ROWS: [Row; 9] = [
         lines: &OF_PAIRS,
     },
     Row {
-        source: Source::Utf8(b"\xE2\x80\xAAa\xE2\x80\xAC", Faults::Refused),
+        source: Source::Utf8(b"\xE2\x80\xAAa\xE2\x80\xAC", Faults::Rejected),
         direction: Direction::Ltr,
         breaks: &[],
         starts: &[0, 3, 4, 7],
@@ -194,7 +194,7 @@ const ROWS: [Row; 9] = [
         lines: &EMBEDDED,
     },
     Row {
-        source: Source::Utf8(b"\xD7\x90\na", Faults::Refused),
+        source: Source::Utf8(b"\xD7\x90\na", Faults::Rejected),
         direction: Direction::Auto,
         breaks: &[],
         starts: &[0, 2, 3, 4],
@@ -218,7 +218,7 @@ const ROWS: [Row; 9] = [
         lines: &HALF,
     },
     Row {
-        source: Source::Utf8(b"", Faults::Refused),
+        source: Source::Utf8(b"", Faults::Rejected),
         direction: Direction::Rtl,
         breaks: &[],
         starts: &[0],

@@ -39,16 +39,16 @@ fn shows_each_line(rt: HostRuntime) -> Result<(), Fail> {
 }
 
 /// Compares the error for a text of two characters with these breaks.
-fn is_refused(rt: &impl Abort, alloc: Global, tables: &Tables, at: &[usize], fault: BreakFault) {
-    let answer = Text::lay_out(alloc, tables, "ab", Direction::Auto, at);
-    assert_eq!(rt; answer.err(), Some(TextFault::Break(fault)));
+fn is_rejected(rt: &impl Abort, alloc: Global, tables: &Tables, at: &[usize], fault: BreakFault) {
+    let outcome = Text::lay_out(alloc, tables, "ab", Direction::Auto, at);
+    assert_eq!(rt; outcome.err(), Some(TextFault::Break(fault)));
 }
 
 #[test]
 fn names_the_first_faulty_break(rt: HostRuntime) -> Result<(), Fail> {
     let tables = tables(rt.alloc())?;
-    is_refused(&rt, rt.alloc(), &tables, &[1, 2], BreakFault::OutOfRange(1));
-    is_refused(&rt, rt.alloc(), &tables, &[1, 1], BreakFault::NotRising(1));
+    is_rejected(&rt, rt.alloc(), &tables, &[1, 2], BreakFault::OutOfRange(1));
+    is_rejected(&rt, rt.alloc(), &tables, &[1, 1], BreakFault::NotRising(1));
     Ok(())
 }
 
@@ -118,10 +118,10 @@ fn lays_out_a_text_of_any_length(rt: HostRuntime) -> Result<(), Fail> {
 
 /// A text of one more character is too long. This error comes first, also if the break is faulty.
 #[test]
-fn refuses_a_text_that_is_too_long(rt: HostRuntime) -> Result<(), Fail> {
+fn rejects_a_text_that_is_too_long(rt: HostRuntime) -> Result<(), Fail> {
     let tables = tables(rt.alloc())?;
     let words = letters(rt.alloc(), 16_777_217)?;
-    let answer = Text::lay_out(rt.alloc(), &tables, &words, Direction::Auto, &[0]);
-    assert_eq!(rt; answer.err(), Some(TextFault::TooLong));
+    let outcome = Text::lay_out(rt.alloc(), &tables, &words, Direction::Auto, &[0]);
+    assert_eq!(rt; outcome.err(), Some(TextFault::TooLong));
     Ok(())
 }

@@ -4,10 +4,10 @@ use Rattle.std.specs.List.{All}
 use Rattle.std.proofs.lemmas.List.{length-append}
 use Rattle.std.proofs.lemmas.List.Elements.{All-nil, All-head, All-tail, All-append, All-weaker}
 use Rattle.units.specs.Text.{items_of, trimmed}
-use Rattle.rows.specs.RowTexts.{behind_blanks, between_blanks}
+use Rattle.rows.specs.RowTexts.{after_blanks, between_blanks}
 use Rattle.rows.proofs.Contents.{trimmed-whole}
 use Rattle.rows.proofs.Items.{IsItem, IsItemByte, items-first, no-blank}
-use Rattle.rows.proofs.LineTexts.{EndsPlain, IsFieldByte, behind-fields, ends-behind, ends-item, field-item, length-behind}
+use Rattle.rows.proofs.LineTexts.{EndsPlain, IsFieldByte, following-fields, ends-following, ends-item, field-item, length-following}
 
 -- the first byte of bytes that begin with an item
 pub first-byte : (w rest : List ℕ) → IsItem w → IsItemByte (get_or (w ++ rest) 0 0)
@@ -33,17 +33,17 @@ module _ {A : Type 0} (text : A → List ℕ) where
 
   pub between-ends : (x : A) (xs : List A) → AreItems (x ∷ xs) → EndsPlain (between_blanks text (x ∷ xs))
   between-ends x xs items =
-      ends-behind text (text x) xs (ends-item (text x) (All-head (λ y. IsItem (text y)) x xs items)) (All-tail (λ y. IsItem (text y)) x xs items)
+      ends-following text (text x) xs (ends-item (text x) (All-head (λ y. IsItem (text y)) x xs items)) (All-tail (λ y. IsItem (text y)) x xs items)
 
   pub between-first : (x : A) (xs : List A) → AreItems (x ∷ xs) → IsItemByte (get_or (between_blanks text (x ∷ xs)) 0 0)
-  between-first x xs items = first-byte (text x) (behind_blanks text xs) (All-head (λ y. IsItem (text y)) x xs items)
+  between-first x xs items = first-byte (text x) (after_blanks text xs) (All-head (λ y. IsItem (text y)) x xs items)
 
   pub between-bytes : (xs : List A) → AreItems xs → All IsFieldByte (between_blanks text xs)
   between-bytes [] items = All-nil IsFieldByte
   between-bytes (x ∷ xs) items =
       let here : IsItem (text x) = All-head (λ y. IsItem (text y)) x xs items in
-      All-append IsFieldByte (text x) (behind_blanks text xs) (All-weaker IsItemByte IsFieldByte field-item (text x) here.bytes)
-      (behind-fields text xs (All-tail (λ y. IsItem (text y)) x xs items))
+      All-append IsFieldByte (text x) (after_blanks text xs) (All-weaker IsItemByte IsFieldByte field-item (text x) here.bytes)
+      (following-fields text xs (All-tail (λ y. IsItem (text y)) x xs items))
 
   between-trimmed : (xs : List A) → AreItems xs → trimmed (between_blanks text xs) ≡ between_blanks text xs
   between-trimmed [] items = refl
@@ -64,5 +64,5 @@ module _ {A : Type 0} (text : A → List ℕ) where
   length-between most [] few = omega arith
   length-between most (x ∷ xs) few =
       let here : length (text x) ≤ most = All-head (λ y. length (text y) ≤ most) x xs few in
-      let rest = length-behind text most xs (All-tail (λ y. length (text y) ≤ most) x xs few) in
-      omega (arith, length-append (text x) (behind_blanks text xs))
+      let rest = length-following text most xs (All-tail (λ y. length (text y) ≤ most) x xs few) in
+      omega (arith, length-append (text x) (after_blanks text xs))

@@ -25,7 +25,7 @@ use Rattle.lines.proofs.RemovedLevels.{para_level-low}
 use Rattle.printing.specs.LevelsText.{level_text}
 use Rattle.bidtests.specs.CharactersFile.{character_item, characters_content, characters_line, characters_row_by, characters_row_of_items, direction_field, para_field}
 use Rattle.bidtests.specs.ClassesFile.{level_item, order_item}
-use Rattle.bidtests.specs.Verdicts.{Claim, Row}
+use Rattle.bidtests.specs.Verdicts.{Expected, Row}
 use Rattle.bidtests.specs.declared.kind.Kind.TheVariants.{Characters}
 use Rattle.rows.specs.Letters.{IsLetterOf, letter_name, unit_of, units_of}
 use Rattle.rows.specs.RowTexts.{Case, IsRowText, between_blanks, direction_text, fields_with_layout, in_fields, layout_of_case, para_text}
@@ -36,7 +36,7 @@ use Rattle.rows.proofs.FieldTexts.{fields-bytes, fields-read}
 use Rattle.rows.proofs.Items.{IsItem, IsItemByte, each-read, each-read-as, no-blank}
 use Rattle.rows.proofs.ItemTexts.{character-read, level-few, level-item, level-read, name-few, name-item, position-few, position-item, position-read}
 use Rattle.rows.proofs.LevelBounds.{IsLevel, levels-low}
-use Rattle.rows.proofs.LineTexts.{EndsPlain, IsLineByte, IsSaidBy, ends-append}
+use Rattle.rows.proofs.LineTexts.{EndsPlain, IsLineByte, IsReadableLine, ends-append}
 use Rattle.rows.proofs.OrderBounds.{order-few}
 use Rattle.rows.proofs.ReadNumbers.{decimal-item}
 
@@ -101,23 +101,23 @@ paras-first limits (unit ∷ units) direction some =
     some-paragraph (λ us. para_level_of (classes_of us) direction) (λ us. para_level-low (classes_of us) direction) unit (paragraphs_of units)
 
 -- a line that is read as exactly this row
-pub record SaysRow (tables : Bor TablesOf) (line : List ℕ) (claim : Claim) : Type 0 where
-  pub by : IsSaidBy line
-  pub read : characters_line (unit_by tables.now) line ≡ Row claim
+pub record SaysRow (tables : Bor TablesOf) (line : List ℕ) (expected : Expected) : Type 0 where
+  pub by : IsReadableLine line
+  pub read : characters_line (unit_by tables.now) line ≡ Row expected
 
-whole-row : (unit_by : ℕ → BidiUnit) (line : List ℕ) → IsSaidBy line → characters_line unit_by line ≡ characters_content direction_field unit_by line
+whole-row : (unit_by : ℕ → BidiUnit) (line : List ℕ) → IsReadableLine line → characters_line unit_by line ≡ characters_content direction_field unit_by line
 unfolding characters_line
-whole-row unit_by line said =
-    let short : nat_lt longest_line (length line) ≡ false = let s = said.short in grind (arith, nat_tests) in
-    rw short (ap (characters_content direction_field unit_by) (content-whole line (All-weaker IsLineByte (λ b. b ≢ 35) (λ b h. h.comment) line said.bytes) said.ends))
+whole-row unit_by line noted =
+    let short : nat_lt longest_line (length line) ≡ false = let s = noted.short in grind (arith, nat_tests) in
+    rw short (ap (characters_content direction_field unit_by) (content-whole line (All-weaker IsLineByte (λ b. b ≢ 35) (λ b h. h.comment) line noted.bytes) noted.ends))
 
 no-silence : (unit_by : ℕ → BidiUnit) (bs : List ℕ) → 0 < length bs → characters_content direction_field unit_by bs ≡ characters_row_by direction_field unit_by (fields_of bs)
 no-silence unit_by [] some = absurd (omega arith)
 no-silence unit_by (b ∷ bs) some = refl
 
 -- the expected levels and order of a case in a file of characters
-abbrev pub claim_of_row : LimitsOf → Case → ℕ → Claim
-claim_of_row limits c para = record {
+abbrev pub expected_of_row : LimitsOf → Case → ℕ → Expected
+expected_of_row limits c para = record {
   text = units_of c.text;
   directions = c.direction ∷ [];
   para_level = Some para;
@@ -240,14 +240,14 @@ module _ (tables : Bor TablesOf) (limits : LimitsOf) (l : Letter) (ls : List Let
           is.fits,
         )
 
-    line-said : IsSaidBy line
-    line-said = record {
+    line-noted : IsReadableLine line
+    line-noted = record {
       bytes = fields-bytes (fields_by (decimal level)) all-fields;
       ends = record { some = line-ends.some; first = no-blank (get_or line 0 0) line-first; last = line-ends.last };
       short = line-short;
     }
 
-    row-of-fields : characters_row_by direction_field (unit_by tables.now) (fields_by (decimal level)) ≡ Row (claim_of_row limits c level)
+    row-of-fields : characters_row_by direction_field (unit_by tables.now) (fields_by (decimal level)) ≡ Row (expected_of_row limits c level)
     row-of-fields =
         let texts : each_read (character_item (unit_by tables.now)) (map letter_name text) ≡ Some (units_of text) =
         each-read-as letter_name (character_item (unit_by tables.now)) unit_of text
@@ -259,12 +259,12 @@ module _ (tables : Bor TablesOf) (limits : LimitsOf) (l : Letter) (ls : List Let
         let way : direction_field (direction_text direction) ≡ Some direction = (direction-read direction).read in
         ap (λ (ws : List (List ℕ)). characters_row_of_items direction_field (unit_by tables.now) ws (direction_text direction) (decimal level) level_texts order_texts) (between-items letter_name text name-items)
         ∙ rw (texts, way, para.read, between-items level_text levels level-items, levels_read, between-items decimal order order-items, order_read)
-        (ap (λ (n : ℕ). Row (claim_of_row limits c n)) para.is)
+        (ap (λ (n : ℕ). Row (expected_of_row limits c n)) para.is)
 
-    row-said : SaysRow tables line (claim_of_row limits c level)
-    row-said = record {
-      by = line-said;
-      read = whole-row (unit_by tables.now) line line-said ∙ no-silence (unit_by tables.now) line line-ends.some
+    row-noted : SaysRow tables line (expected_of_row limits c level)
+    row-noted = record {
+      by = line-noted;
+      read = whole-row (unit_by tables.now) line line-noted ∙ no-silence (unit_by tables.now) line line-ends.some
           ∙ ap (characters_row_by direction_field (unit_by tables.now)) (fields-read names (direction_text direction ∷ decimal level ∷ level_texts ∷ order_texts ∷ []) all-fields)
           ∙ row-of-fields;
     }
@@ -273,7 +273,7 @@ module _ (tables : Bor TablesOf) (limits : LimitsOf) (l : Letter) (ls : List Let
 pub record SaysCase (tables : Bor TablesOf) (limits : LimitsOf) (c : Case) : Type 0 where
   pub para : ℕ
   pub first : (others : List ℕ) × ((layout_of_case limits c).paras ≡ para ∷ others)
-  pub row : SaysRow tables (in_fields (fields_with_layout (layout_of_case limits c) c)) (claim_of_row limits c para)
+  pub row : SaysRow tables (in_fields (fields_with_layout (layout_of_case limits c) c)) (expected_of_row limits c para)
 
 says-some : (tables : Bor TablesOf) (limits : LimitsOf) (l : Letter) (ls : List Letter) (direction : Direction) → limits.depth ≤ 125 → IsRowText (Characters tables) (l ∷ ls)
     → SaysCase tables limits (record { text = l ∷ ls; direction = direction })
@@ -285,8 +285,8 @@ says-some tables limits l ls direction deep is =
     record {
       para = first;
       first = (paras.others, paras.is);
-      row = subst (λ (para : List ℕ). SaysRow tables (in_fields (fields_by tables limits l ls direction is deep para)) (claim_of_row limits c first)) text
-          (row-said tables limits l ls direction is deep first (para-read first paras.low));
+      row = subst (λ (para : List ℕ). SaysRow tables (in_fields (fields_by tables limits l ls direction is deep para)) (expected_of_row limits c first)) text
+          (row-noted tables limits l ls direction is deep first (para-read first paras.low));
     }
 
 says-any : (tables : Bor TablesOf) (limits : LimitsOf) (text : List Letter) (direction : Direction) → limits.depth ≤ 125 → IsRowText (Characters tables) text

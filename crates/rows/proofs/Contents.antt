@@ -5,7 +5,7 @@ use Rattle.std.proofs.lemmas.List.{take_all}
 use Rattle.std.proofs.lemmas.List.Elements.{All-weaker}
 use Rattle.std.proofs.lemmas.List.Sums.{position_or_len_is, suffix_len_is}
 use Rattle.std.proofs.lemmas.List.Splits.{slice_split_at, slice_split_none}
-use Rattle.units.specs.Text.{is_blank, trimmed, without_blanks_before, without_blanks_behind, content_of, cut_at}
+use Rattle.units.specs.Text.{is_blank, trimmed, without_blanks_before, without_trailing_blanks, content_of, cut_at}
 
 -- neither end is a blank
 pub record HasNoBlankEnds (bs : List ℕ) : Type 0 where
@@ -17,14 +17,14 @@ before-whole : (bs : List ℕ) → is_blank (get_or bs 0 0) ≡ false → withou
 before-whole [] first = refl
 before-whole (b ∷ bs) first = rw first refl
 
-behind-whole : (bs : List ℕ) → HasNoBlankEnds bs → without_blanks_behind bs ≡ bs
-behind-whole bs ends =
+following-whole : (bs : List ℕ) → HasNoBlankEnds bs → without_trailing_blanks bs ≡ bs
+following-whole bs ends =
     let none : suffix_len is_blank bs ≡ length bs - length bs =
     suffix_len_is is_blank bs (length bs) 0 (omega arith) (λ k le lt. absurd (omega arith)) (λ some. ends.last) in
     take_all (length bs - suffix_len is_blank bs) bs (omega (arith, none))
 
 pub trimmed-whole : (bs : List ℕ) → HasNoBlankEnds bs → trimmed bs ≡ bs
-trimmed-whole bs ends = ap without_blanks_behind (before-whole bs ends.first) ∙ behind-whole bs ends
+trimmed-whole bs ends = ap without_trailing_blanks (before-whole bs ends.first) ∙ following-whole bs ends
 
 -- the content of a line without a comment is the line
 pub content-whole : (line : List ℕ) → All (λ b. b ≢ 35) line → HasNoBlankEnds line → content_of line ≡ line

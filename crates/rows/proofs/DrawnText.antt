@@ -8,14 +8,14 @@ use Rattle.rand_pcg.specs.Pcg.{multiplier_64, pcg32}
 use Rattle.units.specs.Positions.{positions_from}
 use Rattle.units.proofs.Positions.{length-positions_from, get_or-positions_from}
 use Rattle.rows.specs.Letters.{no_letter}
-use Rattle.rows.specs.Random.{letter_drawn, text_drawn, word_behind}
+use Rattle.rows.specs.Random.{letter_drawn, text_drawn, word_after}
 use Rattle.rows.specs.declared.letter.Letter.{Letter}
 
 -- the first `done` places have drawn letters, and the generator is after their words
 pub record IsDrawnBy (alphabet : List Letter) (from now : Lcg) (text : List Letter) (len done : ℕ) : Type 0 where
   pub size : length text ≡ len
-  pub behind : now ≡ advance 64 multiplier_64 done from
-  pub places : (p : ℕ) → p < done → get_or text p no_letter ≡ letter_drawn alphabet (word_behind from p)
+  pub following : now ≡ advance 64 multiplier_64 done from
+  pub places : (p : ℕ) → p < done → get_or text p no_letter ≡ letter_drawn alphabet (word_after from p)
 
 state_after-one_more : (w m i n s : ℕ) → next_state w m i (state_after w m i n s) ≡ state_after w m i (suc n) s
 unfolding state_after
@@ -28,7 +28,7 @@ advance-one_more g n =
 
 pub drawn-none : (alphabet : List Letter) (from : Lcg) (text : List Letter) (len : ℕ) → length text ≡ len → IsDrawnBy alphabet from from text len 0
 unfolding state_after
-drawn-none alphabet from text len n = record { size = n; behind = refl; places = λ p lt. absurd (omega arith) }
+drawn-none alphabet from text len n = record { size = n; following = refl; places = λ p lt. absurd (omega arith) }
 
 pub drawn-more : (alphabet : List Letter) (from now next : Lcg) (text : List Letter) (len done : ℕ) (letter : Letter) → done < len → IsDrawnBy alphabet from now text len done
     → next ≡ (pcg32 now).1
@@ -36,22 +36,22 @@ pub drawn-more : (alphabet : List Letter) (from now next : Lcg) (text : List Let
     → IsDrawnBy alphabet from next (set text done letter) len (done + 1)
 drawn-more alphabet from now next text len done letter lt h step is = record {
   size = length-set text done letter ∙ h.size;
-  behind = step ∙ ap (λ g. (pcg32 g).1) h.behind ∙ advance-one_more from done;
+  following = step ∙ ap (λ g. (pcg32 g).1) h.following ∙ advance-one_more from done;
   places = λ p within.
       elim (cases_lt p done) [
         | inl before ↦ get_or-set_other text done p letter no_letter (λ e. absurd (omega arith)) ∙ h.places p before
         | inr here ↦ (
             let at : p ≡ done = omega arith in
             get_or-set_at text done p letter no_letter at (omega (arith, h.size)) ∙ is
-            ∙ ap (λ g. letter_drawn alphabet (pcg32 g).0) h.behind
-            ∙ ap (λ n. letter_drawn alphabet (word_behind from n)) (sym at))
+            ∙ ap (λ g. letter_drawn alphabet (pcg32 g).0) h.following
+            ∙ ap (λ n. letter_drawn alphabet (word_after from n)) (sym at))
       ];
 }
 
 pub drawn-all : (alphabet : List Letter) (from now : Lcg) (text : List Letter) (len done : ℕ) → len ≤ done → IsDrawnBy alphabet from now text len done → text ≡ text_drawn alphabet from len
 drawn-all alphabet from now text len done all h =
     let count : length (positions_from 0 len) ≡ len = length-positions_from 0 len in
-    let letter : ℕ → Letter = λ p. letter_drawn alphabet (word_behind from p) in
+    let letter : ℕ → Letter = λ p. letter_drawn alphabet (word_after from p) in
     ext_get_or no_letter text (text_drawn alphabet from len) (h.size ∙ sym (length-map (positions_from 0 len) letter ∙ count))
     (λ p lt.
     let inside : p < len = omega (arith, h.size) in

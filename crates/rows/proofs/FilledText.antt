@@ -14,27 +14,27 @@ use Rattle.rows.proofs.RowTextsOf.{length-text_of_number}
 -- the last `done` places have the letters of the number, and `rest` remains of the number
 pub record IsFilledBy (alphabet : List Letter) (text : List Letter) (len number done rest : ℕ) : Type 0 where
   pub size : length text ≡ len
-  pub left : rest ≡ number / block alphabet done
+  pub remaining : rest ≡ number / block alphabet done
   pub places : (p : ℕ) → p < len → len ≤ p + done → get_or text p no_letter ≡ letter_in_text alphabet len number p
 
 pub filled-none : (alphabet : List Letter) (text : List Letter) (len number : ℕ) → length text ≡ len → IsFilledBy alphabet text len number 0 number
 filled-none alphabet text len number n =
     let one : block alphabet 0 ≡ 1 = pow-zero (length alphabet) in
-    record { size = n; left = rw one (omega arith); places = λ p lt ge. absurd (omega arith) }
+    record { size = n; remaining = rw one (omega arith); places = λ p lt ge. absurd (omega arith) }
 
 pub filled-more : (alphabet : List Letter) (text : List Letter) (len number done rest : ℕ) (letter : Letter) → done < len → IsFilledBy alphabet text len number done rest
     → letter ≡ slice_index_or alphabet (rest % length alphabet) no_letter
     → IsFilledBy alphabet (set text (len - 1 - done) letter) len number (done + 1) (rest / length alphabet)
 filled-more alphabet text len number done rest letter lt h is = record {
   size = length-set text (len - 1 - done) letter ∙ h.size;
-  left = ap (λ n. n / length alphabet) h.left ∙ div-div-eq-div-mul number (block alphabet done) (length alphabet) ∙ ap (λ n. number / n) (sym (ap (λ n. length alphabet ^ n) (add-one done) ∙ pow-suc (length alphabet) done));
+  remaining = ap (λ n. n / length alphabet) h.remaining ∙ div-div-eq-div-mul number (block alphabet done) (length alphabet) ∙ ap (λ n. number / n) (sym (ap (λ n. length alphabet ^ n) (add-one done) ∙ pow-suc (length alphabet) done));
   places = λ p within ge.
       elim (cases_lt (len - 1 - done) p) [
         | inl later ↦ get_or-set_other text (len - 1 - done) p letter no_letter (λ e. absurd (omega arith)) ∙ h.places p within (omega arith)
         | inr here ↦ (
             let at : p ≡ len - 1 - done = omega arith in
             let digit : len - 1 - p ≡ done = omega arith in
-            let same : rest ≡ number / block alphabet (len - 1 - p) = h.left ∙ ap (λ n. number / block alphabet n) (sym digit) in
+            let same : rest ≡ number / block alphabet (len - 1 - p) = h.remaining ∙ ap (λ n. number / block alphabet n) (sym digit) in
             get_or-set_at text (len - 1 - done) p letter no_letter at (omega (arith, h.size)) ∙ is ∙ ap (λ n. slice_index_or alphabet (n % length alphabet) no_letter) same)
       ];
 }

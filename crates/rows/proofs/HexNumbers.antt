@@ -24,17 +24,17 @@ record IsHexOf (n : ℕ) (ds : List ℕ) : Type 0 where
   pub value : hex_value ds ≡ n
 
 -- a byte that is a hex digit
-record IsGlyph (d b : ℕ) : Type 0 where
+record IsHexDigit (d b : ℕ) : Type 0 where
   pub hex : IsHexByte b
   pub value : hex_digit_value b ≡ d
 
-low-glyph : (d : ℕ) → d < 10 → IsGlyph d (48 + d)
+low-glyph : (d : ℕ) → d < 10 → IsHexDigit d (48 + d)
 low-glyph d low =
     let from : nat_le 48 (48 + d) ≡ true = grind (arith, nat_tests) in
     let to : nat_le (48 + d) 57 ≡ true = grind (arith, nat_tests) in
     record { hex = rw (from, to) refl; value = rw to (omega arith) }
 
-high-glyph : (d : ℕ) → 10 ≤ d → d < 16 → IsGlyph d (55 + d)
+high-glyph : (d : ℕ) → 10 ≤ d → d < 16 → IsHexDigit d (55 + d)
 high-glyph d high within =
     let past : nat_le (55 + d) 57 ≡ false = grind (arith, nat_tests) in
     let low : nat_le 48 (55 + d) ≡ true = grind (arith, nat_tests) in
@@ -42,17 +42,17 @@ high-glyph d high within =
     let to : nat_le (55 + d) 70 ≡ true = grind (arith, nat_tests) in
     record { hex = rw (low, past, from, to) refl; value = rw past (omega arith) }
 
-glyph : (d : ℕ) → d < 16 → IsGlyph d (digit_glyph true d)
+glyph : (d : ℕ) → d < 16 → IsHexDigit d (digit_glyph true d)
 glyph d within =
     elim (cases_lt d 10) [
       | inl low ↦ (
           let test : nat_lt d 10 ≡ true = grind (arith, nat_tests) in
           let is : 48 + d ≡ digit_glyph true d = rw test refl in
-          subst (IsGlyph d) is (low-glyph d low))
+          subst (IsHexDigit d) is (low-glyph d low))
       | inr high ↦ (
           let test : nat_lt d 10 ≡ false = grind (arith, nat_tests) in
           let is : 55 + d ≡ digit_glyph true d = rw test refl in
-          subst (IsGlyph d) is (high-glyph d high within))
+          subst (IsHexDigit d) is (high-glyph d high within))
     ]
 
 -- numbers with one digit more than the argument are below this
@@ -84,14 +84,14 @@ one-digit most i n rest some within =
     }
 
 -- the last hex digit of a number
-abbrev last_glyph : ℕ → ℕ
-last_glyph n = digit_glyph true (n % 16)
+abbrev last_digit : ℕ → ℕ
+last_digit n = digit_glyph true (n % 16)
 
-more-digits : (k i n : ℕ) (rest : List ℕ) → 16 ≤ n → BeginsWith (suc k) (n / 16) (last_glyph n ∷ rest) (digits_onto (suc i) 16 true (n / 16) (last_glyph n ∷ rest))
+more-digits : (k i n : ℕ) (rest : List ℕ) → 16 ≤ n → BeginsWith (suc k) (n / 16) (last_digit n ∷ rest) (digits_onto (suc i) 16 true (n / 16) (last_digit n ∷ rest))
     → BeginsWith (suc (suc k)) n rest (digits_onto (suc (suc i)) 16 true n rest)
 more-digits k i n rest large before =
     let more : (n / 16 == 0) ≡ false = ne_eqb (n / 16) 0 (λ e. omega (arith, large, e)) in
-    let digit = last_glyph n in
+    let digit = last_digit n in
     let is = glyph (n % 16) (omega arith) in
     let front : List ℕ = before.front in
     let value : hex_value (front ++ digit ∷ []) ≡ hex_value front * 16 + hex_digit_value digit = fold_push (λ m b. m * 16 + hex_digit_value b) 0 front digit in
@@ -112,7 +112,7 @@ digits-begin (suc k) zero n rest le within = absurd (omega arith)
 digits-begin (suc k) (suc i) n rest le within =
     elim (cases_lt n 16) [
       | inl small ↦ one-digit (suc (suc k)) (suc i) n rest (omega arith) small
-      | inr large ↦ more-digits k i n rest large (digits-begin k i (n / 16) (last_glyph n ∷ rest) (omega arith) (omega (arith, within)))
+      | inr large ↦ more-digits k i n rest large (digits-begin k i (n / 16) (last_digit n ∷ rest) (omega arith) (omega (arith, within)))
     ]
 
 -- zeros in front

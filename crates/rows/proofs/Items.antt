@@ -6,7 +6,7 @@ use Rattle.std.proofs.lemmas.List.Elements.{All-nil, All-cons, All-head, All-tai
 use Rattle.std.proofs.lemmas.List.Splits.{slice_split_at, slice_split_none}
 use Rattle.units.specs.Text.{is_blank, has_bytes, items_of, each_read}
 use Rattle.units.proofs.FirstItem.{some_bytes}
-use Rattle.rows.specs.RowTexts.{behind_blanks}
+use Rattle.rows.specs.RowTexts.{after_blanks}
 
 -- what is true of every value is true of all elements of a list
 pub all-of-every : {A : Type 0} (P : A → Type 0) → ((x : A) → P x) → (xs : List A) → All P xs
@@ -38,18 +38,18 @@ no-blanks : (bs : List ℕ) → IsItem bs → All (λ b. is_blank b ≡ false) b
 no-blanks bs item = All-weaker IsItemByte (λ b. is_blank b ≡ false) no-blank bs item.bytes
 
 module _ {A : Type 0} (text : A → List ℕ) where
-  pub items-first : (w : List ℕ) (xs : List A) → IsItem w → All (λ x. IsItem (text x)) xs → items_of (w ++ behind_blanks text xs) ≡ w ∷ map text xs
+  pub items-first : (w : List ℕ) (xs : List A) → IsItem w → All (λ x. IsItem (text x)) xs → items_of (w ++ after_blanks text xs) ≡ w ∷ map text xs
   items-first w [] item items =
       let bytes : has_bytes w ≡ true = some_bytes w item.some in
       ap items_of (append-nil w) ∙ ap (filter has_bytes) (slice_split_none is_blank w (no-blanks w item)) ∙ rw bytes refl
   items-first w (x ∷ xs) item items =
       let bytes : has_bytes w ≡ true = some_bytes w item.some in
       let rest = items-first (text x) xs (All-head (λ y. IsItem (text y)) x xs items) (All-tail (λ y. IsItem (text y)) x xs items) in
-      ap (filter has_bytes) (slice_split_at is_blank w 32 (text x ++ behind_blanks text xs) (no-blanks w item) refl) ∙ rw bytes (ap (λ ws. w ∷ ws) rest)
+      ap (filter has_bytes) (slice_split_at is_blank w 32 (text x ++ after_blanks text xs) (no-blanks w item) refl) ∙ rw bytes (ap (λ ws. w ∷ ws) rest)
 
-  pub items-behind : (xs : List A) → All (λ x. IsItem (text x)) xs → items_of (behind_blanks text xs) ≡ map text xs
-  items-behind [] items = refl
-  items-behind (x ∷ xs) items =
+  pub items-following : (xs : List A) → All (λ x. IsItem (text x)) xs → items_of (after_blanks text xs) ≡ map text xs
+  items-following [] items = refl
+  items-following (x ∷ xs) items =
       items-first (text x) xs (All-head (λ y. IsItem (text y)) x xs items) (All-tail (λ y. IsItem (text y)) x xs items)
 
   -- the texts of values are read as these values

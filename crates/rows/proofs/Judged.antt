@@ -16,18 +16,18 @@ use Rattle.units.specs.declared.bracket.Unit.{Unit as BidiUnit}
 use Rattle.ucdfiles.specs.Tables.{TablesOf, unit_by}
 use Rattle.lines.proofs.Lengths.{length-levels}
 use Rattle.bidtests.specs.declared.verdict.Verdict.TheVariants.{Yes}
-use Rattle.bidtests.specs.Verdicts.{Claim, Finding, Silent, Row, agrees, cases_of, first_difference, first_no, first_of, is_row, verdict_on, wrong_case, wrong_place}
-use Rattle.bidtests.specs.ClassesFile.{ClassesLine, LevelsAre, OrderIs, RowOf, claim_under, classes_findings, classes_line, classes_verdict, findings_behind}
+use Rattle.bidtests.specs.Verdicts.{Expected, Finding, Silent, Row, agrees, cases_of, first_difference, first_no, first_of, is_row, verdict_on, wrong_case, wrong_place}
+use Rattle.bidtests.specs.ClassesFile.{ClassesLine, LevelsAre, OrderIs, RowOf, expected_under, classes_findings, classes_line, classes_verdict, findings_after}
 use Rattle.bidtests.specs.CharactersFile.{characters_findings, characters_line, characters_verdict}
 use Rattle.bidtests.specs.declared.kind.Kind.{Kind}
 use Rattle.bidtests.specs.declared.kind.Kind.TheVariants.{Classes, Characters}
 use Rattle.rows.specs.Judged.{JudgeSaysYes}
 use Rattle.rows.specs.Letters.{unit_of, units_of}
 use Rattle.rows.specs.RowTexts.{Case, IsRowText, case_lines, cases_text, fields_with_layout, in_fields, layout_of_case, levels_line, lines_of_cases, order_line, row_line}
-use Rattle.rows.proofs.CharacterRows.{SaysCase, case-row, claim_of_row}
+use Rattle.rows.proofs.CharacterRows.{SaysCase, case-row, expected_of_row}
 use Rattle.rows.proofs.FileOfLines.{lines-written}
 use Rattle.rows.proofs.LevelBounds.{levels-low, All-flat_map}
-use Rattle.rows.proofs.LineTexts.{Says, levels-read, order-read, no_feed-said}
+use Rattle.rows.proofs.LineTexts.{Says, levels-read, order-read, no_feed-noted}
 use Rattle.rows.proofs.OrderBounds.{order-few}
 use Rattle.rows.proofs.RowLines.{row-read}
 
@@ -51,21 +51,21 @@ case-says limits c deep is =
     }
 
 -- the expected levels and order of a case
-abbrev claim_of_case : LimitsOf → Case → Claim
-claim_of_case limits c =
-    claim_under (units_of c.text) (c.direction ∷ []) (layout_of_case limits c).levels (all_orders (layout_of_case limits c))
+abbrev expected_of_case : LimitsOf → Case → Expected
+expected_of_case limits c =
+    expected_under (units_of c.text) (c.direction ∷ []) (layout_of_case limits c).levels (all_orders (layout_of_case limits c))
 
 -- the findings of the lines of a case
 abbrev findings_of : LimitsOf → Case → List Finding
-findings_of limits c = Silent ∷ Silent ∷ Row (claim_of_case limits c) ∷ []
+findings_of limits c = Silent ∷ Silent ∷ Row (expected_of_case limits c) ∷ []
 
 found : (limits : LimitsOf) (cases : List Case) (earlier : List ClassesLine) → All (CaseSays limits) cases
-    → findings_behind earlier (map classes_line (lines_of_cases limits Classes cases)) ≡ flat_map (findings_of limits) cases
+    → findings_after earlier (map classes_line (lines_of_cases limits Classes cases)) ≡ flat_map (findings_of limits) cases
 found limits [] earlier says = refl
 found limits (c ∷ cases) earlier says =
     let here : CaseSays limits c = All-head (CaseSays limits) c cases says in
     let rest = found limits cases (RowOf (units_of c.text) (c.direction ∷ []) ∷ OrderIs (all_orders (layout_of_case limits c)) ∷ LevelsAre (layout_of_case limits c).levels ∷ earlier) (All-tail (CaseSays limits) c cases says) in
-    rw (here.levels.read, here.order.read, here.row.read) (ap (λ (fs : List Finding). Silent ∷ Silent ∷ Row (claim_of_case limits c) ∷ fs) rest)
+    rw (here.levels.read, here.order.read, here.row.read) (ap (λ (fs : List Finding). Silent ∷ Silent ∷ Row (expected_of_case limits c) ∷ fs) rest)
 
 no-difference : {A : Type 0} (same : A → A → Bool) → ((x : A) → same x x ≡ true) → (xs : List A) (at : ℕ) → first_difference same xs xs at ≡ None
 no-difference same alike [] at = refl
@@ -75,7 +75,7 @@ no-wrong : (para : Option ℕ) (layout : TextLayout) → agrees para (first_of l
 no-wrong para layout agree =
     rw (agree, no-difference same_position same_position_refl layout.levels 0, no-difference nat_eq (λ n. eq-eqb n n refl) (all_orders layout) 0) refl
 
-no-wrong-case : (limits : LimitsOf) (c : Case) → wrong_case limits (claim_of_case limits c) (c.direction ∷ []) ≡ None
+no-wrong-case : (limits : LimitsOf) (c : Case) → wrong_case limits (expected_of_case limits c) (c.direction ∷ []) ≡ None
 no-wrong-case limits c = rw (no-wrong None (layout_of_case limits c) refl) refl
 
 no-no : (limits : LimitsOf) (cases : List Case) (k : ℕ) → first_no limits k (flat_map (findings_of limits) cases) ≡ None
@@ -87,22 +87,22 @@ count-rows limits [] = refl
 count-rows limits (c ∷ cases) =
     let more = flat_map (findings_of limits) cases in
     let row : Finding → ℕ = λ f. cond (is_row f) 1 0 in
-    omega (arith, sum_by-cons row Silent (Silent ∷ Row (claim_of_case limits c) ∷ more), sum_by-cons row Silent (Row (claim_of_case limits c) ∷ more), sum_by-cons row (Row (claim_of_case limits c)) more, count-rows limits cases)
+    omega (arith, sum_by-cons row Silent (Silent ∷ Row (expected_of_case limits c) ∷ more), sum_by-cons row Silent (Row (expected_of_case limits c) ∷ more), sum_by-cons row (Row (expected_of_case limits c)) more, count-rows limits cases)
 
 count-cases : (limits : LimitsOf) (cases : List Case) → sum_by cases_of (flat_map (findings_of limits) cases) ≡ length cases
 count-cases limits [] = refl
 count-cases limits (c ∷ cases) =
     let more = flat_map (findings_of limits) cases in
-    omega (arith, sum_by-cons cases_of Silent (Silent ∷ Row (claim_of_case limits c) ∷ more), sum_by-cons cases_of Silent (Row (claim_of_case limits c) ∷ more), sum_by-cons cases_of (Row (claim_of_case limits c)) more, count-cases limits cases)
+    omega (arith, sum_by-cons cases_of Silent (Silent ∷ Row (expected_of_case limits c) ∷ more), sum_by-cons cases_of Silent (Row (expected_of_case limits c) ∷ more), sum_by-cons cases_of (Row (expected_of_case limits c)) more, count-cases limits cases)
 
 case-feedless : (limits : LimitsOf) (c : Case) → CaseSays limits c → All HasNoFeed (case_lines limits Classes c)
 case-feedless limits c says =
     let levels : List ℕ = levels_line (layout_of_case limits c).levels in
     let order : List ℕ = order_line (all_orders (layout_of_case limits c)) in
     let row : List ℕ = row_line c.text c.direction in
-    All-cons HasNoFeed levels (order ∷ row ∷ []) (no_feed-said levels says.levels.by)
-    (All-cons HasNoFeed order (row ∷ []) (no_feed-said order says.order.by)
-    (All-cons HasNoFeed row [] (no_feed-said row says.row.by) (All-nil HasNoFeed)))
+    All-cons HasNoFeed levels (order ∷ row ∷ []) (no_feed-noted levels says.levels.by)
+    (All-cons HasNoFeed order (row ∷ []) (no_feed-noted order says.order.by)
+    (All-cons HasNoFeed row [] (no_feed-noted row says.row.by) (All-nil HasNoFeed)))
 
 pub classes-yes : (limits : LimitsOf) (cases : List Case) → limits.depth ≤ 125 → All (λ c. IsRowText Classes c.text) cases
     → classes_verdict limits (cases_text limits Classes cases) ≡ Yes (saturated (length cases)) (saturated (length cases))
@@ -120,16 +120,16 @@ module _ (tables : Bor TablesOf) (limits : LimitsOf) where
   row-findings [] says = []
   row-findings (c ∷ cases) says =
       let here : SaysCase tables limits c = All-head (SaysCase tables limits) c cases says in
-      Row (claim_of_row limits c here.para) ∷ row-findings cases (All-tail (SaysCase tables limits) c cases says)
+      Row (expected_of_row limits c here.para) ∷ row-findings cases (All-tail (SaysCase tables limits) c cases says)
 
   rows-found : (cases : List Case) (says : All (SaysCase tables limits) cases)
       → map (characters_line (unit_by tables.now)) (lines_of_cases limits (Characters tables) cases) ≡ row-findings cases says
   rows-found [] says = refl
   rows-found (c ∷ cases) says =
       let here : SaysCase tables limits c = All-head (SaysCase tables limits) c cases says in
-      rw here.row.read (ap (λ (fs : List Finding). Row (claim_of_row limits c here.para) ∷ fs) (rows-found cases (All-tail (SaysCase tables limits) c cases says)))
+      rw here.row.read (ap (λ (fs : List Finding). Row (expected_of_row limits c here.para) ∷ fs) (rows-found cases (All-tail (SaysCase tables limits) c cases says)))
 
-  right-row : (c : Case) (says : SaysCase tables limits c) → wrong_case limits (claim_of_row limits c says.para) (c.direction ∷ []) ≡ None
+  right-row : (c : Case) (says : SaysCase tables limits c) → wrong_case limits (expected_of_row limits c says.para) (c.direction ∷ []) ≡ None
   right-row c says =
       let agree : agrees (Some says.para) (first_of (layout_of_case limits c).paras) ≡ true = rw says.first.1 (eq-eqb says.para says.para refl) in
       rw (no-wrong (Some says.para) (layout_of_case limits c) agree) refl
@@ -145,19 +145,19 @@ module _ (tables : Bor TablesOf) (limits : LimitsOf) where
       let here : SaysCase tables limits c = All-head (SaysCase tables limits) c cases says in
       let rest = All-tail (SaysCase tables limits) c cases says in
       let row : Finding → ℕ = λ f. cond (is_row f) 1 0 in
-      omega (arith, sum_by-cons row (Row (claim_of_row limits c here.para)) (row-findings cases rest), rows-counted cases rest)
+      omega (arith, sum_by-cons row (Row (expected_of_row limits c here.para)) (row-findings cases rest), rows-counted cases rest)
 
   cases-counted : (cases : List Case) (says : All (SaysCase tables limits) cases) → sum_by cases_of (row-findings cases says) ≡ length cases
   cases-counted [] says = refl
   cases-counted (c ∷ cases) says =
       let here : SaysCase tables limits c = All-head (SaysCase tables limits) c cases says in
       let rest = All-tail (SaysCase tables limits) c cases says in
-      omega (arith, sum_by-cons cases_of (Row (claim_of_row limits c here.para)) (row-findings cases rest), cases-counted cases rest)
+      omega (arith, sum_by-cons cases_of (Row (expected_of_row limits c here.para)) (row-findings cases rest), cases-counted cases rest)
 
   row-feedless : (c : Case) → SaysCase tables limits c → All HasNoFeed (case_lines limits (Characters tables) c)
   row-feedless c says =
       let line : List ℕ = in_fields (fields_with_layout (layout_of_case limits c) c) in
-      All-cons HasNoFeed line [] (no_feed-said line says.row.by) (All-nil HasNoFeed)
+      All-cons HasNoFeed line [] (no_feed-noted line says.row.by) (All-nil HasNoFeed)
 
   characters-yes : (cases : List Case) → limits.depth ≤ 125 → All (λ c. IsRowText (Characters tables) c.text) cases
       → characters_verdict limits (unit_by tables.now) (cases_text limits (Characters tables) cases) ≡ Yes (saturated (length cases)) (saturated (length cases))

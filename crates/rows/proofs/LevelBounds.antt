@@ -22,7 +22,7 @@ use Rattle.units.specs.declared.class.Class.{Class}
 use Rattle.units.specs.declared.class.Class.TheVariants.{L, R, EN, AN}
 use Rattle.units.specs.declared.level.Direction.{Direction}
 use Rattle.explicit.specs.Leveled.{IsLeveled}
-use Rattle.explicit.proofs.LevelsFound.Leveled.{leveled}
+use Rattle.explicit.proofs.LevelsComputed.Leveled.{leveled}
 use Rattle.lines.proofs.RemovedLevels.{para_level-low}
 use Rattle.rows.proofs.Items.{all-of-every}
 

@@ -19,6 +19,6 @@ pub mod RowTextsOf
 pub mod DrawnText
 pub mod Looked
 pub mod Placed
-pub mod RoomsKept
+pub mod RoomsUnchanged
 pub mod TextCuts
 pub mod LineLists

@@ -5,7 +5,7 @@ use Rattle.std.specs.Borrow.{Bor}
 use Rattle.std.specs.List.{All, position_from}
 use Rattle.std.proofs.lemmas.Bool.{ltb-false}
 use Rattle.std.proofs.lemmas.List.Elements.{All-nil, All-cons, All-head, All-tail}
-use Rattle.units.specs.Cuts.{pieces_behind}
+use Rattle.units.specs.Cuts.{pieces_after}
 use Rattle.printing.proofs.Passing.{HasPrintedUpTo}
 use Rattle.rows.specs.Placing.{has_some}
 use Rattle.rows.specs.RowTexts.{IsRowText, longest_row}
@@ -13,13 +13,13 @@ use Rattle.rows.specs.TextLines.{is_long, kind_of, letter_named}
 use Rattle.rows.specs.declared.naming.Naming.{Naming}
 
 -- the lines of the rest of a text
-abbrev pub lines_left : Option (Bor (List ℕ)) → List (List ℕ)
-lines_left left = pieces_behind 10 left
+abbrev pub remaining_lines : Option (Bor (List ℕ)) → List (List ℕ)
+remaining_lines remaining = pieces_after 10 remaining
 
 -- the size of the rest: its number of characters plus one, or 0 if no line remains
-abbrev pub size_left : Option (Bor (List ℕ)) → ℕ
-size_left None = 0
-size_left (Some rest) = length rest.now + 1
+abbrev pub remaining_size : Option (Bor (List ℕ)) → ℕ
+remaining_size None = 0
+remaining_size (Some rest) = length rest.now + 1
 
 -- a line's letters are a text of a row
 abbrev pub IsRowLine : Naming → List ℕ → Type 0
@@ -29,14 +29,14 @@ IsRowLine naming line = IsRowText (kind_of naming) (map (letter_named naming) li
 abbrev pub IsShort : List ℕ → Type 0
 IsShort line = length line ≤ longest_row
 
-behind-none : (b : Bool) (number : ℕ) (later : Option ℕ) → cond b (Some number) later ≡ None → (b ≡ false) × (later ≡ None)
-behind-none true number later e = absurd (cc)
-behind-none false number later e = (refl, e)
+following-none : (b : Bool) (number : ℕ) (later : Option ℕ) → cond b (Some number) later ≡ None → (b ≡ false) × (later ≡ None)
+following-none true number later e = absurd (cc)
+following-none false number later e = (refl, e)
 
 pub none-longer : (number : ℕ) (lines : List (List ℕ)) → position_from is_long number lines ≡ None → All IsShort lines
 none-longer number [] e = All-nil IsShort
 none-longer number (line ∷ lines) e =
-    let none = behind-none (is_long line) number (position_from is_long (number + 1) lines) e in
+    let none = following-none (is_long line) number (position_from is_long (number + 1) lines) e in
     All-cons IsShort line lines (ltb-false longest_row (length line) none.0) (none-longer (number + 1) lines none.1)
 
 pub some-line : (line : List ℕ) (lines more : List (List ℕ)) → lines ≡ line ∷ more → 0 < length line → filter has_some lines ≡ line ∷ filter has_some more

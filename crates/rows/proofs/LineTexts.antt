@@ -11,9 +11,9 @@ use Rattle.units.specs.Lines.{HasNoFeed}
 use Rattle.units.specs.Text.{is_blank, each_read, longest_line}
 use Rattle.printing.specs.LevelsText.{level_text}
 use Rattle.bidtests.specs.ClassesFile.{ClassesLine, LevelsAre, OrderIs, bit_set, classes_content, classes_line, level_item, levels_directive, order_directive, order_item}
-use Rattle.rows.specs.RowTexts.{behind_blanks, levels_line, order_line}
+use Rattle.rows.specs.RowTexts.{after_blanks, levels_line, order_line}
 use Rattle.rows.proofs.Contents.{HasNoBlankEnds, content-whole}
-use Rattle.rows.proofs.Items.{IsItem, IsItemByte, no-blank, all-tested, items-behind, each-read}
+use Rattle.rows.proofs.Items.{IsItem, IsItemByte, no-blank, all-tested, items-following, each-read}
 use Rattle.rows.proofs.ItemTexts.{level-item, level-few, level-read, position-item, position-few, position-read}
 use Rattle.rows.proofs.LevelBounds.{IsLevel}
 
@@ -54,57 +54,57 @@ ends-append front bs ends =
     record { some = omega (arith, n, ends.some); last = ap is_blank e ∙ ends.last }
 
 module _ {A : Type 0} (text : A → List ℕ) where
-  pub ends-behind : (w : List ℕ) (xs : List A) → EndsPlain w → All (λ x. IsItem (text x)) xs → EndsPlain (w ++ behind_blanks text xs)
-  ends-behind w [] ends items = subst EndsPlain (sym (append-nil w)) ends
-  ends-behind w (x ∷ xs) ends items =
+  pub ends-following : (w : List ℕ) (xs : List A) → EndsPlain w → All (λ x. IsItem (text x)) xs → EndsPlain (w ++ after_blanks text xs)
+  ends-following w [] ends items = subst EndsPlain (sym (append-nil w)) ends
+  ends-following w (x ∷ xs) ends items =
       let here = ends-append w (32 ∷ text x) (ends-append (32 ∷ []) (text x) (ends-item (text x) (All-head (λ y. IsItem (text y)) x xs items))) in
-      subst EndsPlain (append_assoc w (32 ∷ text x) (behind_blanks text xs))
-      (ends-behind (w ++ 32 ∷ text x) xs here (All-tail (λ y. IsItem (text y)) x xs items))
+      subst EndsPlain (append_assoc w (32 ∷ text x) (after_blanks text xs))
+      (ends-following (w ++ 32 ∷ text x) xs here (All-tail (λ y. IsItem (text y)) x xs items))
 
-  pub behind-fields : (xs : List A) → All (λ x. IsItem (text x)) xs → All IsFieldByte (behind_blanks text xs)
-  behind-fields [] items = All-nil IsFieldByte
-  behind-fields (x ∷ xs) items =
+  pub following-fields : (xs : List A) → All (λ x. IsItem (text x)) xs → All IsFieldByte (after_blanks text xs)
+  following-fields [] items = All-nil IsFieldByte
+  following-fields (x ∷ xs) items =
       let here : IsItem (text x) = All-head (λ y. IsItem (text y)) x xs items in
-      All-append IsFieldByte (32 ∷ text x) (behind_blanks text xs)
+      All-append IsFieldByte (32 ∷ text x) (after_blanks text xs)
       (All-cons IsFieldByte 32 (text x) (record { printed = omega arith; comment = λ e. omega arith; separator = λ e. omega arith }) (All-weaker IsItemByte IsFieldByte field-item (text x) here.bytes))
-      (behind-fields xs (All-tail (λ y. IsItem (text y)) x xs items))
+      (following-fields xs (All-tail (λ y. IsItem (text y)) x xs items))
 
-  pub length-behind : (most : ℕ) (xs : List A) → All (λ x. length (text x) ≤ most) xs → length (behind_blanks text xs) ≤ length xs * (most + 1)
-  length-behind most [] few = omega arith
-  length-behind most (x ∷ xs) few =
+  pub length-following : (most : ℕ) (xs : List A) → All (λ x. length (text x) ≤ most) xs → length (after_blanks text xs) ≤ length xs * (most + 1)
+  length-following most [] few = omega arith
+  length-following most (x ∷ xs) few =
       let here : length (text x) ≤ most = All-head (λ y. length (text y) ≤ most) x xs few in
-      let rest = length-behind most xs (All-tail (λ y. length (text y) ≤ most) x xs few) in
-      omega (arith, length-append (32 ∷ text x) (behind_blanks text xs))
+      let rest = length-following most xs (All-tail (λ y. length (text y) ≤ most) x xs few) in
+      omega (arith, length-append (32 ∷ text x) (after_blanks text xs))
 
 -- a line that is read without a change: it has only bytes of lines, no blank at its ends, and is not too long
-pub record IsSaidBy (line : List ℕ) : Type 0 where
+pub record IsReadableLine (line : List ℕ) : Type 0 where
   pub bytes : All IsLineByte line
   pub ends : HasNoBlankEnds line
   pub short : length line ≤ 65536
 
-pub no_feed-said : (line : List ℕ) → IsSaidBy line → HasNoFeed line
-no_feed-said line said = All-weaker IsLineByte (λ b. b ≢ 10) (λ b h e. omega (arith, h.printed, e)) line said.bytes
+pub no_feed-noted : (line : List ℕ) → IsReadableLine line → HasNoFeed line
+no_feed-noted line noted = All-weaker IsLineByte (λ b. b ≢ 10) (λ b h e. omega (arith, h.printed, e)) line noted.bytes
 
-pub whole-line : (line : List ℕ) → IsSaidBy line → classes_line line ≡ classes_content bit_set line
+pub whole-line : (line : List ℕ) → IsReadableLine line → classes_line line ≡ classes_content bit_set line
 unfolding classes_line
-whole-line line said =
-    let short : nat_lt longest_line (length line) ≡ false = let s = said.short in grind (arith, nat_tests) in
-    rw short (ap (classes_content bit_set) (content-whole line (All-weaker IsLineByte (λ b. b ≢ 35) (λ b h. h.comment) line said.bytes) said.ends))
+whole-line line noted =
+    let short : nat_lt longest_line (length line) ≡ false = let s = noted.short in grind (arith, nat_tests) in
+    rw short (ap (classes_content bit_set) (content-whole line (All-weaker IsLineByte (λ b. b ≢ 35) (λ b h. h.comment) line noted.bytes) noted.ends))
 
 -- after the name of a directive
 module _ {A : Type 0} (text : A → List ℕ) where
-  said-behind : (w : List ℕ) (xs : List A) (most : ℕ) → 0 < length w → is_blank (get_or w 0 0) ≡ false → EndsPlain w → All IsFieldByte w → length w ≤ 10 → most ≤ 4
-      → length xs ≤ 4096 → All (λ x. IsItem (text x)) xs → All (λ x. length (text x) ≤ most) xs → IsSaidBy (w ++ behind_blanks text xs)
-  said-behind [] xs most some first ends fields few low fits items short = absurd (omega arith)
-  said-behind (b ∷ w) xs most some first ends fields few low fits items short =
-      let last = ends-behind text (b ∷ w) xs ends items in
-      let blanks = length-behind text most xs short in
+  noted-following : (w : List ℕ) (xs : List A) (most : ℕ) → 0 < length w → is_blank (get_or w 0 0) ≡ false → EndsPlain w → All IsFieldByte w → length w ≤ 10 → most ≤ 4
+      → length xs ≤ 4096 → All (λ x. IsItem (text x)) xs → All (λ x. length (text x) ≤ most) xs → IsReadableLine (w ++ after_blanks text xs)
+  noted-following [] xs most some first ends fields few low fits items short = absurd (omega arith)
+  noted-following (b ∷ w) xs most some first ends fields few low fits items short =
+      let last = ends-following text (b ∷ w) xs ends items in
+      let blanks = length-following text most xs short in
       let each : most + 1 ≤ 5 = omega arith in
       let product : length xs * (most + 1) ≤ 4096 * 5 = mul-le-mul fits each in
       record {
-        bytes = All-weaker IsFieldByte IsLineByte line-field ((b ∷ w) ++ behind_blanks text xs) (All-append IsFieldByte (b ∷ w) (behind_blanks text xs) fields (behind-fields text xs items));
+        bytes = All-weaker IsFieldByte IsLineByte line-field ((b ∷ w) ++ after_blanks text xs) (All-append IsFieldByte (b ∷ w) (after_blanks text xs) fields (following-fields text xs items));
         ends = record { some = last.some; first = first; last = last.last };
-        short = omega (arith, length-append (b ∷ w) (behind_blanks text xs), blanks, product, few);
+        short = omega (arith, length-append (b ∷ w) (after_blanks text xs), blanks, product, few);
       }
 
 is-printed : (b : ℕ) → (nat_le 32 b && (not (b == 35) && not (b == 59))) ≡ true → IsFieldByte b
@@ -117,43 +117,43 @@ is-printed b test =
 fields-tested : (bs : List ℕ) → list_all (λ b. nat_le 32 b && (not (b == 35) && not (b == 59))) bs ≡ true → All IsFieldByte bs
 fields-tested = all-tested IsFieldByte (λ b. nat_le 32 b && (not (b == 35) && not (b == 59))) is-printed
 
-levels-said : (levels : List (Option ℕ)) → All IsLevel levels → length levels ≤ 4096 → IsSaidBy (levels_line levels)
-levels-said levels within fits =
-    said-behind level_text (codes "@Levels:") levels 3 (omega arith) refl (record { some = omega arith; last = refl }) (fields-tested (codes "@Levels:") refl) (omega arith) (omega arith) fits
+levels-noted : (levels : List (Option ℕ)) → All IsLevel levels → length levels ≤ 4096 → IsReadableLine (levels_line levels)
+levels-noted levels within fits =
+    noted-following level_text (codes "@Levels:") levels 3 (omega arith) refl (record { some = omega arith; last = refl }) (fields-tested (codes "@Levels:") refl) (omega arith) (omega arith) fits
     (All-weaker IsLevel (λ level. IsItem (level_text level)) level-item levels within)
     (All-weaker IsLevel (λ level. length (level_text level) ≤ 3) level-few levels within)
 
-order-said : (order : List ℕ) → All (λ p. p < 4096) order → length order ≤ 4096 → IsSaidBy (order_line order)
-order-said order within fits =
-    said-behind decimal (codes "@Reorder:") order 4 (omega arith) refl (record { some = omega arith; last = refl }) (fields-tested (codes "@Reorder:") refl) (omega arith) (omega arith) fits
+order-noted : (order : List ℕ) → All (λ p. p < 4096) order → length order ≤ 4096 → IsReadableLine (order_line order)
+order-noted order within fits =
+    noted-following decimal (codes "@Reorder:") order 4 (omega arith) refl (record { some = omega arith; last = refl }) (fields-tested (codes "@Reorder:") refl) (omega arith) (omega arith) fits
     (All-weaker (λ p. p < 4096) (λ p. IsItem (decimal p)) position-item order within)
     (All-weaker (λ p. p < 4096) (λ p. length (decimal p) ≤ 4) position-few order within)
 
 -- a line that is read as exactly this
-pub record Says (line : List ℕ) (said : ClassesLine) : Type 0 where
-  pub by : IsSaidBy line
-  pub read : classes_line line ≡ said
+pub record Says (line : List ℕ) (noted : ClassesLine) : Type 0 where
+  pub by : IsReadableLine line
+  pub read : classes_line line ≡ noted
 
 pub levels-read : (levels : List (Option ℕ)) → All IsLevel levels → length levels ≤ 4096 → Says (levels_line levels) (LevelsAre levels)
 levels-read levels within fits =
-    let by = levels-said levels within fits in
+    let by = levels-noted levels within fits in
     let items = All-weaker IsLevel (λ level. IsItem (level_text level)) level-item levels within in
     let reads = All-weaker IsLevel (λ level. level_item (level_text level) ≡ Some level) level-read levels within in
     record {
       by = by;
       read = whole-line (levels_line levels) by
-          ∙ ap (λ (list : List (List ℕ)). levels_directive (each_read level_item list)) (items-behind level_text levels items)
+          ∙ ap (λ (list : List (List ℕ)). levels_directive (each_read level_item list)) (items-following level_text levels items)
           ∙ ap levels_directive (each-read level_text level_item levels reads);
     }
 
 pub order-read : (order : List ℕ) → All (λ p. p < 4096) order → length order ≤ 4096 → Says (order_line order) (OrderIs order)
 order-read order within fits =
-    let by = order-said order within fits in
+    let by = order-noted order within fits in
     let items = All-weaker (λ p. p < 4096) (λ p. IsItem (decimal p)) position-item order within in
     let reads = All-weaker (λ p. p < 4096) (λ p. order_item (decimal p) ≡ Some p) position-read order within in
     record {
       by = by;
       read = whole-line (order_line order) by
-          ∙ ap (λ (list : List (List ℕ)). order_directive (each_read order_item list)) (items-behind decimal order items)
+          ∙ ap (λ (list : List (List ℕ)). order_directive (each_read order_item list)) (items-following decimal order items)
           ∙ ap order_directive (each-read decimal order_item order reads);
     }

@@ -7,18 +7,18 @@ use Rattle.units.specs.Classes.{classes_of}
 use Rattle.units.specs.Layout.{LineLayout, lines_from, lines_cut_at, para_levels_of, text_levels, layout_of, all_orders}
 use Rattle.units.specs.Limits.{LimitsOf}
 use Rattle.units.specs.Positions.{positions_from}
-use Rattle.units.specs.Reordering.{after_resets, begins_line, cuts_of, line_order, order_from, placed, placed_if, stands_before}
+use Rattle.units.specs.Reordering.{after_resets, begins_line, cuts_of, line_order, order_from, placed, placed_if, precedes}
 use Rattle.units.specs.declared.bracket.Unit.{Unit as BidiUnit}
 use Rattle.units.specs.declared.class.Class.{Class}
 use Rattle.units.specs.declared.level.Direction.{Direction}
 use Rattle.units.proofs.Lengths.{length-classes_of}
-use Rattle.lines.proofs.Law.{line_order-places}
+use Rattle.lines.proofs.Theorem.{line_order-places}
 use Rattle.lines.proofs.Lengths.{length-levels}
 
 length-placed : (levels : List (Option ℕ)) (i : ℕ) (js : List ℕ) → length (placed levels i js) ≡ suc (length js)
 length-placed levels i [] = refl
 length-placed levels i (j ∷ js) =
-    elim (stands_before levels i j) as (λ b. length (cond b (i ∷ j ∷ js) (j ∷ placed levels i js)) ≡ suc (suc (length js))) [
+    elim (precedes levels i j) as (λ b. length (cond b (i ∷ j ∷ js) (j ∷ placed levels i js)) ≡ suc (suc (length js))) [
       | true ↦ refl
       | false ↦ ap (λ n. suc n) (length-placed levels i js)
     ]

@@ -18,7 +18,7 @@ use Rattle.rows.proofs.Between.{IsField, between-ends, between-field, between-fi
 use Rattle.rows.proofs.Contents.{cut-first}
 use Rattle.rows.proofs.Items.{IsItem, IsItemByte, all-tested, each-read-as, no-blank}
 use Rattle.rows.proofs.ItemTexts.{class-read, name-few, name-item}
-use Rattle.rows.proofs.LineTexts.{EndsPlain, IsFieldByte, IsLineByte, IsSaidBy, Says, ends-append, line-field, whole-line}
+use Rattle.rows.proofs.LineTexts.{EndsPlain, IsFieldByte, IsLineByte, IsReadableLine, Says, ends-append, line-field, whole-line}
 
 is-line-byte : (b : ℕ) → (nat_le 32 b && not (b == 35)) ≡ true → IsLineByte b
 is-line-byte b test =
@@ -74,8 +74,8 @@ module _ (l : Letter) (ls : List Letter) (direction : Direction) (letters : All 
       let begins : get_or (row_line text direction) 0 0 ≡ get_or names 0 0 = get_or_append_left names (59 ∷ 32 ∷ bit_text direction) 0 0 names-end.some in
       subst IsItemByte (sym begins) (between-first letter_name l ls items)
 
-  row-said : length text ≤ 4096 → IsSaidBy (row_line text direction)
-  row-said fits =
+  row-noted : length text ≤ 4096 → IsReadableLine (row_line text direction)
+  row-noted fits =
       let is = bits direction in
       let ends = ends-append names (59 ∷ 32 ∷ bit_text direction) (bits-end direction) in
       record {
@@ -101,7 +101,7 @@ module _ (l : Letter) (ls : List Letter) (direction : Direction) (letters : All 
 
   row-read-some : length text ≤ 4096 → Says (row_line text direction) (RowOf (units_of text) (direction ∷ []))
   row-read-some fits =
-      let by = row-said fits in
+      let by = row-noted fits in
       record {
         by = by;
         read = whole-line (row_line text direction) by

@@ -13,7 +13,7 @@ use Rattle.bidtests.specs.declared.kind.Kind.{Kind}
 use Rattle.rows.specs.Letters.{IsLetterOf, no_letter}
 use Rattle.rows.specs.RowTexts.{Case, IsRowText, longest_row}
 use Rattle.rows.specs.Exhaustive.{CanBeCounted, ExhaustiveOf, cases_between, cases_in, cases_of_length, cases_of_number, letter_in_text, text_of_number, block, under_each}
-use Rattle.rows.specs.Random.{CanBeDrawn, RandomOf, cases_drawn, cases_of_draw, letter_drawn, length_drawn, generator_of, text_of_draw, word_behind}
+use Rattle.rows.specs.Random.{CanBeDrawn, RandomOf, cases_drawn, cases_of_draw, letter_drawn, length_drawn, generator_of, text_of_draw, word_after}
 use Rattle.rows.specs.TextLines.{cases_of_line, cases_of_text, kind_of, letter_named, row_lines}
 use Rattle.rows.specs.Judged.{JudgeSaysYes}
 use Rattle.rows.specs.declared.naming.Naming.{Naming}
@@ -93,8 +93,8 @@ drawn-right kind r directions can are =
     let within = length_drawn-between r number can in
     let g = (pcg32 (generator_of r.seed number)).1 in
     rows-under kind (text_of_draw r number) directions
-    (is-row_text kind (λ place. letter_drawn r.alphabet (word_behind g place)) (length_drawn r number)
-    (λ place. are (word_behind g place % length r.alphabet) no_letter (mod-lt (word_behind g place) can.letters))
+    (is-row_text kind (λ place. letter_drawn r.alphabet (word_after g place)) (length_drawn r number)
+    (λ place. are (word_after g place % length r.alphabet) no_letter (mod-lt (word_after g place) can.letters))
     (omega (arith, can.some, within.0)) (omega (arith, can.short, within.1)))))
 
 -- the lines of a text, if the letters of each are a text of a row

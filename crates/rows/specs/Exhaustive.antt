@@ -23,8 +23,8 @@ pub record CanBeCounted (e : ExhaustiveOf) : Type 0 where
   pub few : length e.alphabet ^ e.greatest < 2 ^ 64
 
 -- the first reason why these texts can't be enumerated
-abbrev pub refusal_of : ExhaustiveOf → Option RowsFault
-refusal_of e =
+abbrev pub rejection_of : ExhaustiveOf → Option RowsFault
+rejection_of e =
     if length e.alphabet == 0 then Some NoLetter
     else if e.least == 0 then Some NoLength
     else if nat_lt longest_row e.greatest then Some TooLong

@@ -40,8 +40,8 @@ abbrev pub generator_of : ℕ → ℕ → Lcg
 generator_of seed number = started 64 multiplier_64 seed (increment_of 64 number)
 
 -- the word of 32 bits that a generator gives after this many others
-abbrev pub word_behind : Lcg → ℕ → ℕ
-word_behind g words = (pcg32 (advance 64 multiplier_64 words g)).0
+abbrev pub word_after : Lcg → ℕ → ℕ
+word_after g words = (pcg32 (advance 64 multiplier_64 words g)).0
 
 -- the letter that a word draws from an alphabet
 abbrev pub letter_drawn : List Letter → ℕ → Letter
@@ -49,7 +49,7 @@ letter_drawn alphabet word = slice_index_or alphabet (word % length alphabet) no
 
 -- the text of this length that a generator draws, a word for each place
 abbrev pub text_drawn : List Letter → Lcg → ℕ → List Letter
-text_drawn alphabet g len = map (λ place. letter_drawn alphabet (word_behind g place)) (positions_from 0 len)
+text_drawn alphabet g len = map (λ place. letter_drawn alphabet (word_after g place)) (positions_from 0 len)
 
 -- the length of a text, which the first word of its generator draws
 abbrev pub length_drawn : RandomOf → ℕ → ℕ

@@ -20,21 +20,21 @@ pub record Case : Type 0 where
   pub direction : Direction
 
 -- each item after a blank
-abbrev pub behind_blanks : {A : Type 0} → (A → List ℕ) → List A → List ℕ
-behind_blanks text items = flat_map (λ item. codes " " ++ text item) items
+abbrev pub after_blanks : {A : Type 0} → (A → List ℕ) → List A → List ℕ
+after_blanks text items = flat_map (λ item. codes " " ++ text item) items
 
 -- the items, with a blank between each two
 abbrev pub between_blanks : {A : Type 0} → (A → List ℕ) → List A → List ℕ
 between_blanks text [] = []
-between_blanks text (item ∷ items) = text item ++ behind_blanks text items
+between_blanks text (item ∷ items) = text item ++ after_blanks text items
 
 -- the line of the levels, with `x` for each removed position
 abbrev pub levels_line : List (Option ℕ) → List ℕ
-levels_line levels = codes "@Levels:" ++ behind_blanks level_text levels
+levels_line levels = codes "@Levels:" ++ after_blanks level_text levels
 
 -- the line of the order, positions from left to right
 abbrev pub order_line : List ℕ → List ℕ
-order_line order = codes "@Reorder:" ++ behind_blanks decimal order
+order_line order = codes "@Reorder:" ++ after_blanks decimal order
 
 -- the bit that names a direction
 abbrev pub bit_text : Direction → List ℕ

@@ -9,9 +9,9 @@ ghost use Rattle.lines.specs.Layouts.{view_of};
 ghost use Rattle.printing.specs.LevelsText.{level_text};
 ghost use Rattle.bidtests.specs.declared.kind.Kind.TheVariants as kind;
 ghost use Rattle.rows.specs.Letters.{letter_name};
-ghost use Rattle.rows.specs.RowTexts.{behind_blanks, between_blanks, bit_text, levels_line, lines_with_layout, order_line, row_line};
+ghost use Rattle.rows.specs.RowTexts.{after_blanks, between_blanks, bit_text, levels_line, lines_with_layout, order_line, row_line};
 
-use crate::item_text::{print_behind_blanks, print_between_blanks};
+use crate::item_text::{print_after_blanks, print_between_blanks};
 use crate::letter::Letter;
 use lines::layout::Layout;
 use std::io;
@@ -20,22 +20,22 @@ use units::level::{Direction, Level};
 
 /// Writes each level after a blank.
 pub fn print_levels<W: Write>(w: &mut W, levels: &[Option<Level>]) -> io::Result<()>
-    ensures { OnOk result (Appends (W.contents w.old) (W.contents w.new) (behind_blanks level_text levels.now)) }
+    ensures { OnOk result (Appends (W.contents w.old) (W.contents w.new) (after_blanks level_text levels.now)) }
 {
-    print_behind_blanks(w, levels)
+    print_after_blanks(w, levels)
 }
 
 /// Writes each position after a blank.
 pub fn print_positions<W: Write>(w: &mut W, order: &[usize]) -> io::Result<()>
-    ensures { OnOk result (Appends (W.contents w.old) (W.contents w.new) (behind_blanks decimal order.now)) }
+    ensures { OnOk result (Appends (W.contents w.old) (W.contents w.new) (after_blanks decimal order.now)) }
 {
-    print_behind_blanks(w, order)
+    print_after_blanks(w, order)
 }
 
 /// Writes the orders of all lines, one after another.
 pub fn print_orders<W: Write>(w: &mut W, layout: &Layout<'_>) -> io::Result<()>
     ensures { OnOk result (Appends (W.contents w.old) (W.contents w.new)
-        (behind_blanks decimal (all_orders (view_of layout.now)))) }
+        (after_blanks decimal (all_orders (view_of layout.now)))) }
 {
     for k in 0..layout.line_count() {
         print_positions(w, layout.line(k).order)?;

@@ -8,7 +8,7 @@ ghost use Rattle.units.specs.Lines.{ended};
 ghost use Rattle.lines.specs.Layouts.{view_of};
 ghost use Rattle.printing.specs.LevelsText.{level_text};
 ghost use Rattle.rows.specs.RowTexts.{between_blanks, direction_text, fields_with_layout, in_fields, para_text};
-ghost use Rattle.rows.specs.Placing.{behind_or_between, has_some};
+ghost use Rattle.rows.specs.Placing.{after_or_between, has_some};
 
 use crate::case_text::{print_names, print_positions};
 use crate::item_text::print_between_blanks;
@@ -59,7 +59,7 @@ fn print_levels_between<W: Write>(w: &mut W, levels: &[Option<Level>]) -> io::Re
 
 /// Writes the positions of a line, with a blank between each two, and a blank before the first if `begun` is true.
 fn print_line_positions<W: Write>(w: &mut W, order: &[usize], begun: bool) -> io::Result<()>
-    ensures { OnOk result (Appends (W.contents w.old) (W.contents w.new) (behind_or_between begun decimal order.now)) }
+    ensures { OnOk result (Appends (W.contents w.old) (W.contents w.new) (after_or_between begun decimal order.now)) }
 {
     if begun {
         print_positions(w, order)

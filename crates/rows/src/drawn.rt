@@ -12,7 +12,7 @@ use rand_pcg::Pcg32;
 fn draw_letter(alphabet: &[Letter], rng: &mut Pcg32) -> Letter
     requires { 0 < length alphabet.now }
     ensures letter { result ≡ letter_drawn alphabet.now (pcg32 rng.old).0 }
-    ensures behind { rng.new ≡ (pcg32 rng.old).1 }
+    ensures following { rng.new ≡ (pcg32 rng.old).1 }
 {
     let word = rng.next_word();
     alphabet[word as usize % alphabet.len()]

@@ -30,7 +30,7 @@ impl<'a> Model for Exhaustive<'a> {
 }
 
 impl<'a> Exhaustive<'a> {
-    ghost use Rattle.rows.specs.Exhaustive.{CanBeCounted, ExhaustiveOf, refusal_of};
+    ghost use Rattle.rows.specs.Exhaustive.{CanBeCounted, ExhaustiveOf, rejection_of};
 
     /// Returns the texts of these lengths over this alphabet. Duplicate letters count. Errors are checked in the order
     /// in which `RowsFault` lists them.
@@ -40,7 +40,7 @@ impl<'a> Exhaustive<'a> {
         greatest: usize,
     ) -> Result<Exhaustive<'a>, RowsFault>
         ensures made { IfOk result (λ e. e ≡ record { alphabet = alphabet.now; least = least; greatest = greatest }) }
-        ensures refused { result_err result ≡ refusal_of (record { alphabet = alphabet.now; least = least; greatest = greatest }) }
+        ensures rejected { result_err result ≡ rejection_of (record { alphabet = alphabet.now; least = least; greatest = greatest }) }
     {
         if alphabet.is_empty() {
             return Err(RowsFault::NoLetter);

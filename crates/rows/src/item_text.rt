@@ -7,12 +7,12 @@ ghost use Rattle.units.specs.ClassNames.{short_name};
 ghost use Rattle.printing.specs.HexDigits.{last_digits};
 ghost use Rattle.printing.specs.LevelsText.{code_text, level_text};
 ghost use Rattle.rows.specs.Letters.{letter_name};
-ghost use Rattle.rows.specs.RowTexts.{behind_blanks, between_blanks};
+ghost use Rattle.rows.specs.RowTexts.{after_blanks, between_blanks};
 
 use crate::letter::Letter;
 use arrayvec::ArrayVec;
 use printing::decimals::put_decimal;
-use printing::handing::{Pieces, hand_over};
+use printing::feeding::{Pieces, hand_over};
 use printing::pieces::last_digit;
 use std::io;
 use std::io::Write;
@@ -143,7 +143,7 @@ impl RowItem for Letter {
 
 /// Adds items, each after a blank, while there is space. Returns how many items were added.
 fn add_items<T: RowItem>(to: &mut Gathered, items: &[T]) -> usize
-    ensures text { to.new.items ≡ to.old.items ++ behind_blanks T.text (take result items.now) }
+    ensures text { to.new.items ≡ to.old.items ++ after_blanks T.text (take result items.now) }
     ensures count { result ≤ length items.now }
     ensures some { 0 < length items.now → array_vec_len to.old + 21 ≤ 256 → 0 < result }
 {
@@ -157,16 +157,16 @@ fn add_items<T: RowItem>(to: &mut Gathered, items: &[T]) -> usize
 }
 
 /// Writes each item after a blank. One call of `write` takes many items.
-pub fn print_behind_blanks<W: Write, T: RowItem>(w: &mut W, items: &[T]) -> io::Result<()>
-    ensures { OnOk result (Appends (W.contents w.old) (W.contents w.new) (behind_blanks T.text items.now)) }
+pub fn print_after_blanks<W: Write, T: RowItem>(w: &mut W, items: &[T]) -> io::Result<()>
+    ensures { OnOk result (Appends (W.contents w.old) (W.contents w.new) (after_blanks T.text items.now)) }
 {
     let mut text = ArrayVec::new();
-    let mut left = items;
-    while !left.is_empty() {
+    let mut remaining = items;
+    while !remaining.is_empty() {
         text.clear();
-        let count = add_items(&mut text, left);
+        let count = add_items(&mut text, remaining);
         hand_over(w, text.as_slice(), Pieces::Items)?;
-        left = left.split_at(count).1;
+        remaining = remaining.split_at(count).1;
     }
     Ok(())
 }
@@ -181,5 +181,5 @@ pub fn print_between_blanks<W: Write, T: RowItem>(w: &mut W, items: &[T]) -> io:
     let mut text = ArrayVec::new();
     let count = add_items(&mut text, items);
     hand_over(w, &text.as_slice()[1..], Pieces::Items)?;
-    print_behind_blanks(w, items.split_at(count).1)
+    print_after_blanks(w, items.split_at(count).1)
 }

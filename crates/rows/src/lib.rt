@@ -9,7 +9,7 @@ pub mod exhaustive;
 pub mod fault;
 pub mod form;
 mod item_text;
-pub mod laws;
+pub mod theorems;
 pub mod letter;
 pub mod letters;
 pub mod naming;

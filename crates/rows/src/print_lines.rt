@@ -74,13 +74,13 @@ fn print_each_line<W: Write>(
         (JudgeSaysYes standard (kind_of naming.entry) (cases_of_text naming.entry directions.now text.now)) }
     ensures fault { IfErr result (FaultLeaves (W.contents w.old) (W.contents w.new)) }
 {
-    let mut left = Some(text);
-    while let Some(lines) = left {
+    let mut remaining = Some(text);
+    while let Some(lines) = remaining {
         let (line, rest) = cut_line(lines);
         if !line.is_empty() {
             print_line(w, room, naming, line, directions, row)?;
         }
-        left = rest;
+        remaining = rest;
     }
     Ok(())
 }

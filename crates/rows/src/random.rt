@@ -43,7 +43,7 @@ impl<'a> Random<'a> {
         count: usize,
     ) -> Result<Random<'a>, RowsFault>
         ensures made { IfOk result (λ r. r ≡ record { alphabet = alphabet.now; least = least; greatest = greatest; seed = seed; count = count }) }
-        ensures refused { result_err result ≡ no_drawing_of (record { alphabet = alphabet.now; least = least; greatest = greatest; seed = seed; count = count }) }
+        ensures rejected { result_err result ≡ no_drawing_of (record { alphabet = alphabet.now; least = least; greatest = greatest; seed = seed; count = count }) }
     {
         if alphabet.is_empty() {
             return Err(RowsFault::NoLetter);

@@ -1,7 +1,7 @@
 //! The lines of a text.
 ghost use Rattle.std.specs.Prelude.{◌≡◌, ◌<◌, ◌==◌, ◌∷◌, length, IfSome};
 ghost use Rattle.std.specs.List.{position};
-ghost use Rattle.units.specs.Cuts.{pieces_behind};
+ghost use Rattle.units.specs.Cuts.{pieces_after};
 ghost use Rattle.rows.specs.TextLines.{first_long_line, text_lines};
 
 use crate::exhaustive::LONGEST_ROW;
@@ -15,7 +15,7 @@ fn first_feed(text: &[char]) -> Option<usize>
 
 /// Returns the first line, and the text after its LF if it has one.
 pub(crate) fn cut_line(text: &[char]) -> (&[char], Option<&[char]>)
-    ensures lines { text_lines text.now ≡ result.0.now ∷ pieces_behind 10 result.1 }
+    ensures lines { text_lines text.now ≡ result.0.now ∷ pieces_after 10 result.1 }
     ensures falls { IfSome result.1 (λ rest. length rest.now < length text.now) }
 {
     match first_feed(text) {
@@ -29,15 +29,15 @@ pub(crate) fn cut_line(text: &[char]) -> (&[char], Option<&[char]>)
 pub fn first_long_line(text: &[char]) -> Option<usize>
     ensures { result ≡ first_long_line text.now }
 {
-    let mut left = Some(text);
+    let mut remaining = Some(text);
     let mut number = 1;
-    while let Some(lines) = left {
+    while let Some(lines) = remaining {
         let (line, rest) = cut_line(lines);
         if line.len() > LONGEST_ROW {
             return Some(number);
         }
         number += 1;
-        left = rest;
+        remaining = rest;
     }
     None
 }

@@ -18,7 +18,7 @@ use crate::letter::Letter;
 use crate::letters::fill_front;
 use crate::room::RowRoom;
 use bidtests::kind::Kind;
-use bidtests::laid_out::lay_out_anew;
+use bidtests::laid_out::lay_out_again;
 use lines::layout::Layout;
 use lines::scratch::Scratch;
 use std::io;
@@ -78,7 +78,7 @@ fn print_under_each<W: Write>(
     let limits = Limits::standard();
     let mut laid_out = None;
     for direction in directions {
-        laid_out = lay_out_anew(scratch, units, *direction, limits, laid_out);
+        laid_out = lay_out_again(scratch, units, *direction, limits, laid_out);
         print_laid_out(w, scratch, kind, text, *direction)?;
     }
     Ok(())

@@ -18,8 +18,8 @@ use Rattle.resolve.proofs.Gathered.{length-classes_at, class_at-classes_at, cont
 use Rattle.paragraph.specs.Covering.{AreDisjoint}
 use Rattle.paragraph.proofs.Covering.{times_some, within_extent}
 use Rattle.rule_columns.specs.Passes.{implicit_in, implicit_of}
-use Rattle.paragraph.proofs.FoundBeside.{zip_none, zip_some}
-use Rattle.rule_columns.proofs.Found.{SaysOwn, found_here, found_elsewhere}
+use Rattle.paragraph.proofs.ComputedBeside.{zip_none, zip_some}
+use Rattle.rule_columns.proofs.Results.{SaysOwn, value_here, value_elsewhere}
 
 -- the levels after these sequences have theirs
 abbrev pub AreRaised : List Class → List SequenceView → List (Option ℕ) → Type 0
@@ -42,18 +42,18 @@ module _ {extent : ℕ} {all : List SequenceView} (apart : AreDisjoint extent al
       elim (cases_lt 0 (times ps p)) [
         | inl some ↦
             (let z = zip_some ps (values_in cs s) p long some 0 in
-            let held : Contains ps p = subst (Contains ps) z.2 (contains_index ps z.0 z.1) in
+            let contained : Contains ps p = subst (Contains ps) z.2 (contains_index ps z.0 z.1) in
             let value : slice_index (values_in cs s) z.0 ≡ implicit_level s.level (class_at cs p) =
             get_or-map (implicit_level s.level) (classes_at cs ps) z.0 L 0 (omega (arith, z.1, length-classes_at cs ps))
             ∙ ap (implicit_level s.level) (class_at-classes_at cs ps z.0 z.1 ∙ ap (class_at cs) z.2) in
-            step.values p held
+            step.values p contained
             ∙ ap Some (sym value)
-            ∙ sym (found_here items own apart at inside p (within_extent apart at inside p held) some ∙ z.3))
+            ∙ sym (value_here items own apart at inside p (within_extent apart at inside p contained) some ∙ z.3))
         | inr others ↦
             (let none : times ps p ≡ 0 = omega arith in
             step.others p (λ c. let t = times_some ps p c in absurd (omega arith))
             ∙ w p
-            ∙ sym (found_elsewhere items own apart at inside p none))
+            ∙ sym (value_elsewhere items own apart at inside p none))
       ]
 
 -- after all sequences have theirs

@@ -24,7 +24,7 @@ use Rattle.resolve.proofs.Scan.{length-brackets_at}
 use Rattle.paragraph.specs.Covering.{AreDisjoint}
 use Rattle.paragraph.proofs.Covering.{times_some, within_extent}
 use Rattle.rule_columns.specs.Passes.{closers_of, pairs_in}
-use Rattle.rule_columns.proofs.Found.{SaysOwn, found_here, found_elsewhere, index_in, IsDistinct, distinct_in}
+use Rattle.rule_columns.proofs.Results.{SaysOwn, value_here, value_elsewhere, index_in, IsDistinct, distinct_in}
 
 -- both indices of a pair are below this one
 abbrev pub LiesBelow : ℕ → ℕ × ℕ → Type 0
@@ -56,10 +56,10 @@ abbrev pub placed_pair : List ℕ → ℕ × ℕ → ℕ × ℕ
 placed_pair ps pair = (slice_index ps pair.0, slice_index ps pair.1)
 
 -- the value for the position at an index is that for the index
-found_at_index : (ps : List ℕ) → IsDistinct ps → (pairs : List (ℕ × ℕ)) → All (λ pair. pair.0 < length ps) pairs → (k : ℕ) → k < length ps →
+value_at_index : (ps : List ℕ) → IsDistinct ps → (pairs : List (ℕ × ℕ)) → All (λ pair. pair.0 < length ps) pairs → (k : ℕ) → k < length ps →
     value_beside (map (placed_pair ps) pairs) (slice_index ps k) ≡ option_map (slice_index ps) (value_beside pairs k)
-found_at_index ps are [] within k h = refl
-found_at_index ps are (x ∷ xs) within k h =
+value_at_index ps are [] within k h = refl
+value_at_index ps are (x ∷ xs) within k h =
     let p : ℕ = slice_index ps k in
     elim (cases_Bool (x.0 == k)) [
       | inl same ↦
@@ -70,19 +70,19 @@ found_at_index ps are (x ∷ xs) within k h =
           (let low : x.0 < length ps = All-head (λ (pair : ℕ × ℕ). pair.0 < length ps) x xs within in
           let there : (slice_index ps x.0 == p) ≡ false = ne_eqb (slice_index ps x.0) p (are x.0 k low h (λ e. let same = eq-eqb x.0 k e in cc)) in
           ap (option_map (λ (y : ℕ × ℕ). y.1)) (cond-false (slice_index ps x.0 == p) (Some (placed_pair ps x)) (find (λ (y : ℕ × ℕ). y.0 == p) (map (placed_pair ps) xs)) there)
-          ∙ found_at_index ps are xs (All-tail (λ (pair : ℕ × ℕ). pair.0 < length ps) x xs within) k h
+          ∙ value_at_index ps are xs (All-tail (λ (pair : ℕ × ℕ). pair.0 < length ps) x xs within) k h
           ∙ sym (ap (option_map (slice_index ps)) (ap (option_map (λ (y : ℕ × ℕ). y.1)) (cond-false (x.0 == k) (Some x) (find (λ (y : ℕ × ℕ). y.0 == k) xs) other))))
     ]
 
 -- there is no value for a position that is not in the list
-found_nowhere : (ps : List ℕ) (pairs : List (ℕ × ℕ)) → All (λ pair. pair.0 < length ps) pairs → (p : ℕ) → times ps p ≡ 0 → value_beside (map (placed_pair ps) pairs) p ≡ None
-found_nowhere ps [] within p none = refl
-found_nowhere ps (x ∷ xs) within p none =
+value_nowhere : (ps : List ℕ) (pairs : List (ℕ × ℕ)) → All (λ pair. pair.0 < length ps) pairs → (p : ℕ) → times ps p ≡ 0 → value_beside (map (placed_pair ps) pairs) p ≡ None
+value_nowhere ps [] within p none = refl
+value_nowhere ps (x ∷ xs) within p none =
     let low : x.0 < length ps = All-head (λ (pair : ℕ × ℕ). pair.0 < length ps) x xs within in
     let there : (slice_index ps x.0 == p) ≡ false =
     ne_eqb (slice_index ps x.0) p (λ e. let some = times_some ps p (subst (Contains ps) e (contains_index ps x.0 low)) in omega arith) in
     ap (option_map (λ (y : ℕ × ℕ). y.1)) (cond-false (slice_index ps x.0 == p) (Some (placed_pair ps x)) (find (λ (y : ℕ × ℕ). y.0 == p) (map (placed_pair ps) xs)) there)
-    ∙ found_nowhere ps xs (All-tail (λ (pair : ℕ × ℕ). pair.0 < length ps) x xs within) p none
+    ∙ value_nowhere ps xs (All-tail (λ (pair : ℕ × ℕ). pair.0 < length ps) x xs within) p none
 
 module _ (us : List BidiUnit) (weak : List Class) where
   pub pairs_lie : (s : SequenceView) → All (LiesBelow (length s.positions)) (bracket_pairs_of standard.brackets (brackets_of s us (classes_at weak s.positions)))
@@ -92,14 +92,14 @@ module _ (us : List BidiUnit) (weak : List Class) where
   pairs_within s = All-weaker (LiesBelow (length s.positions)) (λ (pair : ℕ × ℕ). pair.0 < length s.positions) (λ pair l. l.0) _ (pairs_lie s)
 
   pub says_own : SaysOwn (pairs_in us weak)
-  says_own = λ s p none. found_nowhere s.positions _ (pairs_within s) p none
+  says_own = λ s p none. value_nowhere s.positions _ (pairs_within s) p none
 
   -- the value for the position of an opening bracket is the position of its closing bracket
-  pub pair_found : (s : SequenceView) → IsDistinct s.positions → (k : ℕ) → k < length s.positions →
+  pub pair_at_index : (s : SequenceView) → IsDistinct s.positions → (k : ℕ) → k < length s.positions →
       value_beside (pairs_in us weak s) (slice_index s.positions k)
       ≡ option_map (slice_index s.positions) (closer_of (bracket_pairs_of standard.brackets (brackets_of s us (classes_at weak s.positions))) k)
   unfolding closer_of
-  pair_found s are k h = found_at_index s.positions are _ (pairs_within s) k h
+  pair_at_index s are k h = value_at_index s.positions are _ (pairs_within s) k h
 
   -- the table after these sequences have their pairs
   abbrev pub ArePaired : List SequenceView → List (Option ℕ) → Type 0
@@ -115,14 +115,14 @@ module _ (us : List BidiUnit) (weak : List Class) where
           | inl some ↦
               (let z = index_in ps p some in
               let within : p < extent = within_extent apart at inside p (subst (Contains ps) z.2 (contains_index ps z.0 z.1)) in
-              ap (closer_in next) (sym z.2) ∙ holds z.0 z.1 ∙ sym (pair_found s (distinct_in apart at inside) z.0 z.1)
+              ap (closer_in next) (sym z.2) ∙ holds z.0 z.1 ∙ sym (pair_at_index s (distinct_in apart at inside) z.0 z.1)
               ∙ ap (value_beside (pairs_in us weak s)) z.2
-              ∙ sym (found_here (pairs_in us weak) says_own apart at inside p within some))
+              ∙ sym (value_here (pairs_in us weak) says_own apart at inside p within some))
           | inr others ↦
               (let none : times ps p ≡ 0 = omega arith in
               keeps p (λ c. let t = times_some ps p c in absurd (omega arith))
               ∙ w p
-              ∙ sym (found_elsewhere (pairs_in us weak) says_own apart at inside p none))
+              ∙ sym (value_elsewhere (pairs_in us weak) says_own apart at inside p none))
         ]
 
   -- after all sequences have theirs

@@ -17,8 +17,8 @@ use Rattle.resolve.proofs.Gathered.{length-classes_at, class_at-classes_at, cont
 use Rattle.paragraph.specs.Covering.{positions_in, AreDisjoint}
 use Rattle.paragraph.proofs.Covering.{copied, times_some, within_extent}
 use Rattle.rule_columns.specs.Passes.{classes_in, rewritten, rewritten_at}
-use Rattle.paragraph.proofs.FoundBeside.{none_beside, zip_none, zip_some}
-use Rattle.rule_columns.proofs.Found.{SaysOwn, found_here, found_elsewhere}
+use Rattle.paragraph.proofs.ComputedBeside.{none_beside, zip_none, zip_some}
+use Rattle.rule_columns.proofs.Results.{SaysOwn, value_here, value_elsewhere}
 
 -- the result of a rule after it was applied to these sequences
 abbrev pub IsRewritten : (SequenceView → List Class → List Class) → List SequenceView → List Class → List Class → Type 0
@@ -28,9 +28,9 @@ pub says_own : (rule : SequenceView → List Class → List Class) (start : List
 says_own rule start = λ s p none. zip_none s.positions (rule s (classes_at start s.positions)) p none
 
 -- the class of a position in none of these sequences is unchanged
-pub kept_outside : (rule : SequenceView → List Class → List Class) (done : List SequenceView) (start now : List Class) → IsRewritten rule done start now →
+pub unchanged_outside : (rule : SequenceView → List Class → List Class) (done : List SequenceView) (start now : List Class) → IsRewritten rule done start now →
     (p : ℕ) → times (positions_in done) p ≡ 0 → class_at now p ≡ class_at start p
-kept_outside rule done start now w p none =
+unchanged_outside rule done start now w p none =
     w p ∙ ap (λ (o : Option Class). unwrap_or o (class_at start p)) (none_beside (classes_in rule start) (says_own rule start) done p none)
 
 module _ {extent : ℕ} {all : List SequenceView} (apart : AreDisjoint extent all) {k : ℕ} {s : SequenceView} (at : slice_get all k ≡ Some s) (inside : k < length all) where
@@ -42,7 +42,7 @@ module _ {extent : ℕ} {all : List SequenceView} (apart : AreDisjoint extent al
       let items : SequenceView → List (ℕ × Class) = classes_in rule start in
       let own = says_own rule start in
       let values : List Class = rule s (classes_at start ps) in
-      let same : classes_at now ps ≡ classes_at start ps = copied apart at inside now start (kept_outside rule (take k all) start now w) in
+      let same : classes_at now ps ≡ classes_at start ps = copied apart at inside now start (unchanged_outside rule (take k all) start now w) in
       let is : classes_at next ps ≡ values = step.values ∙ ap (rule s) same in
       let long : length values ≡ length ps = sym (ap length is) ∙ length-classes_at next ps in
       let d : Class = class_at start p in
@@ -50,7 +50,7 @@ module _ {extent : ℕ} {all : List SequenceView} (apart : AreDisjoint extent al
         | inl some ↦
             (let z = zip_some ps values p long some d in
             let within : p < extent = within_extent apart at inside p (subst (Contains ps) z.2 (contains_index ps z.0 z.1)) in
-            let found : value_beside (flat_map items (take (k + 1) all)) p ≡ Some (get_or values z.0 d) = found_here items own apart at inside p within some ∙ z.3 in
+            let found : value_beside (flat_map items (take (k + 1) all)) p ≡ Some (get_or values z.0 d) = value_here items own apart at inside p within some ∙ z.3 in
             ap (class_at next) (sym z.2) ∙ sym (class_at-classes_at next ps z.0 z.1)
             ∙ ap (λ (cs : List Class). class_at cs z.0) is
             ∙ get_or_default values z.0 L d (omega (arith, z.1, long))
@@ -59,7 +59,7 @@ module _ {extent : ℕ} {all : List SequenceView} (apart : AreDisjoint extent al
             (let none : times ps p ≡ 0 = omega arith in
             step.others p (λ c. let t = times_some ps p c in absurd (omega arith))
             ∙ w p
-            ∙ sym (ap (λ (o : Option Class). unwrap_or o d) (found_elsewhere items own apart at inside p none)))
+            ∙ sym (ap (λ (o : Option Class). unwrap_or o d) (value_elsewhere items own apart at inside p none)))
       ]
 
 -- after the rule was applied to all sequences

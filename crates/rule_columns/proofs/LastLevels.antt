@@ -29,8 +29,8 @@ use Rattle.rule_columns.specs.declared.pass.Pass.{Pass}
 use Rattle.rule_columns.specs.declared.pass.Pass.TheVariants as pass
 use Rattle.rule_columns.specs.declared.rule.Rule.TheVariants as rule
 use Rattle.rule_columns.proofs.EachSequence.{says_own}
-use Rattle.paragraph.proofs.FoundBeside.{zip_some}
-use Rattle.rule_columns.proofs.Found.{found_in, distinct_in}
+use Rattle.paragraph.proofs.ComputedBeside.{zip_some}
+use Rattle.rule_columns.proofs.Results.{located_in, distinct_in}
 use Rattle.lines.proofs.RemovedLevels.{para_level-low}
 use Rattle.rule_columns.proofs.NeutralSteps.{in_two_steps}
 use Rattle.rule_columns.proofs.PuttingTogether.{columns_fit}
@@ -55,10 +55,10 @@ n0_keeps us before s cs = length-after_paired _ s.sos _ _ cs
 
 module _ {extent : ℕ} {all : List SequenceView} (apart : AreDisjoint extent all) {k : ℕ} {s : SequenceView} (at : slice_get all k ≡ Some s) (inside : k < length all) where
   -- at the positions of a sequence, the result is that of the rule for its classes
-  left_in : (rule : SequenceView → List Class → List Class) → KeepsLength rule → (cs : List Class) → length cs ≡ extent →
+  rewritten_in : (rule : SequenceView → List Class → List Class) → KeepsLength rule → (cs : List Class) → length cs ≡ extent →
       classes_at (rewritten rule all cs) s.positions ≡ rule s (classes_at cs s.positions)
   unfolding rewritten
-  left_in rule keeps cs n =
+  rewritten_in rule keeps cs n =
       let ps : List ℕ = s.positions in
       let values : List Class = rule s (classes_at cs ps) in
       let long : length values ≡ length ps = keeps s (classes_at cs ps) ∙ length-classes_at cs ps in
@@ -74,7 +74,7 @@ module _ {extent : ℕ} {all : List SequenceView} (apart : AreDisjoint extent al
       let index : z.0 ≡ j = elim (cases_eq z.0 j) [ inl e ↦ e | inr other ↦ absurd (distinct_in apart at inside z.0 j z.1 here other z.2) ] in
       class_at-classes_at (rewritten rule all cs) ps j here
       ∙ class_at-at_each f cs p (omega (arith, n, within))
-      ∙ ap (λ (o : Option Class). unwrap_or o d) (found_in (classes_in rule cs) (says_own rule cs) all k s at p some (apart.once p within) ∙ z.3)
+      ∙ ap (λ (o : Option Class). unwrap_or o d) (located_in (classes_in rule cs) (says_own rule cs) all k s at p some (apart.once p within) ∙ z.3)
       ∙ ap (class_at values) index)
 
 -- two functions with the same results for the elements of a list have the same joined results
@@ -100,7 +100,7 @@ module _ (us : List BidiUnit) (direction : Direction) (only : SeparatorOnlyLast 
     here cs = classes_at cs s.positions
 
     through_pass : (pass : Pass) (cs : List Class) → length cs ≡ length us → here (rewritten (by_pass pass) all_here cs) ≡ by_pass pass s (here cs)
-    through_pass pass cs n = left_in disjoint at inside (by_pass pass) (pass_keeps pass) cs n
+    through_pass pass cs n = rewritten_in disjoint at inside (by_pass pass) (pass_keeps pass) cs n
 
     through_w7 : here columns.weak.w7 ≡ after_weak s.sos (here columns.current)
     unfolding columns_of after_weak
@@ -120,7 +120,7 @@ module _ (us : List BidiUnit) (direction : Direction) (only : SeparatorOnlyLast 
         let fit = (columns_fit us direction).classes in
         through_pass pass.N2 columns.neutral.n1 (fit rule.N1)
         ∙ ap (by_pass pass.N2 s) (through_pass pass.N1 columns.neutral.n0 (fit rule.N0)
-        ∙ ap (by_pass pass.N1 s) (left_in disjoint at inside (by_n0 us columns.current) (n0_keeps us columns.current) columns.weak.w7 (fit rule.W7)
+        ∙ ap (by_pass pass.N1 s) (rewritten_in disjoint at inside (by_n0 us columns.current) (n0_keeps us columns.current) columns.weak.w7 (fit rule.W7)
         ∙ ap (after_brackets standard.brackets s us (here columns.current)) through_w7))
         ∙ in_two_steps (direction_of s.level) s.sos s.eos (after_brackets standard.brackets s us (here columns.current) (after_weak s.sos (here columns.current)))
 

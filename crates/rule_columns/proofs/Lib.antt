@@ -2,7 +2,7 @@ pub mod EachLevel
 pub mod EachPair
 pub mod EachSequence
 pub mod ExplicitParts
-pub mod Found
+pub mod Results
 pub mod LastLevels
 pub mod NamedPositions
 pub mod NeutralSteps

@@ -22,7 +22,7 @@ use Rattle.units.proofs.Positions.{first_from_some, length-positions_from, get_o
 use Rattle.resolve.specs.Pairs.{closer_in}
 use Rattle.paragraph.proofs.AllSequences.{sequences_are_apart}
 use Rattle.lines.specs.Layouts.{no_line}
-use Rattle.lines.proofs.Law.{line_order-places}
+use Rattle.lines.proofs.Theorem.{line_order-places}
 use Rattle.lines.proofs.Lengths.{length-levels}
 use Rattle.lines.proofs.RemovedLevels.{para_level-low}
 use Rattle.rule_columns.specs.Columns.{columns_of}

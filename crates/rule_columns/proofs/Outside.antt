@@ -8,34 +8,34 @@ use Rattle.units.specs.Positions.{same_position}
 use Rattle.units.specs.declared.class.Class.{Class}
 use Rattle.units.proofs.Positions.{first_from_is, first_from_nowhere, last_below_none, same_position_true}
 use Rattle.explicit.proofs.StrongSides.Around.{around_nowhere}
-use Rattle.explicit.proofs.Matched.Nesting.{IsHeld, holds_from, holds_down, inner_match}
+use Rattle.explicit.proofs.Matched.Nesting.{IsContained, holds_from, holds_down, inner_match}
 
 -- a position inside an isolate is not outside of all isolates
-pub held_inside : (cs : List Class) (i p : ℕ) → IsHeld cs i p → isolate_around cs p ≢ None
+pub within_isolate : (cs : List Class) (i p : ℕ) → IsContained cs i p → isolate_around cs p ≢ None
 unfolding isolate_around
-held_inside cs i p h none = false≢true (sym (last_below_none (λ i. isolate_holds cs i p) p none i h.after) ∙ holds_from cs i p h)
+within_isolate cs i p h none = false≢true (sym (last_below_none (λ i. isolate_holds cs i p) p none i h.after) ∙ holds_from cs i p h)
 
 module _ (cs : List Class) (p : ℕ) (outside : isolate_around cs p ≡ None) where
-  not_held : (i : ℕ) → IsHeld cs i p → ⊥
-  not_held i h = held_inside cs i p h outside
+  in_no_isolate : (i : ℕ) → IsContained cs i p → ⊥
+  in_no_isolate i h = within_isolate cs i p h outside
 
   -- the position after one that begins no isolate is outside
   pub outside_next : is_isolate_initiator (class_at cs p) ≡ false → isolate_around cs (p + 1) ≡ None
-  outside_next plain = grind (arith, around_nowhere, both_ways, not_held, holds_down)
+  outside_next plain = grind (arith, around_nowhere, both_ways, in_no_isolate, holds_down)
 
   -- so is the PDI that matches the isolate initiator
   pub outside_match : (a : ℕ) → p < a → matching_pdi cs p ≡ Some a → isolate_around cs a ≡ None
-  outside_match a later match = grind (arith, around_nowhere, not_held, holds_down, inner_match)
+  outside_match a later match = grind (arith, around_nowhere, in_no_isolate, holds_down, inner_match)
 
   -- all positions up to this PDI are inside
   pub inside_match : is_isolate_initiator (class_at cs p) ≡ true → (a : ℕ) → matching_pdi cs p ≡ Some a → (q : ℕ) → p < q → q < a → isolate_around cs q ≢ None
-  inside_match opener a match q behind before =
-      held_inside cs p q (record { opener = opener; after = behind; before = λ b e. let same : a ≡ b = (let both : Some a ≡ Some b = sym match ∙ e in cc) in omega (arith, same) })
+  inside_match opener a match q following before =
+      within_isolate cs p q (record { opener = opener; after = following; before = λ b e. let same : a ≡ b = (let both : Some a ≡ Some b = sym match ∙ e in cc) in omega (arith, same) })
 
   -- all positions after the initiator are inside, if no PDI matches it
   pub inside_unmatched : is_isolate_initiator (class_at cs p) ≡ true → matching_pdi cs p ≡ None → (q : ℕ) → p < q → isolate_around cs q ≢ None
-  inside_unmatched opener none q behind =
-      held_inside cs p q (record { opener = opener; after = behind; before = λ b e. absurd (let both : Some b ≡ None = sym e ∙ none in cc) })
+  inside_unmatched opener none q following =
+      within_isolate cs p q (record { opener = opener; after = following; before = λ b e. absurd (let both : Some b ≡ None = sym e ∙ none in cc) })
 
 -- a strong position outside of all isolates
 abbrev pub decides : List Class → ℕ → Bool

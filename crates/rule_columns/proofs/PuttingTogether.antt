@@ -13,9 +13,9 @@ use Rattle.units.specs.declared.bracket.Unit.{Unit as BidiUnit}
 use Rattle.units.specs.declared.class.Class.{Class}
 use Rattle.units.specs.declared.level.Direction.{Direction}
 use Rattle.units.proofs.Positions.{length-positions_from}
-use Rattle.explicit.proofs.LevelsFound.Leveled.{length-of_positions}
-use Rattle.resolve.specs.Sought.{AreOwn}
-use Rattle.paragraph.proofs.AllSequences.{classes_are_kept}
+use Rattle.explicit.proofs.LevelsComputed.Leveled.{length-of_positions}
+use Rattle.resolve.specs.Wanted.{AreOwn}
+use Rattle.paragraph.proofs.AllSequences.{classes_are_unchanged}
 use Rattle.units.specs.declared.memory.Memory.{Memory}
 use Rattle.lines.proofs.Lengths.{length-levels}
 use Rattle.rule_columns.specs.Columns.{ClassesOf, ColumnsOf, ExplicitOf, ShownOf, HaveLength, classes_part, column_after, columns_of, explicit_part, shown_part}
@@ -44,8 +44,8 @@ module _ (us : List BidiUnit) (direction : Direction) (explicit : ExplicitOf) (c
   pub own_from : (ps : List ℕ) → AreOwn ps us current
   own_from ps =
       let cs : List Class = classes_of us in
-      let kept : AreOwn ps us (current_of (explicit_of standard.depth cs (para_level_of cs direction))) = classes_are_kept standard.depth us (para_level_of cs direction) ps in
-      subst (AreOwn ps us) (sym (whole ∙ ap (λ (x : ExplicitOf). current_of x.leveled) is)) kept
+      let unchanged : AreOwn ps us (current_of (explicit_of standard.depth cs (para_level_of cs direction))) = classes_are_unchanged standard.depth us (para_level_of cs direction) ps in
+      subst (AreOwn ps us) (sym (whole ∙ ap (λ (x : ExplicitOf). current_of x.leveled) is)) unchanged
 
   pub columns_from : (classes : ClassesOf) (shown : ShownOf) → classes ≡ classes_part explicit.sequences us current → shown ≡ shown_part us direction →
       with_parts explicit classes shown ≡ columns_of us direction

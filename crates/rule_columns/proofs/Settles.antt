@@ -46,13 +46,13 @@ module _ {kind : Class → Bool} {rule : Class → Class → Class → Class} {s
       let from : List Class = classes_at start ps in
       let reads = pass_reads w.pass inside in
       let t' : kind (class_at from k) ≡ true = ap kind (sym reads) ∙ t in
-      let behind : nearest_after from (λ c. not (kind c)) k eos ≡ after =
+      let following : nearest_after from (λ c. not (kind c)) k eos ≡ after =
       nearest_after-first (λ c. not (kind c)) from k eos (pass_within w.pass inside) ∙ sym past in
       let to_is : class_at (each_in_run kind rule sos eos from) k ≡ rule (class_at from k) (nearest_before from (λ c. not (kind c)) k sos) (nearest_after from (λ c. not (kind c)) k eos) =
       class_at-at_each _ from k (pass_within w.pass inside) ∙ cond-true _ _ _ t' in
       let same : class_at (each_in_run kind rule sos eos from) k ≡ v =
       to_is ∙ ap (λ (b : Class). rule (class_at from k) b (nearest_after from (λ c. not (kind c)) k eos)) (sym w.before_is)
-      ∙ ap (rule (class_at from k) before) behind ∙ ap (λ (c : Class). rule c before after) (sym reads) ∙ sym is in
+      ∙ ap (rule (class_at from k) before) following ∙ ap (λ (c : Class). rule c before after) (sym reads) ∙ sym is in
       record {
         pass = pass_write w.pass inside v (sym same);
         before_is = pass_nearest_same w.pass inside (λ c. not (kind c)) sos before (not_from_true _ t) w.before_is;

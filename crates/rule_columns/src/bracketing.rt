@@ -2,7 +2,7 @@
 ghost use Rattle.std.specs.Prelude.{◌≡◌, ℕ, None, length};
 ghost use Rattle.paragraph.specs.Covering.{AreDisjoint, positions_in};
 ghost use Rattle.resolve.specs.Pairs.{closer_in};
-ghost use Rattle.resolve.specs.Sought.{AreOwn};
+ghost use Rattle.resolve.specs.Wanted.{AreOwn};
 ghost use Rattle.rule_columns.specs.Passes.{by_n0, closers_of, rewritten};
 
 use resolve::paired::paired;

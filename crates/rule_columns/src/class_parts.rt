@@ -1,7 +1,7 @@
 //! The classes of a paragraph after each rule from W1 to N2, and its levels after I1 and I2.
 ghost use Rattle.std.specs.Prelude.{◌≡◌, length, IfOk};
 ghost use Rattle.paragraph.specs.Covering.{AreDisjoint, positions_in};
-ghost use Rattle.resolve.specs.Sought.{AreOwn};
+ghost use Rattle.resolve.specs.Wanted.{AreOwn};
 ghost use Rattle.rule_columns.specs.Columns.{bracket_part, weak_part};
 ghost use Rattle.rule_columns.specs.Passes.{by_pass, implicit_of, rewritten};
 ghost use Rattle.rule_columns.specs.declared.pass.Pass.TheVariants as pass;

@@ -1,7 +1,7 @@
 //! The classes of a paragraph after each rule, and its levels after I1 and I2.
 ghost use Rattle.std.specs.Prelude.{◌≡◌, length, IfOk};
 ghost use Rattle.paragraph.specs.Covering.{AreDisjoint, positions_in};
-ghost use Rattle.resolve.specs.Sought.{AreOwn};
+ghost use Rattle.resolve.specs.Wanted.{AreOwn};
 ghost use Rattle.rule_columns.specs.Columns.{classes_part};
 
 use crate::class_parts::{BracketPart, ResolvedPart, WeakPart};

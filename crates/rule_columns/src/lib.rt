@@ -10,7 +10,7 @@ mod current;
 mod deciding;
 mod explicit_part;
 mod implicit_levels;
-pub mod laws;
+pub mod theorems;
 mod neutral;
 mod pass;
 mod rewriting;

@@ -47,19 +47,19 @@ module _ (t : LeveledView) (nested : IsNested t) (level : Option ℕ) where
   next_level x None e is = tt
   next_level x (Some y) e is = sym (successor_level t nested x y e) ∙ is
 
-  walk_level : (most : ℕ) (from : Option ℕ) → IfSome from (λ x. level_of t x ≡ level) → (p : ℕ) → Contains (followed (successor t) most from) p → level_of t p ≡ level
-  walk_level zero from is p (k, within, e) = absurd (omega (arith, within))
-  walk_level (suc most) None is p (k, within, e) = absurd (omega (arith, within))
-  walk_level (suc most) (Some x) is p (zero, within, e) = ap (level_of t) (sym e) ∙ is
-  walk_level (suc most) (Some x) is p (suc k, within, e) =
-      walk_level most (successor t x) (next_level x (successor t x) refl is) p (k, omega (arith, within), e)
+  followed_level : (most : ℕ) (from : Option ℕ) → IfSome from (λ x. level_of t x ≡ level) → (p : ℕ) → Contains (followed (successor t) most from) p → level_of t p ≡ level
+  followed_level zero from is p (k, within, e) = absurd (omega (arith, within))
+  followed_level (suc most) None is p (k, within, e) = absurd (omega (arith, within))
+  followed_level (suc most) (Some x) is p (zero, within, e) = ap (level_of t) (sym e) ∙ is
+  followed_level (suc most) (Some x) is p (suc k, within, e) =
+      followed_level most (successor t x) (next_level x (successor t x) refl is) p (k, omega (arith, within), e)
 
 -- BD13: each position of a sequence has the sequence's level
 pub levels_along : (t : LeveledView) → IsNested t → (j p : ℕ) (s : SequenceView) → slice_get (sequences_of t) j ≡ Some s → Contains s.positions p → level_of t p ≡ Some s.level
 levels_along t nested j p s found c =
     of_each t (λ s. (q : ℕ) → Contains s.positions q → level_of t q ≡ Some s.level)
     (λ x begins q d.
-    walk_level t nested (Some (level_or_base t (Some x))) (size_of t) (Some x) (level_is (level_of t x) t.base (first_remains t x begins)) q d)
+    followed_level t nested (Some (level_or_base t (Some x))) (size_of t) (Some x) (level_is (level_of t x) t.base (first_remains t x begins)) q d)
     j s found p c
 
 -- BD13: each position of a sequence leads to the next one in it, and the last one to none

@@ -20,10 +20,10 @@ times-contains [] p (k, l, e) = absurd (omega (arith, l))
 times-contains (q ∷ ps) p (zero, l, e) = omega (arith, times-cons q ps p, one_if-same q p e)
 times-contains (q ∷ ps) p (suc k, l, e) = omega (arith, times-cons q ps p, times-contains ps p (k, omega (arith, l), e))
 
-times-held : (all : List SequenceView) (k p : ℕ) (s : SequenceView) → slice_get all k ≡ Some s → times s.positions p ≤ times (flat_of all) p
-times-held [] k p s e = absurd cc
-times-held (x ∷ all) zero p s e = grind (arith, nat_tests, common_steps, times-append)
-times-held (x ∷ all) (suc k) p s e = omega (arith, times-append x.positions (flat_of all) p, times-held all k p s e)
+times-occurs : (all : List SequenceView) (k p : ℕ) (s : SequenceView) → slice_get all k ≡ Some s → times s.positions p ≤ times (flat_of all) p
+times-occurs [] k p s e = absurd cc
+times-occurs (x ∷ all) zero p s e = grind (arith, nat_tests, common_steps, times-append)
+times-occurs (x ∷ all) (suc k) p s e = omega (arith, times-append x.positions (flat_of all) p, times-occurs all k p s e)
 
 apart_in : (all : List SequenceView) (j k p : ℕ) (s other : SequenceView) → times (flat_of all) p ≤ 1 → slice_get all j ≡ Some s → slice_get all k ≡ Some other → j < k →
     Contains s.positions p → Contains other.positions p → ⊥
@@ -38,7 +38,7 @@ apart_in (x ∷ all) zero (suc k) p s other few e f h c d =
       ap (λ (y : SequenceView). times y.positions p) same,
       times-contains s.positions p c,
       times-contains other.positions p d,
-      times-held all k p other f,
+      times-occurs all k p other f,
     )
 apart_in (x ∷ all) (suc j) (suc k) p s other few e f h c d =
     apart_in all j k p s other (omega (arith, few, times-append x.positions (flat_of all) p)) e f (omega arith) c d

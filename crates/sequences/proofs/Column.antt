@@ -139,9 +139,9 @@ level_within None base h b = omega (arith, b)
 level_within (Some l) base h b = h
 
 module _ (t : LeveledView) (h : IsLeveled t) (links : List (Option ℕ)) (fit : length links ≡ size_of t) (are : (p : ℕ) → link_at links p ≡ successor t p) where
-  stands : (column : List ℕ) (p start : ℕ) → p < size_of t → start + length (sequence_from t p) ≤ length column →
+  represents : (column : List ℕ) (p start : ℕ) → p < size_of t → start + length (sequence_from t p) ≤ length column →
       slice_range column start (start + length (sequence_from t p)) ≡ sequence_from t p → IsHead column links (head_at t p start)
-  stands column p start l room e =
+  represents column p start l room e =
       grind (arith, rising_positions, followed_rises, successor_later, followed_chain, level_within)
 
   headed : (spare : List ℕ) (a n : ℕ) → a + n ≤ size_of t → (before : List ℕ) (start : ℕ) → start ≡ length before →
@@ -162,7 +162,7 @@ module _ (t : LeveledView) (h : IsLeveled t) (links : List (Option ℕ)) (fit : 
             let room : start + m ≤ length column =
             omega (arith, s, length-append before (rest_of t spare (a ∷ later)), length-append (sequence_from t a) (rest_of t spare later)) in
             subst P (sym (cond-true (begins_sequence t a) (a ∷ later) later b))
-            (All-cons (IsHead column links) (head_at t a start) (heads_from t (start + m) later) (stands column a start (omega arith) room positions) rest)
+            (All-cons (IsHead column links) (head_at t a start) (heads_from t (start + m) later) (represents column a start (omega arith) room positions) rest)
         | inr f ↦ subst P (sym (cond-false (begins_sequence t a) (a ∷ later) later f)) (headed spare (a + 1) n (omega arith) before start s)
       ]
 

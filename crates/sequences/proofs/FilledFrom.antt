@@ -17,8 +17,8 @@ use Rattle.units.specs.declared.class.Class.{Class}
 use Rattle.units.specs.declared.level.ParaLevel.{ParaLevel}
 use Rattle.units.specs.declared.level.ParaLevel.TheVariants.{Zero, One}
 use Rattle.explicit.specs.IsolateMaps.{Isolates, IsFilledFrom}
-use Rattle.explicit.proofs.LevelsFound.InsideIsolates.{nested}
-use Rattle.explicit.proofs.LevelsFound.Leveled.{get_or-of_positions, length-of_positions, leveled, size-is}
+use Rattle.explicit.proofs.LevelsComputed.InsideIsolates.{nested}
+use Rattle.explicit.proofs.LevelsComputed.Leveled.{get_or-of_positions, length-of_positions, leveled, size-is}
 use Rattle.sequences.specs.FilledFrom.{AreExplicitLevels, AreOfParagraph, leveled_by}
 use Rattle.units.proofs.Lengths.{length-classes_of}
 
@@ -34,8 +34,8 @@ no_separator (u ∷ []) e = tt
 no_separator (u ∷ v ∷ us) e = grind (arith, or_parts, no_separator (v ∷ us))
 
 -- the front of the column is what X1 to X9 give
-pub found_front : (depth : ℕ) (explicit : List (Option (ℕ × Class))) (cs : List Class) (para : ℕ) → HoldsLevels explicit depth cs para → take (length cs) explicit ≡ explicit_of depth cs para
-found_front depth explicit cs para holds =
+pub computed_front : (depth : ℕ) (explicit : List (Option (ℕ × Class))) (cs : List Class) (para : ℕ) → HoldsLevels explicit depth cs para → take (length cs) explicit ≡ explicit_of depth cs para
+computed_front depth explicit cs para holds =
     let n : length (explicit_of depth cs para) ≡ length cs = length-of_positions cs (explicit_at depth cs para) in
     let m : length (take (length cs) explicit) ≡ length cs = length-take-le (length cs) explicit holds.enough in
     ext_get_or None (take (length cs) explicit) (explicit_of depth cs para) (m ∙ sym n)
@@ -43,7 +43,7 @@ found_front depth explicit cs para holds =
 
 -- with the levels of X1 to X9 up to a depth, the paragraph is the one of this depth
 pub leveled_by-is : (depth : ℕ) (explicit : List (Option (ℕ × Class))) (cs : List Class) (para : ℕ) → HoldsLevels explicit depth cs para → leveled_by explicit cs para ≡ leveled_of depth cs para
-leveled_by-is depth explicit cs para holds = grind (arith, found_front)
+leveled_by-is depth explicit cs para holds = grind (arith, computed_front)
 
 -- the paragraph has as many positions as units
 pub size-of_paragraph : (explicit : List (Option (ℕ × Class))) (units : List BidiUnit) (para : ℕ) → AreExplicitLevels explicit (classes_of units) para → size_of (leveled_by explicit (classes_of units) para) ≡ length units
@@ -51,9 +51,9 @@ size-of_paragraph explicit units para levels =
     ap size_of (leveled_by-is levels.depth explicit (classes_of units) para levels.found) ∙ size-is levels.depth (classes_of units) para ∙ length-classes_of units
 
 -- the isolates and the explicit levels are those of the paragraph
-pub found_of : (units : List BidiUnit) (isolates : Isolates) (explicit : List (Option (ℕ × Class))) (base : ℕ) → SeparatorOnlyLast units → IsFilledFrom isolates (classes_of units) → AreExplicitLevels explicit (classes_of units) base →
+pub paragraph_of : (units : List BidiUnit) (isolates : Isolates) (explicit : List (Option (ℕ × Class))) (base : ℕ) → SeparatorOnlyLast units → IsFilledFrom isolates (classes_of units) → AreExplicitLevels explicit (classes_of units) base →
     base ≤ 1 → AreOfParagraph units isolates explicit base
-found_of units isolates explicit base only matched levels low =
+paragraph_of units isolates explicit base only matched levels low =
     let e = leveled_by-is levels.depth explicit (classes_of units) base levels.found in
     record {
       matched = matched;

@@ -50,9 +50,9 @@ pub remains_within : (t : LeveledView) (p : ℕ) → remains t p ≡ true → p 
 remains_within t p e =
     elim (cases_lt p (size_of t)) [ inl l ↦ l | inr g ↦ absurd (false≢true (sym (ap is_some (get_or_past t.levels p None g)) ∙ e)) ]
 
-walk_none : (next : ℕ → Option ℕ) (steps p : ℕ) → times (followed next steps None) p ≡ 0
-walk_none next zero p = refl
-walk_none next (suc steps) p = refl
+times_followed_none : (next : ℕ → Option ℕ) (steps p : ℕ) → times (followed next steps None) p ≡ 0
+times_followed_none next zero p = refl
+times_followed_none next (suc steps) p = refl
 
 times-before : (a n p : ℕ) → p < a → times (positions_from a n) p ≡ 0
 times-before a zero p l = refl
@@ -68,14 +68,14 @@ times-positions a (suc n) p g l =
     ]
 
 -- how often p is in the sequences that begin at one of these
-abbrev held : LeveledView → ℕ → List ℕ → ℕ
-held t p xs = times (flat_map (sequence_from t) (filter (begins_sequence t) xs)) p
+abbrev occurs : LeveledView → ℕ → List ℕ → ℕ
+occurs t p xs = times (flat_map (sequence_from t) (filter (begins_sequence t) xs)) p
 
-held-begins : (t : LeveledView) (p x : ℕ) (xs : List ℕ) → begins_sequence t x ≡ true → held t p (x ∷ xs) ≡ times (sequence_from t x) p + held t p xs
-held-begins t p x xs b = grind (arith, nat_tests, common_steps, cond-true, times-append)
+occurs-begins : (t : LeveledView) (p x : ℕ) (xs : List ℕ) → begins_sequence t x ≡ true → occurs t p (x ∷ xs) ≡ times (sequence_from t x) p + occurs t p xs
+occurs-begins t p x xs b = grind (arith, nat_tests, common_steps, cond-true, times-append)
 
-held-other : (t : LeveledView) (p x : ℕ) (xs : List ℕ) → begins_sequence t x ≡ false → held t p (x ∷ xs) ≡ held t p xs
-held-other t p x xs b =
+occurs-other : (t : LeveledView) (p x : ℕ) (xs : List ℕ) → begins_sequence t x ≡ false → occurs t p (x ∷ xs) ≡ occurs t p xs
+occurs-other t p x xs b =
     ap (λ (ys : List ℕ). times (flat_map (sequence_from t) ys) p) (cond-false (begins_sequence t x) (x ∷ filter (begins_sequence t) xs) (filter (begins_sequence t) xs) b)
 
 module _ (t : LeveledView) (h : IsLeveled t) (n : IsNested t) where
@@ -97,89 +97,89 @@ module _ (t : LeveledView) (h : IsLeveled t) (n : IsNested t) where
   leads_to_remaining x = grind (arith, if_some, successor_cases, successor_remains)
 
   -- following successors never comes to a removed position
-  walk_removed : (p : ℕ) → remains t p ≡ false → (steps : ℕ) (from : Option ℕ) → IfSome from (λ x. remains t x ≡ true) →
+  times_followed_removed : (p : ℕ) → remains t p ≡ false → (steps : ℕ) (from : Option ℕ) → IfSome from (λ x. remains t x ≡ true) →
       times (followed (successor t) steps from) p ≡ 0
-  walk_removed p r zero from s = refl
-  walk_removed p r (suc steps) None s = refl
-  walk_removed p r (suc steps) (Some x) s =
-      grind (arith, times-cons, one_if-other, false≢true, leads_to_remaining, walk_removed p r steps)
+  times_followed_removed p r zero from s = refl
+  times_followed_removed p r (suc steps) None s = refl
+  times_followed_removed p r (suc steps) (Some x) s =
+      grind (arith, times-cons, one_if-other, false≢true, leads_to_remaining, times_followed_removed p r steps)
 
   -- it comes to a position that nothing leads to only if it begins there
-  walk_past : (p : ℕ) → ((q : ℕ) → successor t q ≡ Some p → ⊥) → (steps : ℕ) (from : Option ℕ) → (from ≡ Some p → ⊥) →
+  times_followed_past : (p : ℕ) → ((q : ℕ) → successor t q ≡ Some p → ⊥) → (steps : ℕ) (from : Option ℕ) → (from ≡ Some p → ⊥) →
       times (followed (successor t) steps from) p ≡ 0
-  walk_past p f zero from s = refl
-  walk_past p f (suc steps) None s = refl
-  walk_past p f (suc steps) (Some x) s =
-      omega (arith, times-cons x (followed (successor t) steps (successor t x)) p, one_if-other x p (λ e. s (ap Some e)), walk_past p f steps (successor t x) (f x))
+  times_followed_past p f zero from s = refl
+  times_followed_past p f (suc steps) None s = refl
+  times_followed_past p f (suc steps) (Some x) s =
+      omega (arith, times-cons x (followed (successor t) steps (successor t x)) p, one_if-other x p (λ e. s (ap Some e)), times_followed_past p f steps (successor t x) (f x))
 
-  walk_first : (p : ℕ) → ((q : ℕ) → successor t q ≡ Some p → ⊥) → (steps x : ℕ) → 0 < steps → times (followed (successor t) steps (Some x)) p ≡ one_if x p
-  walk_first p f zero x l = absurd (omega arith)
-  walk_first p f (suc steps) x l =
-      omega (arith, times-cons x (followed (successor t) steps (successor t x)) p, walk_past p f steps (successor t x) (f x))
+  times_followed_first : (p : ℕ) → ((q : ℕ) → successor t q ≡ Some p → ⊥) → (steps x : ℕ) → 0 < steps → times (followed (successor t) steps (Some x)) p ≡ one_if x p
+  times_followed_first p f zero x l = absurd (omega arith)
+  times_followed_first p f (suc steps) x l =
+      omega (arith, times-cons x (followed (successor t) steps (successor t x)) p, times_followed_past p f steps (successor t x) (f x))
 
   -- it comes to a position if it begins there, or as often as to the one that leads to it
-  walk_step : (p q : ℕ) → successor t q ≡ Some p → (steps x : ℕ) (next : Option ℕ) → successor t x ≡ next →
+  times_followed_step : (p q : ℕ) → successor t q ≡ Some p → (steps x : ℕ) (next : Option ℕ) → successor t x ≡ next →
       ((y : ℕ) → next ≡ Some y → times (followed (successor t) steps (Some y)) p ≡ one_if y p + times (followed (successor t) steps (Some y)) q) →
       times (followed (successor t) steps next) p ≡ one_if x q + times (followed (successor t) steps next) q
-  walk_step p q e steps x None s ih =
+  times_followed_step p q e steps x None s ih =
       omega (
         arith,
-        walk_none (successor t) steps p,
-        walk_none (successor t) steps q,
+        times_followed_none (successor t) steps p,
+        times_followed_none (successor t) steps q,
         one_if-other x q (λ same.
             let no : ◌≡◌ {A = Option ℕ} None (Some p) = sym s ∙ ap (successor t) same ∙ e in cc),
       )
-  walk_step p q e steps x (Some y) s ih = grind (arith, one_if-same, one_if-other, successor_once)
+  times_followed_step p q e steps x (Some y) s ih = grind (arith, one_if-same, one_if-other, successor_once)
 
-  walk_led : (p q : ℕ) → successor t q ≡ Some p → (steps x : ℕ) → x < size_of t → size_of t ≤ x + steps →
+  times_followed_led : (p q : ℕ) → successor t q ≡ Some p → (steps x : ℕ) → x < size_of t → size_of t ≤ x + steps →
       times (followed (successor t) steps (Some x)) p ≡ one_if x p + times (followed (successor t) steps (Some x)) q
-  walk_led p q e zero x l g = absurd (omega arith)
-  walk_led p q e (suc steps) x l g =
+  times_followed_led p q e zero x l g = absurd (omega arith)
+  times_followed_led p q e (suc steps) x l g =
       let P : ℕ → Option ℕ → Type 0 = λ x o. IfSome o (λ y. (x < y) × (y < size_of t)) in
-      let more = walk_step p q e steps x (successor t x) refl (λ y s.
+      let more = times_followed_step p q e steps x (successor t x) refl (λ y s.
       let later : (x < y) × (y < size_of t) = subst (P x) s (successor_later t h x) in
-      walk_led p q e steps y later.1 (omega (arith, later.0))) in
+      times_followed_led p q e steps y later.1 (omega (arith, later.0))) in
       omega (arith, times-cons x (followed (successor t) steps (successor t x)) p, times-cons x (followed (successor t) steps (successor t x)) q, more)
 
-  held_removed : (p : ℕ) → remains t p ≡ false → (xs : List ℕ) → held t p xs ≡ 0
-  held_removed p r [] = refl
-  held_removed p r (x ∷ xs) =
+  times_removed : (p : ℕ) → remains t p ≡ false → (xs : List ℕ) → occurs t p xs ≡ 0
+  times_removed p r [] = refl
+  times_removed p r (x ∷ xs) =
       elim (cases_Bool (begins_sequence t x)) [
-        | inl b ↦ omega (arith, held-begins t p x xs b, walk_removed p r (size_of t) (Some x) (begins_remains x b), held_removed p r xs)
-        | inr b ↦ held-other t p x xs b ∙ held_removed p r xs
+        | inl b ↦ omega (arith, occurs-begins t p x xs b, times_followed_removed p r (size_of t) (Some x) (begins_remains x b), times_removed p r xs)
+        | inr b ↦ occurs-other t p x xs b ∙ times_removed p r xs
       ]
 
-  held_led : (p q : ℕ) → successor t q ≡ Some p → (xs : List ℕ) → held t p xs ≡ held t q xs
-  held_led p q e [] = refl
-  held_led p q e (x ∷ xs) =
+  times_led : (p q : ℕ) → successor t q ≡ Some p → (xs : List ℕ) → occurs t p xs ≡ occurs t q xs
+  times_led p q e [] = refl
+  times_led p q e (x ∷ xs) =
       elim (cases_Bool (begins_sequence t x)) [
         | inl b ↦
             let l : x < size_of t = remains_within t x (begins_remains x b) in
             omega (
               arith,
-              held-begins t p x xs b,
-              held-begins t q x xs b,
-              walk_led p q e (size_of t) x l (omega arith),
+              occurs-begins t p x xs b,
+              occurs-begins t q x xs b,
+              times_followed_led p q e (size_of t) x l (omega arith),
               one_if-other x p (λ same. begins_first x b q (e ∙ ap Some (sym same))),
-              held_led p q e xs,
+              times_led p q e xs,
             )
-        | inr b ↦ held-other t p x xs b ∙ held_led p q e xs ∙ sym (held-other t q x xs b)
+        | inr b ↦ occurs-other t p x xs b ∙ times_led p q e xs ∙ sym (occurs-other t q x xs b)
       ]
 
-  held_first : (p : ℕ) → begins_sequence t p ≡ true → (xs : List ℕ) → held t p xs ≡ times xs p
-  held_first p f [] = refl
-  held_first p f (x ∷ xs) =
+  times_first : (p : ℕ) → begins_sequence t p ≡ true → (xs : List ℕ) → occurs t p xs ≡ times xs p
+  times_first p f [] = refl
+  times_first p f (x ∷ xs) =
       elim (cases_Bool (begins_sequence t x)) [
         | inl b ↦
             let l : x < size_of t = remains_within t x (begins_remains x b) in
-            omega (arith, held-begins t p x xs b, walk_first p (begins_first p f) (size_of t) x (omega arith), times-cons x xs p, held_first p f xs)
+            omega (arith, occurs-begins t p x xs b, times_followed_first p (begins_first p f) (size_of t) x (omega arith), times-cons x xs p, times_first p f xs)
         | inr b ↦
-            omega (arith, held-other t p x xs b, times-cons x xs p, one_if-other x p (λ same. false≢true (sym b ∙ ap (begins_sequence t) same ∙ f)), held_first p f xs)
+            omega (arith, occurs-other t p x xs b, times-cons x xs p, one_if-other x p (λ same. false≢true (sym b ∙ ap (begins_sequence t) same ∙ f)), times_first p f xs)
       ]
 
-  held_once : (k p : ℕ) → p < k → remains t p ≡ true → held t p (positions_from 0 (size_of t)) ≡ 1
-  held_once zero p l r = absurd (omega arith)
-  held_once (suc k) p l r =
+  times_once : (k p : ℕ) → p < k → remains t p ≡ true → occurs t p (positions_from 0 (size_of t)) ≡ 1
+  times_once zero p l r = absurd (omega arith)
+  times_once (suc k) p l r =
       let within : p < size_of t = remains_within t p r in
       elim (cases_Bool (list_any (λ q. same_position (successor t q) (Some p)) (positions_from 0 (size_of t)))) [
         | inl led ↦
@@ -187,9 +187,9 @@ module _ (t : LeveledView) (h : IsLeveled t) (n : IsNested t) where
             let e : successor t found.0 ≡ Some p = same_from (successor t found.0) p found.1 in
             let P : Option ℕ → Type 0 = λ o. IfSome o (λ y. (found.0 < y) × (y < size_of t)) in
             let later : (found.0 < p) × (p < size_of t) = subst P e (successor_later t h found.0) in
-            held_led p found.0 e (positions_from 0 (size_of t)) ∙ held_once k found.0 (omega (arith, later.0)) (successor_remains t found.0 p e)
+            times_led p found.0 e (positions_from 0 (size_of t)) ∙ times_once k found.0 (omega (arith, later.0)) (successor_remains t found.0 p e)
         | inr free ↦
-            held_first p (and_from _ _ r (not_from_false _ free)) (positions_from 0 (size_of t)) ∙ times-positions 0 (size_of t) p (omega arith) (omega arith)
+            times_first p (and_from _ _ r (not_from_false _ free)) (positions_from 0 (size_of t)) ∙ times-positions 0 (size_of t) p (omega arith) (omega arith)
       ]
 
 pub flat_views : (t : LeveledView) (xs : List ℕ) → flat_map (λ (s : SequenceView). s.positions) (map (sequence_at t) xs) ≡ flat_map (sequence_from t) xs
@@ -201,6 +201,6 @@ pub sequences_hold_once : (t : LeveledView) → IsLeveled t → IsNested t → H
 sequences_hold_once t h n p l =
     ap (λ (ps : List ℕ). times ps p) (flat_views t (filter (begins_sequence t) (positions_from 0 (size_of t))))
     ∙ elim (cases_Bool (remains t p)) [
-      | inl r ↦ held_once t h n (suc p) p (omega arith) r ∙ sym (cond-true (remains t p) 1 0 r)
-      | inr f ↦ held_removed t h n p f (positions_from 0 (size_of t)) ∙ sym (cond-false (remains t p) 1 0 f)
+      | inl r ↦ times_once t h n (suc p) p (omega arith) r ∙ sym (cond-true (remains t p) 1 0 r)
+      | inr f ↦ times_removed t h n p f (positions_from 0 (size_of t)) ∙ sym (cond-false (remains t p) 1 0 f)
     ]

@@ -2,7 +2,7 @@
 #![tactic(auto)]
 
 mod heads;
-pub mod laws;
+pub mod theorems;
 mod leveled;
 mod linking;
 mod one_sequence;

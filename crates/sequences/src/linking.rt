@@ -4,7 +4,7 @@ ghost use Rattle.units.specs.Runs.{size_of, level_of, at_one_level, level_or_bas
 ghost use Rattle.explicit.specs.Leveled.{IsLeveled};
 ghost use Rattle.sequences.specs.Links.{marked};
 ghost use Rattle.sequences.specs.Heads.{AreSuccessors, HasEnds, IsMarked};
-ghost use Rattle.sequences.specs.BackWalks.{BackWalk};
+ghost use Rattle.sequences.specs.BackwardPasses.{BackwardPass};
 ghost use Rattle.sequences.specs.Ends.{IsKnown, end_by};
 
 use crate::leveled::Leveled;
@@ -17,7 +17,7 @@ use units::steps::Steps;
 /// What comes after a position: the next remaining position, its level, and the eos of its sequence. If none remains,
 /// the level is the paragraph's.
 #[derive(Clone, Copy)]
-struct Behind {
+struct Following {
     next: Option<usize>,
     level: Level,
     end: Class,
@@ -45,23 +45,23 @@ pub fn level_or_base(t: &Leveled, at: Option<usize>) -> Level
 }
 
 /// Returns whether the level run of `p` continues after it (BD7): the next remaining position is at the same level.
-fn run_goes_on(t: &Leveled, p: usize, behind: &Behind) -> bool
+fn run_goes_on(t: &Leveled, p: usize, following: &Following) -> bool
     requires here { p < size_of t.now }
-    ensures { result ≡ (is_some behind.now.next && at_one_level (level_of t.now p) (Some behind.now.level)) }
+    ensures { result ≡ (is_some following.now.next && at_one_level (level_of t.now p) (Some following.now.level)) }
 {
     match t.level(p) {
-        Some(level) => behind.next.is_some() && level.get() == behind.level.get(),
+        Some(level) => following.next.is_some() && level.get() == following.level.get(),
         None => false,
     }
 }
 
 /// Returns the PDI with which the sequence of `p` continues (BD13), if the level run of `p` ends there.
-fn pdi_after(t: &Leveled, p: usize, behind: &Behind) -> Option<usize>
+fn pdi_after(t: &Leveled, p: usize, following: &Following) -> Option<usize>
     requires here { p < size_of t.now }
-    ensures value { result ≡ (if remains t.now p && is_some behind.now.next then matched_pdi t.now p else None) }
+    ensures value { result ≡ (if remains t.now p && is_some following.now.next then matched_pdi t.now p else None) }
     ensures later { IfSome result (λ q. (p < q) × (q < size_of t.now)) }
 {
-    if t.level(p).is_some() && behind.next.is_some() {
+    if t.level(p).is_some() && following.next.is_some() {
         t.matched_pdi(p)
     } else {
         None
@@ -69,40 +69,40 @@ fn pdi_after(t: &Leveled, p: usize, behind: &Behind) -> Option<usize>
 }
 
 /// Returns the eos of a sequence that ends at `p` (X10).
-fn eos(t: &Leveled, p: usize, behind: &Behind) -> Class
+fn eos(t: &Leveled, p: usize, following: &Following) -> Class
     requires here { p < size_of t.now }
-    requires level { behind.now.level ≡ level_or_base t.now behind.now.next }
-    ensures { result ≡ eos_by t.now p behind.now.next }
+    requires level { following.now.level ≡ level_or_base t.now following.now.next }
+    ensures { result ≡ eos_by t.now p following.now.next }
 {
     let is_unmatched = t.is_isolate_initiator(p) && t.matched_pdi(p).is_none();
-    let after = if is_unmatched { t.base() } else { behind.level };
+    let after = if is_unmatched { t.base() } else { following.level };
     level_or_base(t, Some(p)).direction_with(after)
 }
 
 /// Returns how the sequence of `p` continues (BD13): within its level run, or at the PDI that matches `p`, or not at
 /// all.
-fn go_on(t: &Leveled, p: usize, behind: &Behind, ends: &[Class]) -> Continuation
+fn go_on(t: &Leveled, p: usize, following: &Following, ends: &[Class]) -> Continuation
     requires here { p < size_of t.now }
     requires fits { size_of t.now ≤ length ends.now }
-    requires known { IsKnown t.now p behind.now ends.now }
+    requires known { IsKnown t.now p following.now ends.now }
     ensures link { result.link ≡ successor t.now p }
     ensures later { IfSome result.link (λ q. (p < q) × (q < size_of t.now)) }
-    ensures end { result.end ≡ end_by t.now p behind.now.next result.link ends.now }
+    ensures end { result.end ≡ end_by t.now p following.now.next result.link ends.now }
 {
-    if run_goes_on(t, p, behind) {
+    if run_goes_on(t, p, following) {
         return Continuation {
-            link: behind.next,
-            end: behind.end,
+            link: following.next,
+            end: following.end,
         };
     }
-    match pdi_after(t, p, behind) {
+    match pdi_after(t, p, following) {
         Some(q) => Continuation {
             link: Some(q),
             end: ends[q],
         },
         None => Continuation {
             link: None,
-            end: eos(t, p, behind),
+            end: eos(t, p, following),
         },
     }
 }
@@ -144,11 +144,11 @@ fn link_level<L: Ledger>(
     requires here { from < size_of t.now }
     requires level { level_of t.now from ≡ Some level }
     requires end { end ≡ eos_at t.now (last_in (sequence_from t.now from) from) }
-    requires walk { BackWalk t.now from (Some from) links.old ends.old joined.old }
+    requires follow { BackwardPass t.now from (Some from) links.old ends.old joined.old }
     ensures before { result ≤ from }
     ensures level { level_of t.now result ≡ Some level }
     ensures end { end ≡ eos_at t.now (last_in (sequence_from t.now result) result) }
-    ensures walk { BackWalk t.now result (Some result) links.new ends.new joined.new }
+    ensures follow { BackwardPass t.now result (Some result) links.new ends.new joined.new }
     ensures steps { steps.new + result ≡ steps.old + from }
 {
     let mut p = from;
@@ -181,7 +181,7 @@ pub fn link<L: Ledger>(
     ensures marked { IsMarked t.now joined.new }
     ensures steps { steps.new ≡ steps.old + size_of t.now }
 {
-    let mut behind = Behind {
+    let mut following = Following {
         next: None,
         level: t.base(),
         end: t.base().direction(),
@@ -191,14 +191,14 @@ pub fn link<L: Ledger>(
         steps.tick();
         p -= 1;
         let level = t.level(p);
-        let Continuation { link, end } = go_on(t, p, &behind, ends);
+        let Continuation { link, end } = go_on(t, p, &following, ends);
         links[p] = link_to(link);
         ends[p] = end;
         joined[p] = false;
         mark(link, joined);
         if let Some(level) = level {
             p = link_level(t, p, level, end, links, ends, joined, steps);
-            behind = Behind {
+            following = Following {
                 next: Some(p),
                 level,
                 end,

@@ -49,9 +49,9 @@ module _ (c : ℕ) (scalar : IsScalar c) where
   test_at : (rest : List ℕ) (n : ℕ) → is_utf8 (take (length (encode_utf8 c) + n) (encode_utf8 c ++ rest)) ≡ is_utf8 (take n rest)
   test_at rest n = ap is_utf8 (take-append-add (encode_utf8 c) rest n) ∙ same_test (take n rest)
 
-  up_to_behind : (rest : List ℕ) (n : ℕ) → valid_len_up_to (encode_utf8 c ++ rest) (length (encode_utf8 c) + n) ≡ length (encode_utf8 c) + valid_len_up_to rest n
-  up_to_behind rest zero = up_to_whole (encode_utf8 c ++ rest) (length (encode_utf8 c) + 0) (test_at rest 0 ∙ is_utf8-from_IsUtf8 [] IsUtf8-nil)
-  up_to_behind rest (suc n) =
+  up_to_after : (rest : List ℕ) (n : ℕ) → valid_len_up_to (encode_utf8 c ++ rest) (length (encode_utf8 c) + n) ≡ length (encode_utf8 c) + valid_len_up_to rest n
+  up_to_after rest zero = up_to_whole (encode_utf8 c ++ rest) (length (encode_utf8 c) + 0) (test_at rest 0 ∙ is_utf8-from_IsUtf8 [] IsUtf8-nil)
+  up_to_after rest (suc n) =
       let w = length (encode_utf8 c) in
       elim (cases_Bool (is_utf8 (take (suc n) rest))) [
         | inl t ↦ up_to_whole (encode_utf8 c ++ rest) (w + suc n) (test_at rest (suc n) ∙ t) ∙ ap (λ (k : ℕ). w + k) (sym (up_to_whole rest (suc n) t))
@@ -59,35 +59,35 @@ module _ (c : ℕ) (scalar : IsScalar c) where
             let next : w + suc n ≡ suc (w + n) = omega arith in
             let less : is_utf8 (take (suc (w + n)) (encode_utf8 c ++ rest)) ≡ false =
             ap (λ (k : ℕ). is_utf8 (take k (encode_utf8 c ++ rest))) (sym next) ∙ test_at rest (suc n) ∙ f in
-            ap (valid_len_up_to (encode_utf8 c ++ rest)) next ∙ up_to_next (encode_utf8 c ++ rest) (w + n) less ∙ up_to_behind rest n
+            ap (valid_len_up_to (encode_utf8 c ++ rest)) next ∙ up_to_next (encode_utf8 c ++ rest) (w + n) less ∙ up_to_after rest n
             ∙ ap (λ (k : ℕ). w + k) (sym (up_to_next rest n f))
       ]
 
-  valid_behind : (rest : List ℕ) → utf8_valid_len (encode_utf8 c ++ rest) ≡ length (encode_utf8 c) + utf8_valid_len rest
+  valid_after : (rest : List ℕ) → utf8_valid_len (encode_utf8 c ++ rest) ≡ length (encode_utf8 c) + utf8_valid_len rest
   unfolding utf8_valid_len
-  valid_behind rest = ap (valid_len_up_to (encode_utf8 c ++ rest)) (length-append (encode_utf8 c) rest) ∙ up_to_behind rest (length rest)
+  valid_after rest = ap (valid_len_up_to (encode_utf8 c ++ rest)) (length-append (encode_utf8 c) rest) ∙ up_to_after rest (length rest)
 
-  text_behind : (ys : List ℕ) → utf8_text (encode_utf8 c ++ ys) ≡ in_utf8 c ∷ utf8_text ys
-  text_behind ys =
+  text_after : (ys : List ℕ) → utf8_text (encode_utf8 c ++ ys) ≡ in_utf8 c ∷ utf8_text ys
+  text_after ys =
       let alone : chars (encode_utf8 c) ≡ c ∷ [] = chars_past_char (encode_utf8 c) [] c (IsUtf8-encode c scalar) (sym (append-nil (encode_utf8 c))) ∙ ap (λ (cs : List ℕ). c ∷ cs) chars-nil in
       ap (map in_utf8) (chars-append (encode_utf8 c) ys (IsUtf8-encode c scalar) ∙ ap (λ (cs : List ℕ). cs ++ chars ys) alone)
 
-  chunk_behind_char : (rest : List ℕ) → first_chunk (encode_utf8 c ++ rest) ≡ in_utf8 c ∷ first_chunk rest
-  chunk_behind_char rest =
+  chunk_after_char : (rest : List ℕ) → first_chunk (encode_utf8 c ++ rest) ≡ in_utf8 c ∷ first_chunk rest
+  chunk_after_char rest =
       let bs = encode_utf8 c ++ rest in
       let w = length (encode_utf8 c) in
       let v = utf8_valid_len rest in
-      ap (λ (n : ℕ). utf8_text (take n bs) ++ replaced (utf8_invalid_len (drop n bs))) (valid_behind rest)
+      ap (λ (n : ℕ). utf8_text (take n bs) ++ replaced (utf8_invalid_len (drop n bs))) (valid_after rest)
       ∙ ap (λ (front : List ℕ). utf8_text front ++ replaced (utf8_invalid_len (drop (w + v) bs))) (take-append-add (encode_utf8 c) rest v)
       ∙ ap (λ (ys : List ℕ). utf8_text (encode_utf8 c ++ take v rest) ++ replaced (utf8_invalid_len ys)) (drop-append-add (encode_utf8 c) rest v)
-      ∙ ap (λ (front : List Spelled). front ++ replaced (utf8_invalid_len (drop v rest))) (text_behind (take v rest))
+      ∙ ap (λ (front : List Spelled). front ++ replaced (utf8_invalid_len (drop v rest))) (text_after (take v rest))
 
-  after_behind : (rest : List ℕ) → after_first_chunk (encode_utf8 c ++ rest) ≡ after_first_chunk rest
-  after_behind rest =
+  rest_after_char : (rest : List ℕ) → after_first_chunk (encode_utf8 c ++ rest) ≡ after_first_chunk rest
+  rest_after_char rest =
       let bs = encode_utf8 c ++ rest in
       let w = length (encode_utf8 c) in
       let v = utf8_valid_len rest in
-      ap (λ (n : ℕ). drop (n + utf8_invalid_len (drop n bs)) bs) (valid_behind rest)
+      ap (λ (n : ℕ). drop (n + utf8_invalid_len (drop n bs)) bs) (valid_after rest)
       ∙ ap (λ (ys : List ℕ). drop (w + v + utf8_invalid_len ys) bs) (drop-append-add (encode_utf8 c) rest v)
       ∙ ap (λ (n : ℕ). drop n bs) {x = w + v + utf8_invalid_len (drop v rest)} {y = w + (v + utf8_invalid_len (drop v rest))} (omega arith)
       ∙ drop-append-add (encode_utf8 c) rest (v + utf8_invalid_len (drop v rest))
@@ -104,10 +104,10 @@ lossy_first bs c n is =
     let rest = drop n bs in
     let same = bytes_split bs c n is in
     let some : 0 < length (encode_utf8 c ++ rest) = omega (arith, length-append (encode_utf8 c) rest, length-encode c, (len_utf8_bounds c).0) in
-    let width : length (encode_utf8 c) ≡ n = omega (arith, is.behind) in
+    let width : length (encode_utf8 c) ≡ n = omega (arith, is.following) in
     ap utf8_lossy_text same ∙ lossy_step (encode_utf8 c ++ rest) some
-    ∙ ap (λ (t : List Spelled). t ++ utf8_lossy_text (after_first_chunk (encode_utf8 c ++ rest))) (chunk_behind_char c is.scalar rest)
-    ∙ ap (λ (ys : List ℕ). in_utf8 c ∷ (first_chunk rest ++ utf8_lossy_text ys)) (after_behind c is.scalar rest)
+    ∙ ap (λ (t : List Spelled). t ++ utf8_lossy_text (after_first_chunk (encode_utf8 c ++ rest))) (chunk_after_char c is.scalar rest)
+    ∙ ap (λ (ys : List ℕ). in_utf8 c ∷ (first_chunk rest ++ utf8_lossy_text ys)) (rest_after_char c is.scalar rest)
     ∙ ap (λ (t : List Spelled). in_utf8 c ∷ t) (step_of_any rest)
     ∙ ap (λ (k : ℕ). record { code = c; width = k } ∷ utf8_lossy_text rest) width
 
@@ -125,14 +125,14 @@ lossy_fault bs n some none is =
 
 -- a character is spelled by some bytes
 pub some_width : (bs : List ℕ) (c n : ℕ) → IsSpelled bs 0 (c, n) → 0 < n
-some_width bs c n is = omega (arith, is.behind, length-encode c, (len_utf8_bounds c).0)
+some_width bs c n is = omega (arith, is.following, length-encode c, (len_utf8_bounds c).0)
 
 -- bytes that begin no character are not well formed, and the maximal subpart at their front ends where the test stops
 pub no_text : (bs : List ℕ) → 0 < length bs → StartsWithNoChar bs → IsUtf8 bs → ⊥
 no_text bs some none = (first_fault bs 0 some IsUtf8-nil none).0
 
 pub fault_at_front : (bs : List ℕ) (valid : ℕ) (len : Option ℕ) → 0 < length bs → StartsWithNoChar bs → valid ≡ utf8_valid_len bs → len ≡ utf8_error_len (drop valid bs) → len ≡ utf8_error_len bs
-fault_at_front bs valid len some none is told = told ∙ ap (λ (n : ℕ). utf8_error_len (drop n bs)) (is ∙ sym ((first_fault bs 0 some IsUtf8-nil none).1))
+fault_at_front bs valid len some none is reported = reported ∙ ap (λ (n : ℕ). utf8_error_len (drop n bs)) (is ∙ sym ((first_fault bs 0 some IsUtf8-nil none).1))
 
 pub some_fault : (bs : List ℕ) (n : ℕ) → 0 < length bs → n ≡ utf8_invalid_len bs → 0 < n
 some_fault bs n some is = omega (arith, utf8_invalid_len_pos bs some, is)

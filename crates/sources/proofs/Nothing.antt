@@ -5,14 +5,14 @@ use Rattle.std.specs.Str.Lossy.{utf8_error_len, utf8_valid_len}
 use Rattle.std.proofs.lemmas.Str.{utf16_chars-nil}
 use Rattle.ucdfiles.specs.Tables.{TablesOf}
 use Rattle.decoding.specs.declared.fault.Faults.{Faults}
-use Rattle.decoding.specs.declared.fault.Faults.TheVariants.{Refused, Replaced}
+use Rattle.decoding.specs.declared.fault.Faults.TheVariants.{Rejected, Replaced}
 use Rattle.decoding.specs.LossyTexts.{chunks}
 use Rattle.sources.specs.Sources.{Utf16, Utf8, units_of}
 
 -- they have no characters
 pub no_bytes : (tables : TablesOf) (bytes : List ℕ) (faults : Faults) → length bytes ≡ 0 → units_of tables (Utf8 bytes faults) ≡ []
 unfolding chunks utf8_valid_len utf8_error_len chars
-no_bytes tables [] Refused none = refl
+no_bytes tables [] Rejected none = refl
 no_bytes tables [] Replaced none = refl
 no_bytes tables (x ∷ xs) faults none = absurd (omega (arith, none))
 

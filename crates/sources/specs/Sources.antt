@@ -9,7 +9,7 @@ use Rattle.decoding.specs.Encodings.{IsFirstLone, IsUtf16, utf16_text, utf8_text
 use Rattle.decoding.specs.LossyTexts.{utf8_lossy_text}
 use Rattle.decoding.specs.Offsets.{Spelled, codes_of, offset_of}
 use Rattle.decoding.specs.declared.fault.Faults.{Faults}
-use Rattle.decoding.specs.declared.fault.Faults.TheVariants.{Refused, Replaced}
+use Rattle.decoding.specs.declared.fault.Faults.TheVariants.{Rejected, Replaced}
 use Rattle.sources.specs.ClassNumbers.{IsClassNumber, units_numbered}
 use Rattle.sources.specs.Kinds.{AllAre, IsFirstOther}
 use Rattle.sources.specs.NumberedUnits.{AreNumbered, IsFirstUnnumbered, numbered_units}
@@ -42,7 +42,7 @@ IsEncoded (Utf16 units faults) = ⊤
 
 -- the characters that its code units spell; code points, classes and units are none
 abbrev pub text_in : SourceOf → List Spelled
-text_in (Utf8 bytes Refused) = utf8_text bytes
+text_in (Utf8 bytes Rejected) = utf8_text bytes
 text_in (Utf8 bytes Replaced) = utf8_lossy_text bytes
 text_in (Utf16 units faults) = utf16_text units
 text_in _ = []
@@ -77,9 +77,9 @@ abbrev pub IsWellFormed : SourceOf → Type 0
 IsWellFormed (Codes numbers) = AllAre IsScalar numbers
 IsWellFormed (Classes numbers) = AllAre IsClassNumber numbers
 IsWellFormed (Units numbered) = AreNumbered numbered
-IsWellFormed (Utf8 bytes Refused) = IsUtf8 bytes
+IsWellFormed (Utf8 bytes Rejected) = IsUtf8 bytes
 IsWellFormed (Utf8 bytes Replaced) = ⊤
-IsWellFormed (Utf16 units Refused) = IsUtf16 units
+IsWellFormed (Utf16 units Rejected) = IsUtf16 units
 IsWellFormed (Utf16 units Replaced) = ⊤
 
 -- the first unit that is part of no character is at this offset
@@ -87,7 +87,7 @@ abbrev pub IsFirstFault : SourceOf → ℕ → Type 0
 IsFirstFault (Codes numbers) at = IsFirstOther IsScalar numbers at
 IsFirstFault (Classes numbers) at = IsFirstOther IsClassNumber numbers at
 IsFirstFault (Units numbered) at = IsFirstUnnumbered numbered at
-IsFirstFault (Utf8 bytes Refused) at = (IsUtf8 bytes → ⊥) × (at ≡ utf8_valid_len bytes)
+IsFirstFault (Utf8 bytes Rejected) at = (IsUtf8 bytes → ⊥) × (at ≡ utf8_valid_len bytes)
 IsFirstFault (Utf8 bytes Replaced) at = ⊥
-IsFirstFault (Utf16 units Refused) at = IsFirstLone units at
+IsFirstFault (Utf16 units Rejected) at = IsFirstLone units at
 IsFirstFault (Utf16 units Replaced) at = ⊥

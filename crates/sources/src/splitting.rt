@@ -152,7 +152,7 @@ fn split_utf8<'t>(bytes: &'t [u8], faults: Faults, tables: &Tables) -> Option<(U
         return None;
     }
     let (c, width) = match faults {
-        Faults::Refused => first_of_utf8(bytes),
+        Faults::Rejected => first_of_utf8(bytes),
         Faults::Replaced => first_of_lossy(bytes),
     };
     Some((tables.unit(c), Source::Utf8(&bytes[width..], faults)))
@@ -186,8 +186,8 @@ impl<'t> Source<'t> {
             Source::Codes(codes) => check_codes(codes),
             Source::Classes(numbers) => check_classes(numbers),
             Source::Units(numbered) => check_units(numbered),
-            Source::Utf8(bytes, Faults::Refused) => check_utf8(bytes),
-            Source::Utf16(text, Faults::Refused) => check_utf16(text),
+            Source::Utf8(bytes, Faults::Rejected) => check_utf8(bytes),
+            Source::Utf16(text, Faults::Rejected) => check_utf16(text),
             Source::Utf8(_, Faults::Replaced) | Source::Utf16(_, Faults::Replaced) => Ok(()),
         }
     }

@@ -10,7 +10,7 @@ use Rattle.ucd_table.proofs.StepsLemmas.{rises_from}
 use Rattle.ucd_normal.specs.Decomposition.{expand}
 use Rattle.ucd_normal.proofs.DecompositionLemmas.{decomposition_by_tree, decomposition_stepped}
 use Rattle.unicode_normalization.specs.Order.{canonical_order, sink}
-use Rattle.table_constants.proofs.BracketConstants.{AreBracketConstants, Numbers, bracket_said, bracket_steps, same_bracket, same_bracket-exact}
+use Rattle.table_constants.proofs.BracketConstants.{AreBracketConstants, Numbers, stated_brackets, bracket_steps, same_bracket, same_bracket-exact}
 use Rattle.table_constants.proofs.Faultless.{fine}
 use Rattle.table_constants.proofs.Numbered.{counts_up, decompositions_with, each_numbered, keyed_with, nfd_with}
 use Rattle.table_constants.proofs.SpanSteps.{rows}
@@ -25,13 +25,13 @@ bracket_stages = record { numbers = NUMBERS; values = VALUES }
 abbrev pub numbers : Numbers
 numbers = record { numbering = numbering; decompositions = decompositions }
 
-faultless : fine 0 0 0 (bracket_said BRACKETS) ≡ true
-unfolding bracket_said pair_line_says fine
+faultless : fine 0 0 0 (stated_brackets BRACKETS) ≡ true
+unfolding stated_brackets pair_line_says fine
 faultless = refl
 
 -- the kit's decompositions of the characters that keys stand for are these
-are_decomposed : decompositions_with decomposition_by_tree (data_of (bracket_said BRACKETS)) ≡ decompositions
-unfolding bracket_said pair_line_says decompositions decompositions_with nfd_with tables decomposition_stepped expand canonical_order sink
+are_decomposed : decompositions_with decomposition_by_tree (data_of (stated_brackets BRACKETS)) ≡ decompositions
+unfolding stated_brackets pair_line_says decompositions decompositions_with nfd_with tables decomposition_stepped expand canonical_order sink
 are_decomposed = refl
 
 counting : counts_up 0 numbering ≡ true
@@ -42,8 +42,8 @@ numbered : each_numbered numbering decompositions ≡ true
 unfolding numbering decompositions
 numbered = refl
 
-keyed : SPANS ≡ keyed_with numbering (data_of (bracket_said BRACKETS)) decompositions
-unfolding bracket_said pair_line_says numbering decompositions keyed_with
+keyed : SPANS ≡ keyed_with numbering (data_of (stated_brackets BRACKETS)) decompositions
+unfolding stated_brackets pair_line_says numbering decompositions keyed_with
 keyed = refl
 
 rising : rises_from 0 (rows SPANS) ≡ true

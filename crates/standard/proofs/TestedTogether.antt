@@ -6,7 +6,7 @@ use Rattle.ucdfiles.specs.Files.{StateTables}
 use Rattle.ucdfiles.specs.Tables.{AreNeutral}
 use Rattle.ucd_table.proofs.Computing.{tables}
 use Rattle.table_constants.proofs.BracketConstants.{brackets-StatesBrackets, brackets-steps, same_bracket}
-use Rattle.table_constants.proofs.ClassConstants.{class_said, classes-StatesClasses, classes-steps}
+use Rattle.table_constants.proofs.ClassConstants.{stated_classes, classes-StatesClasses, classes-steps}
 use Rattle.table_constants.proofs.MirrorConstants.{mirrors-StatesMirrors}
 use Rattle.table_constants.proofs.NeutralConstants.{all_from, constants-AreNeutral, neutral_steps}
 use Rattle.table_constants.proofs.SpanSteps.{any_steps}
@@ -17,7 +17,7 @@ use Rattle.standard.proofs.TestedClasses.{class_stages, tested_classes}
 use Rattle.standard.proofs.TestedMirrors.{mirror_stages, tested_mirrors}
 
 each_neutral : all_from 0 (neutral_steps CLASSES SPANS) ≡ true
-unfolding class_said class_line_says tables any_steps same_bracket all_from
+unfolding stated_classes class_line_says tables any_steps same_bracket all_from
 each_neutral = refl
 
 pub tested_neutral : AreNeutral class_stages bracket_stages

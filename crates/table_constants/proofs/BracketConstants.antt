@@ -53,8 +53,8 @@ same_bracket-exact (Close a) (Open b) h = cc
 same_bracket-exact (Close a) (Close b) h = ap Close (same_key a b (eqb-true a.0 b.0 h))
 
 -- what the lines of the file state
-unfoldable pub bracket_said : List ℕ → List (FileLine SidedBracket)
-bracket_said bytes = map (pair_line_says bracket_in) (lines_of bytes)
+unfoldable pub stated_brackets : List ℕ → List (FileLine SidedBracket)
+stated_brackets bytes = map (pair_line_says bracket_in) (lines_of bytes)
 
 -- the brackets of the code points, as steps
 abbrev pub bracket_steps : List (Span Bracket) → List (Step Bracket)
@@ -67,11 +67,11 @@ pub record Numbers : Type 0 where
 
 -- the stages and the brackets in order pass the tests for the bytes of the file
 pub record AreBracketConstants (bytes : List ℕ) (numbers : Numbers) (spans : List (Span Bracket)) (stages : Stages Bracket) : Type 0 where
-  pub faultless : fine 0 0 0 (bracket_said bytes) ≡ true
-  pub decomposed : decompositions_with decomposition_by_tree (data_of (bracket_said bytes)) ≡ numbers.decompositions
+  pub faultless : fine 0 0 0 (stated_brackets bytes) ≡ true
+  pub decomposed : decompositions_with decomposition_by_tree (data_of (stated_brackets bytes)) ≡ numbers.decompositions
   pub counting : counts_up 0 numbers.numbering ≡ true
   pub numbered : each_numbered numbers.numbering numbers.decompositions ≡ true
-  pub keyed : spans ≡ keyed_with numbers.numbering (data_of (bracket_said bytes)) numbers.decompositions
+  pub keyed : spans ≡ keyed_with numbers.numbering (data_of (stated_brackets bytes)) numbers.decompositions
   pub rising : rises_from 0 (rows spans) ≡ true
   pub agreeing : stages_ok same_bracket same_bracket-exact No stages.numbers stages.values (bracket_steps spans) ≡ true
 
@@ -92,31 +92,31 @@ module _ (bytes : List ℕ) (numbers : Numbers) (spans : List (Span Bracket)) (s
   brackets-IsTableOf = looks
 
   abbrev stated : Stated SidedBracket
-  stated = record { data_lines = data_of (bracket_said bytes); default_lines = defaults_of (bracket_said bytes) }
+  stated = record { data_lines = data_of (stated_brackets bytes); default_lines = defaults_of (stated_brackets bytes) }
 
-  stands : AreStatedBy (pair_line_says bracket_in) stated (lines_of bytes)
-  unfolding bracket_said
-  stands = record { finds = λ c. refl; meets = λ span. refl; counts = refl; defaults = refl }
+  represents : AreStatedBy (pair_line_says bracket_in) stated (lines_of bytes)
+  unfolding stated_brackets
+  represents = record { finds = λ c. refl; meets = λ span. refl; counts = refl; defaults = refl }
 
   faultless_file : first_fault bracket_fault [] (lines_of bytes) ≡ None
-  unfolding bracket_said
+  unfolding stated_brackets
   faultless_file = fine-none (pair_line_says bracket_in) Twice (lines_of bytes) tests.faultless
 
-  are_decomposed : decompositions_of (data_of (bracket_said bytes)) ≡ numbers.decompositions
-  are_decomposed = decompositions_by_tree (data_of (bracket_said bytes)) ∙ tests.decomposed
+  are_decomposed : decompositions_of (data_of (stated_brackets bytes)) ≡ numbers.decompositions
+  are_decomposed = decompositions_by_tree (data_of (stated_brackets bytes)) ∙ tests.decomposed
 
-  keyed_spans : spans ≡ map (keyed_span (key_in numbers.numbering)) (data_of (bracket_said bytes))
+  keyed_spans : spans ≡ map (keyed_span (key_in numbers.numbering)) (data_of (stated_brackets bytes))
   keyed_spans =
-      let data_lines = data_of (bracket_said bytes) in
+      let data_lines = data_of (stated_brackets bytes) in
       tests.keyed ∙ ap (keyed_with numbers.numbering data_lines) (sym are_decomposed) ∙ keyed_with-decompositions numbers.numbering data_lines
 
-  are_keyed : AreKeyed (data_of (bracket_said bytes)) spans
+  are_keyed : AreKeyed (data_of (stated_brackets bytes)) spans
   are_keyed = record {
     numbers = numbers.numbering;
     numbering = counts_up-IsNumbering numbers.numbering tests.counting;
-    numbered = each_numbered-AreNumbered numbers.numbering (data_of (bracket_said bytes)) (ap (each_numbered numbers.numbering) are_decomposed ∙ tests.numbered);
+    numbered = each_numbered-AreNumbered numbers.numbering (data_of (stated_brackets bytes)) (ap (each_numbered numbers.numbering) are_decomposed ∙ tests.numbered);
     keyed = keyed_spans;
   }
 
   pub brackets-StatesBrackets : StatesBrackets bytes (bracket_by stages)
-  brackets-StatesBrackets = states-brackets bytes stated stands spans are_keyed faultless_file (bracket_by stages) looks
+  brackets-StatesBrackets = states-brackets bytes stated represents spans are_keyed faultless_file (bracket_by stages) looks

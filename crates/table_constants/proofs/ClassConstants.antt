@@ -80,18 +80,18 @@ pub same_class-exact : (x y : Class) → same_class x y ≡ true → x ≡ y
 same_class-exact x y h = sym (class_back x) ∙ ap class_numbered (eqb-true _ _ h) ∙ class_back y
 
 -- what the lines of the file state
-unfoldable pub class_said : List ℕ → List (FileLine Class)
-class_said bytes = map class_line_says (lines_of bytes)
+unfoldable pub stated_classes : List ℕ → List (FileLine Class)
+stated_classes bytes = map class_line_says (lines_of bytes)
 
 -- the classes of the code points, as steps
 abbrev pub class_steps : List ℕ → List (Step Class)
-class_steps bytes = map_steps (λ o. unwrap_or o L) (stated_steps (data_of (class_said bytes)) (defaults_of (class_said bytes)))
+class_steps bytes = map_steps (λ o. unwrap_or o L) (stated_steps (data_of (stated_classes bytes)) (defaults_of (stated_classes bytes)))
 
 -- the stages pass the tests for the bytes of the file
 pub record AreClassConstants (bytes : List ℕ) (stages : Stages Class) : Type 0 where
-  pub faultless : fine 0 0 0 (class_said bytes) ≡ true
-  pub rising : rises_from 0 (rows (data_of (class_said bytes))) ≡ true
-  pub straight : each_straight (reverse (defaults_of (class_said bytes))) ≡ true
+  pub faultless : fine 0 0 0 (stated_classes bytes) ≡ true
+  pub rising : rises_from 0 (rows (data_of (stated_classes bytes))) ≡ true
+  pub straight : each_straight (reverse (defaults_of (stated_classes bytes))) ≡ true
   pub agreeing : stages_ok same_class same_class-exact L stages.numbers stages.values (class_steps bytes) ≡ true
 
 module _ (bytes : List ℕ) (stages : Stages Class) (tests : AreClassConstants bytes stages) where
@@ -102,23 +102,23 @@ module _ (bytes : List ℕ) (stages : Stages Class) (tests : AreClassConstants b
   unfolding class_by
   classes-steps c le = stages_ok-stage_at same_class same_class-exact L stages.numbers stages.values (class_steps bytes) tests.agreeing c L le
 
-  looks : (c : ℕ) → c ≤ 0x10FFFF → class_by stages c ≡ unwrap_or (value_in (data_of (class_said bytes)) (defaults_of (class_said bytes)) c) L
+  looks : (c : ℕ) → c ≤ 0x10FFFF → class_by stages c ≡ unwrap_or (value_in (data_of (stated_classes bytes)) (defaults_of (stated_classes bytes)) c) L
   looks c le =
-      let data_lines = data_of (class_said bytes) in
-      let default_lines = defaults_of (class_said bytes) in
+      let data_lines = data_of (stated_classes bytes) in
+      let default_lines = defaults_of (stated_classes bytes) in
       classes-steps c le
       ∙ sym (ap (λ o. unwrap_or o L) (stated_steps-give data_lines default_lines c tests.rising tests.straight) ∙ step_value-map_steps (λ (o : Option Class). unwrap_or o L) None (stated_steps data_lines default_lines) c)
 
   abbrev stated : Stated Class
-  stated = record { data_lines = data_of (class_said bytes); default_lines = defaults_of (class_said bytes) }
+  stated = record { data_lines = data_of (stated_classes bytes); default_lines = defaults_of (stated_classes bytes) }
 
-  stands : AreStatedBy class_line_says stated (lines_of bytes)
-  unfolding class_said
-  stands = record { finds = λ c. refl; meets = λ span. refl; counts = refl; defaults = refl }
+  represents : AreStatedBy class_line_says stated (lines_of bytes)
+  unfolding stated_classes
+  represents = record { finds = λ c. refl; meets = λ span. refl; counts = refl; defaults = refl }
 
   faultless_file : first_fault class_fault [] (lines_of bytes) ≡ None
-  unfolding class_said
+  unfolding stated_classes
   faultless_file = fine-none class_line_says Overlap (lines_of bytes) tests.faultless
 
   pub classes-StatesClasses : StatesClasses bytes (class_by stages)
-  classes-StatesClasses = states-classes bytes stated (class_by stages) faultless_file stands looks
+  classes-StatesClasses = states-classes bytes stated (class_by stages) faultless_file represents looks

@@ -26,8 +26,8 @@ unfoldable pub all_from : ℕ → List (Step Bool) → Bool
 all_from n [] = true
 all_from n (s ∷ ss) =
     let empty = all_from n ss in
-    let held = s.1 && all_from s.0 ss in
-    cond (nat_le s.0 n) empty held
+    let stored = s.1 && all_from s.0 ss in
+    cond (nat_le s.0 n) empty stored
 
 all_true : (ss : List (Step Bool)) (d : Bool) (n c : ℕ) → d ≡ true → n ≤ c → all_from n ss ≡ true → step_value d ss c ≡ true
 unfolding all_from
@@ -35,8 +35,8 @@ all_true [] d n c e le h = step_value-nil d c ∙ e
 all_true (s ∷ ss) d n c e le h =
     cond_both (nat_le s.0 n) (all_from n ss) (s.1 && all_from s.0 ss) (λ b. b ≡ true → step_value d (s ∷ ss) c ≡ true)
     (λ empty rest. let low = leb-true s.0 n empty in step_value-later d s ss c (omega arith) ∙ all_true ss d n c e le rest)
-    (λ _ held.
-    let parts = and_parts s.1 (all_from s.0 ss) held in
+    (λ _ stored.
+    let parts = and_parts s.1 (all_from s.0 ss) stored in
     elim (cases_lt c s.0) [
       | inl here ↦ step_value-here d s ss c here ∙ parts.0
       | inr later ↦ step_value-later d s ss c later ∙ all_true ss d s.0 c e later parts.1

@@ -157,9 +157,9 @@ module _ {V : Type 0} (eq : V → V → Bool) (exact : (x y : V) → eq x y ≡ 
     block_at : (b : ℕ) → b < length numbers → Holds 128 (drop (slice_index_or numbers b 0 * 128) values) (0 + b * 128) ss
     unfolding stages_ok blocks
     block_at b lt =
-        let held = numbers_ok-true blocks numbers 0 ss (and_parts (length numbers == 8704) _ ok).1 b lt in
-        let room = held.room in
-        subst (λ vs. Holds 128 vs (0 + b * 128) ss) (get_or-block_starts (length values / 128) values (slice_index_or numbers b 0) (omega arith)) held
+        let stored = numbers_ok-true blocks numbers 0 ss (and_parts (length numbers == 8704) _ ok).1 b lt in
+        let room = stored.room in
+        subst (λ vs. Holds 128 vs (0 + b * 128) ss) (get_or-block_starts (length values / 128) values (slice_index_or numbers b 0) (omega arith)) stored
 
     stages : Stages V
     stages = record { numbers = numbers; values = values }

@@ -6,7 +6,7 @@ use Rattle.ucdfiles.specs.ClassFile.{StatesClasses}
 use Rattle.ucdfiles.specs.PairFiles.{StatesBrackets, StatesMirrors}
 use Rattle.ucdfiles.specs.Files.{StateTables}
 use Rattle.ucdfiles.specs.Stages.{Stages}
-use Rattle.ucdfiles.specs.Tables.{TablesOf, AreNeutral, class_by, bracket_by, glyph_by}
+use Rattle.ucdfiles.specs.Tables.{TablesOf, AreNeutral, class_by, bracket_by, mirror_by}
 
 module _ (class_stages : Stages Class) (bracket_stages : Stages Bracket) where
   -- a property of the constants holds of the tables that are made from them
@@ -23,5 +23,5 @@ module _ (class_stages : Stages Class) (bracket_stages : Stages Bracket) where
         subst (λ (t : TablesOf). StateTables of_class of_bracket of_mirror t) (sym of_tables) record {
           by_classes = subst (λ (t : Stages Class). StatesClasses of_class (class_by t)) (sym of_classes) state.by_classes;
           by_brackets = subst (λ (t : Stages Bracket). StatesBrackets of_bracket (bracket_by t)) (sym of_brackets) state.by_brackets;
-          by_mirrors = subst (λ (t : Stages (Option ℕ)). StatesMirrors of_mirror (glyph_by t)) (sym of_mirrors) state.by_mirrors;
+          by_mirrors = subst (λ (t : Stages (Option ℕ)). StatesMirrors of_mirror (mirror_by t)) (sym of_mirrors) state.by_mirrors;
         }

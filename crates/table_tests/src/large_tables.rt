@@ -51,7 +51,7 @@ fn fault_of_lines(
 }
 
 /// Expects that one line more than allowed is reported as too many.
-fn tells_too_many(rt: &impl Abort, kind: TableKind, alloc: Global) -> io::Result<()> {
+fn reports_too_many(rt: &impl Abort, kind: TableKind, alloc: Global) -> io::Result<()> {
     let fault = fault_of_lines(kind, alloc, MOST + 1, b"")?;
     assert_eq!(rt; fault, Some(TableFault::TooMany(65_537)));
     Ok(())
@@ -92,7 +92,7 @@ fn are_brackets(rt: &impl Abort, table: &BracketTable) {
 
 #[test]
 fn as_many_brackets_as_allowed(rt: HostRuntime) -> Result<(), Fail> {
-    tells_too_many(&rt, TableKind::Brackets, rt.alloc())?;
+    reports_too_many(&rt, TableKind::Brackets, rt.alloc())?;
     let file = file_of(TableKind::Brackets, rt.alloc(), MOST, b"")?;
     let table = brackets(rt.alloc(), &file)?;
     are_brackets(&rt, &table);
@@ -113,7 +113,7 @@ fn are_mirror_images(rt: &impl Abort, table: &MirrorTable) {
 
 #[test]
 fn as_many_mirror_images_as_allowed(rt: HostRuntime) -> Result<(), Fail> {
-    tells_too_many(&rt, TableKind::Mirrors, rt.alloc())?;
+    reports_too_many(&rt, TableKind::Mirrors, rt.alloc())?;
     let file = file_of(TableKind::Mirrors, rt.alloc(), MOST, b"")?;
     let table = mirrors(rt.alloc(), &file)?;
     are_mirror_images(&rt, &table);
@@ -142,8 +142,8 @@ fn characters_of_an_earlier_line(rt: HostRuntime) -> Result<(), io::Error> {
                 TableFault::Twice(line),
             ),
         ] {
-            let answer = fault_of_lines(kind, rt.alloc(), count, end)?;
-            assert_eq!(rt; answer, Some(fault));
+            let outcome = fault_of_lines(kind, rt.alloc(), count, end)?;
+            assert_eq!(rt; outcome, Some(fault));
         }
     }
     Ok(())

@@ -31,8 +31,8 @@ const CLASS_FAULTS: [(&[u8], TableFault); 9] = [
 #[test]
 fn faults_of_classes(rt: HostRuntime) {
     for (file, fault) in CLASS_FAULTS {
-        let answer = fault_in(TableKind::Classes, rt.alloc(), file);
-        assert_eq!(rt; answer, Some(fault));
+        let outcome = fault_in(TableKind::Classes, rt.alloc(), file);
+        assert_eq!(rt; outcome, Some(fault));
     }
 }
 
@@ -48,8 +48,8 @@ fn write_data_lines(file: &mut impl Write) -> io::Result<()> {
 fn too_many_data_lines(rt: HostRuntime) -> Result<(), io::Error> {
     let mut file = Vec::new(rt.alloc());
     write_data_lines(&mut file)?;
-    let answer = fault_in(TableKind::Classes, rt.alloc(), &file);
-    assert_eq!(rt; answer, Some(TableFault::TooMany(65_537)));
+    let outcome = fault_in(TableKind::Classes, rt.alloc(), &file);
+    assert_eq!(rt; outcome, Some(TableFault::TooMany(65_537)));
     Ok(())
 }
 
@@ -65,8 +65,8 @@ fn write_default_lines(file: &mut impl Write) -> io::Result<()> {
 fn too_many_default_lines(rt: HostRuntime) -> Result<(), io::Error> {
     let mut file = Vec::new(rt.alloc());
     write_default_lines(&mut file)?;
-    let answer = fault_in(TableKind::Classes, rt.alloc(), &file);
-    assert_eq!(rt; answer, Some(TableFault::TooMany(1_025)));
+    let outcome = fault_in(TableKind::Classes, rt.alloc(), &file);
+    assert_eq!(rt; outcome, Some(TableFault::TooMany(1_025)));
     Ok(())
 }
 
@@ -77,8 +77,8 @@ fn over_long_lines(rt: HostRuntime) -> Result<(), Fail> {
     assert!(rt; file.len() == 65_537);
     file[0] = b'#';
     for kind in TABLE_KINDS {
-        let answer = fault_in(kind, rt.alloc(), &file);
-        assert_eq!(rt; answer, Some(TableFault::LineTooLong(1)));
+        let outcome = fault_in(kind, rt.alloc(), &file);
+        assert_eq!(rt; outcome, Some(TableFault::LineTooLong(1)));
     }
     Ok(())
 }
@@ -96,15 +96,15 @@ const CUT: [(TableKind, &[u8], TableFault); 6] = [
 /// Expects a read error if the source fails before the last byte.
 #[test]
 fn sources_that_fail(rt: HostRuntime) {
-    for (kind, file, behind) in CUT {
+    for (kind, file, following) in CUT {
         for count in 0..=file.len() {
             let fault = if count == file.len() {
-                behind
+                following
             } else {
                 TableFault::Read
             };
-            let answer = fault_of(kind, rt.alloc(), &mut CutSource::new(file, count));
-            assert_eq!(rt; answer, Some(fault), "behind {count} bytes");
+            let outcome = fault_of(kind, rt.alloc(), &mut CutSource::new(file, count));
+            assert_eq!(rt; outcome, Some(fault), "behind {count} bytes");
         }
     }
 }
@@ -131,8 +131,8 @@ fn a_source_that_had_failed(rt: HostRuntime) {
     let mut source = CutSource::new(b"", 0);
     assert!(rt; source.read(&mut [0; 1]).is_err());
     for kind in TABLE_KINDS {
-        let answer = fault_of(kind, rt.alloc(), &mut source);
-        assert_eq!(rt; answer, Some(TableFault::Read));
+        let outcome = fault_of(kind, rt.alloc(), &mut source);
+        assert_eq!(rt; outcome, Some(TableFault::Read));
     }
 }
 
@@ -164,16 +164,16 @@ const TEXTS: [(TableFault, &str); 11] = [
 ];
 
 /// Compares the text of an error.
-fn is_told(rt: &impl Abort, alloc: Global, fault: TableFault, text: &str) -> Result<(), Fail> {
-    let told = format!(in alloc; "{fault}")?;
-    assert_eq!(rt; told.as_str(), text);
+fn has_text(rt: &impl Abort, alloc: Global, fault: TableFault, text: &str) -> Result<(), Fail> {
+    let reported = format!(in alloc; "{fault}")?;
+    assert_eq!(rt; reported.as_str(), text);
     Ok(())
 }
 
 /// Does the same for each row.
-fn are_told(rt: &impl Abort, alloc: Global, rows: &[(TableFault, &str)]) -> Result<(), Fail> {
+fn have_texts(rt: &impl Abort, alloc: Global, rows: &[(TableFault, &str)]) -> Result<(), Fail> {
     for (fault, text) in rows {
-        is_told(rt, alloc, *fault, text)?;
+        has_text(rt, alloc, *fault, text)?;
     }
     Ok(())
 }
@@ -186,5 +186,5 @@ fn texts_of_faults(rt: HostRuntime) -> Result<(), Fail> {
     ] {
         assert_eq!(rt; (fault.name(), fault.line()), (name, line));
     }
-    are_told(&rt, rt.alloc(), &TEXTS)
+    have_texts(&rt, rt.alloc(), &TEXTS)
 }

@@ -72,8 +72,8 @@ order 0 1 2 3\n",
 fn explains(rt: &impl Abort, alloc: Global, row: &Row) {
     assert!(rt; row.classes.len() <= 16);
     let mut out = Vec::new(alloc);
-    let answer = print_explained_classes(alloc, &mut out, row.classes, row.direction);
-    assert_eq!(rt; answer, Ok(()));
+    let outcome = print_explained_classes(alloc, &mut out, row.classes, row.direction);
+    assert_eq!(rt; outcome, Ok(()));
     assert_eq!(rt; out.as_slice(), row.printed);
 }
 
@@ -93,8 +93,8 @@ fn says_what_rules_make_of_classes(rt: HostRuntime) {
 fn text_explains(rt: &impl Abort, alloc: Global, tables: &Tables, text: &[char], printed: &[u8]) {
     assert!(rt; text.len() <= 16);
     let mut out = Vec::new(alloc);
-    let answer = print_explained(alloc, &mut out, tables, text, Direction::Auto);
-    assert_eq!(rt; answer, Ok(()));
+    let outcome = print_explained(alloc, &mut out, tables, text, Direction::Auto);
+    assert_eq!(rt; outcome, Ok(()));
     assert_eq!(rt; out.as_slice(), printed);
 }
 
@@ -122,8 +122,8 @@ fn is_cut(rt: &impl Abort, alloc: Global, taken: usize) -> Result<(), Memory> {
     let mut bytes = vec![in alloc; 0_u8; taken]?;
     let mut short = bytes.as_mut_slice();
     let classes = [Class::R, Class::EN];
-    let answer = print_explained_classes(alloc, &mut short, &classes, Direction::Auto);
-    assert_eq!(rt; answer, Err(PrintFault::Write), "{taken}");
+    let outcome = print_explained_classes(alloc, &mut short, &classes, Direction::Auto);
+    assert_eq!(rt; outcome, Err(PrintFault::Write), "{taken}");
     Ok(())
 }
 

@@ -15,7 +15,7 @@ mod printed_levels;
 #[cfg(test)]
 mod printed_long;
 #[cfg(test)]
-mod printed_refused;
+mod printed_out_of_memory;
 #[cfg(test)]
 mod printed_reorder;
 #[cfg(test)]

@@ -29,8 +29,8 @@ fn prints_lines(
     assert!(rt; text.len() <= 100_000);
     let width = NonZeroU16::new(columns);
     let mut out = Vec::new(alloc);
-    let answer = print_reorder(alloc, &mut out, tables, text, Direction::Auto, width);
-    assert_eq!(rt; answer, Ok(()), "{columns}");
+    let outcome = print_reorder(alloc, &mut out, tables, text, Direction::Auto, width);
+    assert_eq!(rt; outcome, Ok(()), "{columns}");
     assert_eq!(rt; out.len(), bytes, "{columns}");
     ends_each_line(rt, &out, columns);
 }

@@ -57,7 +57,7 @@ fn fault_of<S: ByteSource, R: Abort>(
     source: &mut S,
     mut w: Failing,
 ) -> Result<(), TextFault> {
-    assert!(rt; source.most_left() <= 16_777_216);
+    assert!(rt; source.most_remaining() <= 16_777_216);
     let shown = Form::Reorder { columns: None };
     print_source(alloc, &mut w, tables, source, Direction::Auto, shown)
 }
@@ -98,8 +98,8 @@ fn says_first_that_the_source_failed(rt: HostRuntime) -> Result<(), Fail> {
         for count in [2, 4096, 9000] {
             assert!(rt; count <= text.len());
             let mut source = CutSource::new(&text, count);
-            let answer = fault_of(&rt, alloc, &tables, &mut source, at_once(kind));
-            assert_eq!(rt; answer, expected, "{count}");
+            let outcome = fault_of(&rt, alloc, &tables, &mut source, at_once(kind));
+            assert_eq!(rt; outcome, expected, "{count}");
         }
     }
     Ok(())
@@ -120,9 +120,9 @@ fn says_then_that_the_text_is_not_utf8(rt: HostRuntime) -> Result<(), Fail> {
             text.extend_from_slice(end)?;
             text.extend_from_slice(&lines(alloc, b'c', 3000)?)?;
             let mut source = SliceSource::new(&text);
-            let answer = fault_of(&rt, alloc, &tables, &mut source, at_once(kind));
-            assert_eq!(rt; answer, not_utf8(line, offset));
-            assert_eq!(rt; source.most_left(), 0);
+            let outcome = fault_of(&rt, alloc, &tables, &mut source, at_once(kind));
+            assert_eq!(rt; outcome, not_utf8(line, offset));
+            assert_eq!(rt; source.most_remaining(), 0);
         }
     }
     Ok(())
@@ -141,9 +141,9 @@ fn says_else_that_a_write_failed(rt: HostRuntime) -> Result<(), Fail> {
     for text in &texts {
         for kind in KINDS {
             let mut source = SliceSource::new(text);
-            let answer = fault_of(&rt, alloc, &tables, &mut source, at_once(kind));
-            assert_eq!(rt; answer, Err(TextFault::Write));
-            assert_eq!(rt; source.most_left(), 0);
+            let outcome = fault_of(&rt, alloc, &tables, &mut source, at_once(kind));
+            assert_eq!(rt; outcome, Err(TextFault::Write));
+            assert_eq!(rt; source.most_remaining(), 0);
         }
     }
     Ok(())
@@ -161,12 +161,12 @@ fn says_it_of_a_later_write_and_of_a_flush(rt: HostRuntime) -> Result<(), Fail> 
             kind,
         };
         let mut source = SliceSource::new(b"a\nb\n\xFF");
-        let answer = fault_of(&rt, alloc, &tables, &mut source, writer(ErrorKind::Other));
-        assert_eq!(rt; answer, not_utf8(3, 4));
+        let outcome = fault_of(&rt, alloc, &tables, &mut source, writer(ErrorKind::Other));
+        assert_eq!(rt; outcome, not_utf8(3, 4));
         let mut source = SliceSource::new(b"a\nb\n\xFF");
         let closed = writer(ErrorKind::BrokenPipe);
-        let answer = fault_of(&rt, alloc, &tables, &mut source, closed);
-        assert_eq!(rt; answer, Err(TextFault::NobodyReads));
+        let outcome = fault_of(&rt, alloc, &tables, &mut source, closed);
+        assert_eq!(rt; outcome, Err(TextFault::NobodyReads));
     }
     Ok(())
 }
@@ -180,8 +180,8 @@ fn reads_no_further_where_nobody_reads(rt: HostRuntime) -> Result<(), Fail> {
     text.extend_from_slice(b"\xFF")?;
     let mut source = SliceSource::new(&text);
     let closed = at_once(ErrorKind::BrokenPipe);
-    let answer = fault_of(&rt, alloc, &tables, &mut source, closed);
-    assert_eq!(rt; answer, Err(TextFault::NobodyReads));
-    assert_eq!(rt; source.most_left(), 10_001 - 4096);
+    let outcome = fault_of(&rt, alloc, &tables, &mut source, closed);
+    assert_eq!(rt; outcome, Err(TextFault::NobodyReads));
+    assert_eq!(rt; source.most_remaining(), 10_001 - 4096);
     Ok(())
 }

@@ -78,8 +78,8 @@ paragraph 2 level 0\n3 0061 L 0\n",
 fn prints(rt: &impl Abort, alloc: Global, tables: &Tables, row: &Row) {
     assert!(rt; row.text.len() <= 16);
     let mut out = Vec::new(alloc);
-    let answer = print_levels(alloc, &mut out, tables, row.text, row.direction);
-    assert_eq!(rt; answer, Ok(()));
+    let outcome = print_levels(alloc, &mut out, tables, row.text, row.direction);
+    assert_eq!(rt; outcome, Ok(()));
     assert_eq!(rt; out.as_slice(), row.printed);
 }
 
@@ -102,8 +102,8 @@ fn are_cut(rt: &impl Abort, alloc: Global, tables: &Tables) {
     for taken in [0, 5, 30] {
         let mut bytes = [0; 30];
         let mut short = &mut bytes[..taken];
-        let answer = print_levels(alloc, &mut short, tables, &['a'], Direction::Auto);
-        assert_eq!(rt; answer, Err(PrintFault::Write));
+        let outcome = print_levels(alloc, &mut short, tables, &['a'], Direction::Auto);
+        assert_eq!(rt; outcome, Err(PrintFault::Write));
     }
 }
 

@@ -29,8 +29,8 @@ impl Write for Counted {
 fn levels_take(rt: &impl Abort, alloc: Global, tables: &Tables, text: &[char], bytes: usize) {
     assert!(rt; text.len() <= 16_777_216);
     let mut out = Counted { bytes: 0 };
-    let answer = print_levels(alloc, &mut out, tables, text, Direction::Auto);
-    assert_eq!(rt; answer, Ok(()), "{bytes}");
+    let outcome = print_levels(alloc, &mut out, tables, text, Direction::Auto);
+    assert_eq!(rt; outcome, Ok(()), "{bytes}");
     assert_eq!(rt; out.bytes, bytes);
 }
 
@@ -38,8 +38,8 @@ fn levels_take(rt: &impl Abort, alloc: Global, tables: &Tables, text: &[char], b
 fn shown_takes(rt: &impl Abort, alloc: Global, tables: &Tables, text: &[char], bytes: usize) {
     assert!(rt; text.len() <= 16_777_216);
     let mut out = Counted { bytes: 0 };
-    let answer = print_reorder(alloc, &mut out, tables, text, Direction::Auto, None);
-    assert_eq!(rt; answer, Ok(()), "{bytes}");
+    let outcome = print_reorder(alloc, &mut out, tables, text, Direction::Auto, None);
+    assert_eq!(rt; outcome, Ok(()), "{bytes}");
     assert_eq!(rt; out.bytes, bytes);
 }
 

@@ -73,8 +73,8 @@ fn prints(rt: &impl Abort, alloc: Global, tables: &Tables, row: &Row) {
     assert!(rt; row.text.len() <= 16);
     let columns = row.columns.and_then(NonZeroU16::new);
     let mut out = Vec::new(alloc);
-    let answer = print_reorder(alloc, &mut out, tables, row.text, row.direction, columns);
-    assert_eq!(rt; answer, Ok(()));
+    let outcome = print_reorder(alloc, &mut out, tables, row.text, row.direction, columns);
+    assert_eq!(rt; outcome, Ok(()));
     assert_eq!(rt; out.as_slice(), row.printed);
 }
 
@@ -141,8 +141,8 @@ fn are_cut(rt: &impl Abort, alloc: Global, tables: &Tables) {
     for taken in [0, 2, 3] {
         let mut bytes = [0; 3];
         let mut short = &mut bytes[..taken];
-        let answer = print_reorder(alloc, &mut short, tables, &text, Direction::Rtl, None);
-        assert_eq!(rt; answer, Err(PrintFault::Write));
+        let outcome = print_reorder(alloc, &mut short, tables, &text, Direction::Rtl, None);
+        assert_eq!(rt; outcome, Err(PrintFault::Write));
     }
 }
 

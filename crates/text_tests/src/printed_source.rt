@@ -36,9 +36,9 @@ fn prints<S: ByteSource>(
     end: Result<(), TextFault>,
 ) {
     let mut out = Vec::new(alloc);
-    assert!(rt; source.most_left() <= 16_777_216);
-    let answer = print_source(alloc, &mut out, tables, source, Direction::Auto, form);
-    assert_eq!(rt; answer, end);
+    assert!(rt; source.most_remaining() <= 16_777_216);
+    let outcome = print_source(alloc, &mut out, tables, source, Direction::Auto, form);
+    assert_eq!(rt; outcome, end);
     assert_eq!(rt; out.as_slice(), printed);
 }
 
@@ -184,9 +184,9 @@ fn says_that_the_write_of_a_later_paragraph_failed(rt: HostRuntime) -> Result<()
     let mut bytes = [0; 40];
     let mut short = &mut bytes[..];
     let mut source = SliceSource::new(TEXT);
-    assert!(rt; source.most_left() <= 16);
+    assert!(rt; source.most_remaining() <= 16);
     let (auto, levels) = (Direction::Auto, Form::Levels);
-    let answer = print_source(rt.alloc(), &mut short, &tables, &mut source, auto, levels);
-    assert_eq!(rt; answer, Err(TextFault::Write));
+    let outcome = print_source(rt.alloc(), &mut short, &tables, &mut source, auto, levels);
+    assert_eq!(rt; outcome, Err(TextFault::Write));
     Ok(())
 }

@@ -31,7 +31,7 @@ class_line_says-data line before content le cut trim some =
 
 pub class_line_says-comment : (line before content comment : List ℕ) → length line ≤ longest_line → before ≡ before_first (λ b. b == 35) line → content ≡ trimmed before → length content ≡ 0
     → comment ≡ after_first (λ b. b == 35) line → class_line_says line ≡ comment_says (without_blanks_before comment)
-class_line_says-comment line before content comment le cut trim none behind =
+class_line_says-comment line before content comment le cut trim none following =
     grind (arith, class_line_says-short, class_content_says-none)
 
 no_comment : (line : List ℕ) → before_first (λ b. b == 35) line ≡ line → [] ≡ after_first (λ b. b == 35) line

@@ -4,7 +4,7 @@ use Rattle.std.specs.Borrow.{Bor}
 use Rattle.std.specs.Option.{option_map}
 use Rattle.units.specs.LineCutting.{Cutting}
 use Rattle.units.specs.Lines.{CutsInto, saturated}
-use Rattle.units.specs.LineAnswers.{Finishes}
+use Rattle.units.specs.LineReturns.{Finishes}
 use Rattle.units.proofs.LineAppending.{ended_lines-CutsInto}
 use Rattle.units.proofs.LineReading.{never_both}
 use Rattle.units.specs.Text.{lines_of}
@@ -16,7 +16,7 @@ use Rattle.ucdfiles.specs.Reading.{Reads}
 use Rattle.ucdfiles.proofs.FirstFault.{first_fault-at, first_fault-push, fault_of_line-is}
 use Rattle.ucdfiles.proofs.LinesWith.{lines_of-ended, lines_of-begun}
 
-module _ (before after : List (List ℕ) → Type 0) (fault : List (List ℕ) → List ℕ → Option Fault) (cutter : Cutting) (b : List ℕ) (r : Reads before fault cutter b) where
+module _ (before after : List (List ℕ) → Type 0) (fault : List (List ℕ) → List ℕ → Option Fault) (splitter : Cutting) (b : List ℕ) (r : Reads before fault splitter b) where
   same : (lines : List (List ℕ)) (rest : List ℕ) → CutsInto b lines rest → lines ≡ r.lines
   same lines rest whole = sym (ended_lines-CutsInto b lines rest whole) ∙ ended_lines-CutsInto b r.lines r.rest r.whole
 
@@ -39,7 +39,7 @@ module _ (before after : List (List ℕ) → Type 0) (fault : List (List ℕ) �
 
     pub end-err : (e : TableFault) → ((lines : List (List ℕ)) → before lines → (e ≡ Memory) ⊎ (option_map (λ f. fault_at f last.0) (fault lines last.1.now) ≡ Some e))
         → (e ≡ Memory) ⊎ (first_fault fault [] (lines_of b) ≡ Some e)
-    end-err e refuses = elim (refuses r.lines r.table) [
+    end-err e rejects = elim (rejects r.lines r.table) [
       | inl memory ↦ inl memory
       | inr faulty ↦ inr (ap (first_fault fault []) begun
           ∙ first_fault-at fault r.lines last.1.now [] e r.faultless (fault_of_line-is (fault r.lines last.1.now) (length r.lines) last.0 e

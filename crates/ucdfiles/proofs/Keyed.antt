@@ -21,18 +21,18 @@ use Rattle.ucdfiles.proofs.Rising.{find-revalued}
 use Rattle.ucdfiles.proofs.PairValues.{value_of-pairs}
 
 module _ (old new : List (List ℕ × ℕ)) (keeps : Keeps old new) where
-  number-kept : (a : ℕ) → IsNumbered old a → number_in new (nfd (a ∷ [])) ≡ number_in old (nfd (a ∷ []))
-  number-kept a is = keeps (nfd (a ∷ [])) is.0 is.1 ∙ sym is.1
+  number-unchanged : (a : ℕ) → IsNumbered old a → number_in new (nfd (a ∷ [])) ≡ number_in old (nfd (a ∷ []))
+  number-unchanged a is = keeps (nfd (a ∷ [])) is.0 is.1 ∙ sym is.1
 
-  keyed-kept : (spans : List (Span SidedBracket)) → AreNumbered old spans → map (keyed_span (key_in new)) spans ≡ map (keyed_span (key_in old)) spans
-  keyed-kept [] are = refl
-  keyed-kept (s ∷ spans) are =
-      let own = number-kept s.value.keyed_by (All-head (λ (s : Span SidedBracket). IsNumbered old s.value.keyed_by) s spans are) in
-      let rest = keyed-kept spans (All-tail (λ (s : Span SidedBracket). IsNumbered old s.value.keyed_by) s spans are) in
+  keyed-unchanged : (spans : List (Span SidedBracket)) → AreNumbered old spans → map (keyed_span (key_in new)) spans ≡ map (keyed_span (key_in old)) spans
+  keyed-unchanged [] are = refl
+  keyed-unchanged (s ∷ spans) are =
+      let own = number-unchanged s.value.keyed_by (All-head (λ (s : Span SidedBracket). IsNumbered old s.value.keyed_by) s spans are) in
+      let rest = keyed-unchanged spans (All-tail (λ (s : Span SidedBracket). IsNumbered old s.value.keyed_by) s spans are) in
       rw (own, rest) refl
 
-  numbered-kept : (spans : List (Span SidedBracket)) → AreNumbered old spans → AreNumbered new spans
-  numbered-kept spans are = λ k d lt. (let h = are k d lt in (h.0, keeps _ _ h.1))
+  numbered-unchanged : (spans : List (Span SidedBracket)) → AreNumbered old spans → AreNumbered new spans
+  numbered-unchanged spans are = λ k d lt. (let h = are k d lt in (h.0, keeps _ _ h.1))
 
 -- the brackets of the spans so far
 pub record AreKeyedSoFar (numbers : List (List ℕ × ℕ)) (spans : List (Span SidedBracket)) (brackets : List (Span Bracket)) : Type 0 where
@@ -44,10 +44,10 @@ pub keyed-more : (old new : List (List ℕ × ℕ)) (spans : List (Span SidedBra
     → AreKeyedSoFar old spans brackets → IsNumbering new → Keeps old new → number_in new (nfd (span.value.keyed_by ∷ [])) ≡ Some n
     → AreKeyedSoFar new (spans ++ span ∷ []) (brackets ++ record { first = span.first; last = span.last; value = bracket_with span.value.side (record { 0 = n }) } ∷ [])
 keyed-more old new spans span brackets n h numbering keeps is =
-    let front : brackets ≡ map (keyed_span (key_in new)) spans = h.keyed ∙ sym (keyed-kept old new keeps spans h.numbered) in
+    let front : brackets ≡ map (keyed_span (key_in new)) spans = h.keyed ∙ sym (keyed-unchanged old new keeps spans h.numbered) in
     record {
       numbering = numbering;
-      numbered = All-push (λ (s : Span SidedBracket). IsNumbered new s.value.keyed_by) spans span (numbered-kept old new keeps spans h.numbered) (n, is);
+      numbered = All-push (λ (s : Span SidedBracket). IsNumbered new s.value.keyed_by) spans span (numbered-unchanged old new keeps spans h.numbered) (n, is);
       keyed = rw (front, map-append, is) refl;
     }
 
@@ -55,8 +55,8 @@ find-numbered : (numbers : List (List ℕ × ℕ)) (c : ℕ) (spans : List (Span
     → value_by (find (holds c) spans) None ≡ Some stated → IsNumbered numbers stated.keyed_by
 find-numbered numbers c [] stated are is = absurd (let bad : ⊥ = cc in bad)
 find-numbered numbers c (s ∷ spans) stated are is = elim (cases_Bool (holds c s)) [
-  | inl held ↦
-      let found : Some s.value ≡ Some stated = rw held at is in
+  | inl stored ↦
+      let found : Some s.value ≡ Some stated = rw stored at is in
       let same : s.value ≡ stated = cc in
       let P : SidedBracket → Type 0 = λ v. IsNumbered numbers v.keyed_by in
       subst P same (All-head (λ (s : Span SidedBracket). IsNumbered numbers s.value.keyed_by) s spans are)
@@ -72,10 +72,10 @@ bracket_stated-keyed : (key : ℕ → Key) (o : Option (Span SidedBracket)) → 
 bracket_stated-keyed key None = refl
 bracket_stated-keyed key (Some span) = refl
 
-module _ (bytes : List ℕ) (stated : Stated SidedBracket) (stands : AreStatedBy (pair_line_says bracket_in) stated (lines_of bytes)) (brackets : List (Span Bracket)) (keyed : AreKeyed stated.data_lines brackets) where
+module _ (bytes : List ℕ) (stated : Stated SidedBracket) (represents : AreStatedBy (pair_line_says bracket_in) stated (lines_of bytes)) (brackets : List (Span Bracket)) (keyed : AreKeyed stated.data_lines brackets) where
   bracket_of-data : (c : ℕ) → bracket_of bytes c ≡ value_by (find (holds c) stated.data_lines) None
   unfolding bracket_of
-  bracket_of-data c = value_of-pairs bracket_in stated bytes c stands
+  bracket_of-data c = value_of-pairs bracket_in stated bytes c represents
 
   is_numbered : (a : ℕ) → IsKeyed bytes a → IsNumbered keyed.numbers a
   is_numbered a is =

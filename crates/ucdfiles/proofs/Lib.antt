@@ -1,7 +1,7 @@
 pub mod ClassLines
 pub mod Rising
 pub mod LinesWith
-pub mod Settled
+pub mod Decided
 pub mod FirstFault
 pub mod OneCut
 pub mod Pieces

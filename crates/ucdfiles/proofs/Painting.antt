@@ -8,7 +8,7 @@ use Rattle.std.proofs.lemmas.List.Folds.{find-append}
 use Rattle.std.proofs.lemmas.Grind.{reverse_onto}
 use Rattle.ucdfiles.specs.declared.span.Span.{Span}
 use Rattle.ucdfiles.specs.Spans.{holds, IsRising, value_by, value_in}
-use Rattle.ucdfiles.proofs.Rising.{find-none, not_held_before}
+use Rattle.ucdfiles.proofs.Rising.{find-none, outside_before}
 use Rattle.ucdfiles.specs.Stages.{value_over, value_over_all}
 
 module _ {V : Type 0} where
@@ -53,14 +53,14 @@ module _ {V : Type 0} where
   }
 
   -- if the first of some spans in order contains a code point, the spans after it don't
-  none_behind : (c : ℕ) (s : Span V) (spans : List (Span V)) → IsRising (s ∷ spans) → holds c s ≡ true → find (holds c) spans ≡ None
-  none_behind c s spans rising held = find-none (holds c) spans (λ k d lt. not_held_before c (get_or spans k d) (omega (arith, leb-true c s.last ((and_parts _ _ held).1), rising.apart 0 (suc k) d (omega arith) (omega arith))))
+  none_after : (c : ℕ) (s : Span V) (spans : List (Span V)) → IsRising (s ∷ spans) → holds c s ≡ true → find (holds c) spans ≡ None
+  none_after c s spans rising stored = find-none (holds c) spans (λ k d lt. outside_before c (get_or spans k d) (omega (arith, leb-true c s.last ((and_parts _ _ stored).1), rising.apart 0 (suc k) d (omega arith) (omega arith))))
 
   -- so the span that contains it determines its value
   pub value_over_all-rising : (c : ℕ) (spans : List (Span V)) (v : V) → IsRising spans → value_over_all c spans v ≡ unwrap_or (value_by (find (holds c) spans) None) v
   value_over_all-rising c [] v rising = refl
   value_over_all-rising c (s ∷ spans) v rising =
-      grind (arith, rising-tail, none_behind, value_over_all-rising c spans (value_over c s v) (rising-tail s spans rising))
+      grind (arith, rising-tail, none_after, value_over_all-rising c spans (value_over c s v) (rising-tail s spans rising))
 
   either : (a b : Option (Span V)) (v : V) → unwrap_or (value_by a None) (unwrap_or (value_by None b) v) ≡ unwrap_or (value_by a b) v
   either None b v = refl

@@ -9,7 +9,7 @@ use Rattle.ucdfiles.specs.declared.span.FileLine.TheVariants.{Silent, Data, Defa
 use Rattle.ucdfiles.specs.Spans.{holds, value_by}
 use Rattle.ucdfiles.specs.Statements.{Stated, AreStatedBy, defaults_of, value_of, span_says}
 use Rattle.ucdfiles.specs.PairFiles.{pair_line_says, pair_content_says}
-use Rattle.ucdfiles.proofs.Stating.{value_in-stands}
+use Rattle.ucdfiles.proofs.Stating.{value_in-represents}
 
 -- not a default line
 abbrev IsNoDefault : {V : Type 0} → FileLine V → Type 0
@@ -43,4 +43,4 @@ module _ {V : Type 0} (read : List (List ℕ) → Result (Span V) Fault) where
 
   -- so the data lines alone state the values
   pub value_of-pairs : (stated : Stated V) (bytes : List ℕ) (c : ℕ) → AreStatedBy (pair_line_says read) stated (lines_of bytes) → value_of (pair_line_says read) bytes c ≡ value_by (find (holds c) stated.data_lines) None
-  value_of-pairs stated bytes c stands = grind (arith, defaults_of-pairs, value_in-stands)
+  value_of-pairs stated bytes c represents = grind (arith, defaults_of-pairs, value_in-represents)

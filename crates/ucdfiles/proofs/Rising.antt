@@ -40,11 +40,11 @@ module _ {V : Type 0} where
       let e : p r ≡ false = none 0 r (omega arith) in
       rw e (list_any-none p rs (λ k d lt. none (suc k) d (omega arith)))
 
-  not_held_behind : (code : ℕ) (r : Span V) → r.last < code → holds code r ≡ false
-  not_held_behind code r lt = let e : leb code r.last ≡ false = lt-leb _ _ lt in rw e (and_right (leb r.first code) false refl)
+  outside_after : (code : ℕ) (r : Span V) → r.last < code → holds code r ≡ false
+  outside_after code r lt = let e : leb code r.last ≡ false = lt-leb _ _ lt in rw e (and_right (leb r.first code) false refl)
 
-  pub not_held_before : (code : ℕ) (r : Span V) → code < r.first → holds code r ≡ false
-  not_held_before code r lt = let e : leb r.first code ≡ false = lt-leb _ _ lt in rw e refl
+  pub outside_before : (code : ℕ) (r : Span V) → code < r.first → holds code r ≡ false
+  outside_before code r lt = let e : leb r.first code ≡ false = lt-leb _ _ lt in rw e refl
 
   -- the spans from an index on begin above a code point that is below the first of them
   all_above : (rs : List (Span V)) (n code : ℕ) → IsRising rs → (n < length rs → (d : Span V) → code < (get_or rs n d).first) → (k : ℕ) (d : Span V) → n ≤ k → k < length rs → code < (get_or rs k d).first
@@ -58,20 +58,20 @@ module _ {V : Type 0} where
 
   -- if a span overlaps none of these, none of these contains a code point of it
   pub find-apart : (code : ℕ) (span : Span V) (rs : List (Span V)) → holds code span ≡ true → list_any (overlaps span) rs ≡ false → find (holds code) rs ≡ None
-  find-apart code span [] held none = refl
-  find-apart code span (r ∷ rs) held none = grind (arith, or_parts, apart-holds, find-apart code span rs held)
+  find-apart code span [] stored none = refl
+  find-apart code span (r ∷ rs) stored none = grind (arith, or_parts, apart-holds, find-apart code span rs stored)
 
   finds-aside : (code : ℕ) (front back : List (Span V)) (span : Span V) → holds code span ≡ false
       → find (holds code) (front ++ span ∷ back) ≡ find (holds code) ((front ++ back) ++ span ∷ [])
   finds-aside code front back span aside = grind (arith, find-append, option_or-none)
 
-  finds-held : (code : ℕ) (front back : List (Span V)) (span : Span V) → holds code span ≡ true → list_any (overlaps span) (front ++ back) ≡ false
+  finds-stored : (code : ℕ) (front back : List (Span V)) (span : Span V) → holds code span ≡ true → list_any (overlaps span) (front ++ back) ≡ false
       → find (holds code) (front ++ span ∷ back) ≡ find (holds code) ((front ++ back) ++ span ∷ [])
-  finds-held code front back span held none = grind (arith, find-apart, or_parts, list_any-append, find-append)
+  finds-stored code front back span stored none = grind (arith, find-apart, or_parts, list_any-append, find-append)
 
   pub finds-insert : (code : ℕ) (rs : List (Span V)) (at : ℕ) (span : Span V) → list_any (overlaps span) rs ≡ false
       → find (holds code) (insert rs at span) ≡ find (holds code) (rs ++ span ∷ [])
-  finds-insert code rs at span none = grind (arith, take-append-drop, finds-held, finds-aside)
+  finds-insert code rs at span none = grind (arith, take-append-drop, finds-stored, finds-aside)
 
   pub meets-insert : (p : Span V → Bool) (rs : List (Span V)) (at : ℕ) (span : Span V) → list_any p (insert rs at span) ≡ list_any p (rs ++ span ∷ [])
   meets-insert p rs at span =
@@ -137,7 +137,7 @@ module _ {V : Type 0} where
   find-drop rs m code below =
       let front : find (holds code) (take m rs) ≡ None = find-none (holds code) (take m rs) (λ k d lt. (
       let low : k < m = omega (arith, length-take m rs, lt) in
-      ap (holds code) (get_or-take m rs k d low) ∙ not_held_behind code (get_or rs k d) (below k d (omega arith) low))) in
+      ap (holds code) (get_or-take m rs k d low) ∙ outside_after code (get_or rs k d) (below k d (omega arith) low))) in
       sym (ap (find (holds code)) (sym (take-append-drop m rs)) ∙ find-append (holds code) (take m rs) (drop m rs) ∙ rw front refl)
 
   -- spans that begin after it don't either
@@ -145,7 +145,7 @@ module _ {V : Type 0} where
   find-take rs n code above =
       let back : find (holds code) (drop n rs) ≡ None = find-none (holds code) (drop n rs) (λ k d lt. (
       let inside : n + k < length rs = omega (arith, length-drop n rs, lt) in
-      ap (holds code) (get_or-drop n rs k d) ∙ not_held_before code (get_or rs (n + k) d) (above (n + k) d (omega arith) inside))) in
+      ap (holds code) (get_or-drop n rs k d) ∙ outside_before code (get_or rs (n + k) d) (above (n + k) d (omega arith) inside))) in
       sym (ap (find (holds code)) (sym (take-append-drop n rs)) ∙ find-append (holds code) (take n rs) (drop n rs) ∙ rw back (option_or-none (find (holds code) (take n rs))))
 
 -- spans with other values

@@ -38,9 +38,9 @@ module _ {V : Type 0} where
         stated = λ k j d lt small. elim (cases_lt k n) [
           | inl low ↦
               let at : get_or (numbers ++ number ∷ []) k 0 * 128 + j ≡ get_or numbers k 0 * 128 + j = ap (λ p. p * 128 + j) (front k low) in
-              let kept : get_or new (get_or numbers k 0 * 128 + j) d ≡ get_or values (get_or numbers k 0 * 128 + j) d =
+              let unchanged : get_or new (get_or numbers k 0 * 128 + j) d ≡ get_or values (get_or numbers k 0 * 128 + j) d =
               ap (λ vs. get_or vs (get_or numbers k 0 * 128 + j) d) grown ∙ get_or-append values more d (get_or numbers k 0 * 128 + j) (omega (arith, h.within k low)) in
-              ap (λ i. get_or new i d) at ∙ kept ∙ h.stated k j d low small
+              ap (λ i. get_or new i d) at ∙ unchanged ∙ h.stated k j d low small
           | inr high ↦
               let e : k ≡ n = omega arith in
               let at : get_or (numbers ++ number ∷ []) k 0 * 128 + j ≡ number * 128 + j = ap (λ p. p * 128 + j) (ap (λ m. get_or (numbers ++ number ∷ []) m 0) e ∙ own) in

@@ -20,8 +20,8 @@ fault_at kind.LineTooLong line = LineTooLong line
 fault_at kind.TooMany line = TooMany line
 
 -- the error for a line with this number: memory, or the line's fault
-abbrev pub RefusesAt : ℕ → Option Fault → TableFault → Type 0
-RefusesAt number fault e = (e ≡ Memory) ⊎ (option_map (λ f. fault_at f number) fault ≡ Some e)
+abbrev pub FailsAt : ℕ → Option Fault → TableFault → Type 0
+FailsAt number fault e = (e ≡ Memory) ⊎ (option_map (λ f. fault_at f number) fault ≡ Some e)
 
 -- the name of a fault
 abbrev pub name_of : TableFault → List ℕ

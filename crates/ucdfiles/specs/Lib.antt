@@ -7,7 +7,7 @@ pub mod LongLines
 pub mod Reading
 pub mod Keys
 pub mod Stages
-pub mod HeldStages
+pub mod TableStages
 pub mod Tables
 pub mod UnitStages
 pub mod WorkedFiles

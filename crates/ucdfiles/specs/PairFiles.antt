@@ -101,9 +101,9 @@ unfoldable pub mirror_of : List ℕ → ℕ → Option ℕ
 mirror_of bytes c = value_of (pair_line_says mirror_in) bytes c
 
 -- the bytes are not faulty, and these are the mirror images that they state for the characters
-pub record StatesMirrors (bytes : List ℕ) (glyphs : ℕ → Option ℕ) : Type 0 where
+pub record StatesMirrors (bytes : List ℕ) (mirrored : ℕ → Option ℕ) : Type 0 where
   pub faultless : mirror_file_fault bytes ≡ None
-  pub stated : (c : ℕ) → c ≤ 0x10FFFF → glyphs c ≡ mirror_of bytes c
+  pub stated : (c : ℕ) → c ≤ 0x10FFFF → mirrored c ≡ mirror_of bytes c
 
 -- BD14, BD15: the bracket of this side with this key
 abbrev pub bracket_with : BracketSide → Key → Bracket

@@ -28,15 +28,15 @@ defaults_of (Default span ∷ lines) = span ∷ defaults_of lines
 defaults_of (_ ∷ lines) = defaults_of lines
 
 -- the fault of a line after these: its own, or that of another line of its kind
-abbrev pub fault_behind : {V : Type 0} → Fault → List (FileLine V) → FileLine V → Option Fault
-fault_behind taken earlier Silent = None
-fault_behind taken earlier (Faulty fault) = Some fault
-fault_behind taken earlier (Data span) = data_fault taken (data_of earlier) span
-fault_behind taken earlier (Default span) = default_fault (defaults_of earlier)
+abbrev pub fault_after : {V : Type 0} → Fault → List (FileLine V) → FileLine V → Option Fault
+fault_after taken earlier Silent = None
+fault_after taken earlier (Faulty fault) = Some fault
+fault_after taken earlier (Data span) = data_fault taken (data_of earlier) span
+fault_after taken earlier (Default span) = default_fault (defaults_of earlier)
 
 -- the fault of a line of bytes after these
 abbrev pub line_fault : {V : Type 0} → (List ℕ → FileLine V) → Fault → List (List ℕ) → List ℕ → Option Fault
-line_fault says taken earlier line = fault_behind taken (map says earlier) (says line)
+line_fault says taken earlier line = fault_after taken (map says earlier) (says line)
 
 -- the fault of the first faulty line of these bytes
 abbrev pub file_fault : {V : Type 0} → (List ℕ → FileLine V) → Fault → List ℕ → Option TableFault

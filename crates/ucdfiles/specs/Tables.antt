@@ -19,8 +19,8 @@ unfoldable pub bracket_by : Stages Bracket → ℕ → Bracket
 bracket_by table c = stage_at table c No
 
 -- the mirror image that a table gives a code point, if it gives one
-unfoldable pub glyph_by : Stages (Option ℕ) → ℕ → Option ℕ
-glyph_by table c = stage_at table c None
+unfoldable pub mirror_by : Stages (Option ℕ) → ℕ → Option ℕ
+mirror_by table c = stage_at table c None
 
 -- the three tables
 pub record TablesOf : Type 0 where

@@ -1,7 +1,7 @@
 -- Worked lines and files, and what the definitions compute of them.
 use Rattle.std.specs.Prelude.{ℕ, ◌≡◌, List, [], ◌∷◌, ◌++◌, Some, None, refl, codes, ⊤}
 use Rattle.unicode_normalization.proofs.Computing.{unicode_normalization}
-use Rattle.units.specs.Text.{settled_lines}
+use Rattle.units.specs.Text.{decided_lines}
 use Rattle.units.specs.declared.class.Class.TheVariants.{L, R, AL, AN}
 use Rattle.ucdfiles.specs.ClassFile.{class_line_says, class_fault, class_file_fault, class_of}
 use Rattle.ucdfiles.specs.PairFiles.{bracket_file_fault, mirror_file_fault, bracket_of, mirror_of, pair_line_says, IsEquivalent}
@@ -130,12 +130,12 @@ unfolding classes_compute
 first_default = refl
 
 -- no later bytes change a line that has ended
-pub ended_line : first_fault class_fault [] (settled_lines (codes "0041 ; XX" ++ lf)) ≡ Some (ClassName 1)
+pub ended_line : first_fault class_fault [] (decided_lines (codes "0041 ; XX" ++ lf)) ≡ Some (ClassName 1)
 unfolding classes_compute
 ended_line = refl
 
 -- later bytes can change a line that has begun
-pub begun_line : first_fault class_fault [] (settled_lines (codes "0041 ; XX")) ≡ None
+pub begun_line : first_fault class_fault [] (decided_lines (codes "0041 ; XX")) ≡ None
 unfolding classes_compute
 begun_line = refl
 

@@ -8,7 +8,7 @@ use crate::reading::{LineTable, read_lines};
 use crate::sided_bracket::SidedBracket;
 use crate::span::Span;
 use crate::statements::Statements;
-use crate::two_stage::{HeldStages, LentStages, TwoStage};
+use crate::two_stage::{TableStages, BorrowedStages, TwoStage};
 use std::alloc::Global;
 use std::borrow::CowSlice;
 use std::marker::Model;
@@ -20,7 +20,7 @@ impl LineTable for Statements<SidedBracket> {
     ghost use Rattle.ucdfiles.specs.Statements.{AreStatedBy};
     ghost use Rattle.ucdfiles.specs.LongLines.{pair_fault-long};
 
-    ghost stands = { AreStatedBy (pair_line_says bracket_in) };
+    ghost represents = { AreStatedBy (pair_line_says bracket_in) };
 
     ghost fault = { bracket_fault };
 
@@ -34,22 +34,22 @@ impl LineTable for Statements<SidedBracket> {
 /// BD14 to BD16: the brackets of the characters, with their keys. Contracts see them through `bracket_by`.
 #[derive(Drop)]
 pub struct BracketTable {
-    brackets: HeldStages<'static, Bracket>,
+    brackets: TableStages<'static, Bracket>,
     spans: CowSlice<'static, Span<Bracket>>,
 }
 
 impl Model for BracketTable {
     ghost use Rattle.std.specs.Cow.{cow_slice_items};
-    ghost use Rattle.ucdfiles.specs.HeldStages.{held_stages};
+    ghost use Rattle.ucdfiles.specs.TableStages.{stages_of};
     ghost use Rattle.ucdfiles.specs.Stages.{Stages};
     ghost use Rattle.ucdfiles.specs.Tables.{IsTableOf};
     ghost use Rattle.units.specs.declared.bracket.Bracket.{Bracket as BracketOf};
 
     ghost Value = { Stages BracketOf };
 
-    ghost view = { λ t. held_stages t.brackets };
+    ghost view = { λ t. stages_of t.brackets };
 
-    ghost invariant = { λ t. IsTableOf (cow_slice_items t.spans) (held_stages t.brackets) };
+    ghost invariant = { λ t. IsTableOf (cow_slice_items t.spans) (stages_of t.brackets) };
 }
 
 impl BracketTable {
@@ -76,7 +76,7 @@ impl BracketTable {
         };
         match TwoStage::new(alloc, &spans, &[], Bracket::No) {
             Ok(brackets) => Ok(BracketTable {
-                brackets: HeldStages::Made(brackets),
+                brackets: TableStages::Made(brackets),
                 spans: CowSlice::Owned(spans),
             }),
             Err(_) => Err(TableFault::Memory),
@@ -95,7 +95,7 @@ impl BracketTable {
         ensures { result ≡ record { numbers = numbers.now; values = values.now } }
     {
         BracketTable {
-            brackets: HeldStages::Constant(LentStages::new(numbers, values)),
+            brackets: TableStages::Constant(BorrowedStages::new(numbers, values)),
             spans: CowSlice::Borrowed(spans),
         }
     }
@@ -117,9 +117,9 @@ impl BracketTable {
     }
 
     /// Borrows the stages.
-    pub(crate) fn lent(&self) -> LentStages<'_, Bracket>
+    pub(crate) fn borrowed(&self) -> BorrowedStages<'_, Bracket>
         ensures { result ≡ self.now }
     {
-        self.brackets.lent()
+        self.brackets.borrowed()
     }
 }

@@ -5,7 +5,7 @@ use crate::class_line::class_line;
 use crate::fault::{Fault, TableFault};
 use crate::reading::{LineTable, read_lines};
 use crate::statements::Statements;
-use crate::two_stage::{HeldStages, LentStages, TwoStage};
+use crate::two_stage::{TableStages, BorrowedStages, TwoStage};
 use std::alloc::Global;
 use std::marker::Model;
 use units::class::Class;
@@ -16,7 +16,7 @@ impl LineTable for Statements<Class> {
     ghost use Rattle.ucdfiles.specs.Statements.{AreStatedBy};
     ghost use Rattle.ucdfiles.specs.LongLines.{class_fault-long};
 
-    ghost stands = { AreStatedBy class_line_says };
+    ghost represents = { AreStatedBy class_line_says };
 
     ghost fault = { class_fault };
 
@@ -30,17 +30,17 @@ impl LineTable for Statements<Class> {
 /// The classes of the characters. Contracts see them through `class_by`.
 #[derive(Drop)]
 pub struct ClassTable {
-    classes: HeldStages<'static, Class>,
+    classes: TableStages<'static, Class>,
 }
 
 impl Model for ClassTable {
-    ghost use Rattle.ucdfiles.specs.HeldStages.{held_stages};
+    ghost use Rattle.ucdfiles.specs.TableStages.{stages_of};
     ghost use Rattle.ucdfiles.specs.Stages.{Stages};
     ghost use Rattle.units.specs.declared.class.Class.{Class as ClassOf};
 
     ghost Value = { Stages ClassOf };
 
-    ghost view = { λ t. held_stages t.classes };
+    ghost view = { λ t. stages_of t.classes };
 }
 
 impl ClassTable {
@@ -64,7 +64,7 @@ impl ClassTable {
         read_lines(&mut lines, source)?;
         match TwoStage::new(alloc, lines.data(), lines.defaults(), Class::L) {
             Ok(classes) => Ok(ClassTable {
-                classes: HeldStages::Made(classes),
+                classes: TableStages::Made(classes),
             }),
             Err(_) => Err(TableFault::Memory),
         }
@@ -76,7 +76,7 @@ impl ClassTable {
         ensures { result ≡ record { numbers = numbers.now; values = values.now } }
     {
         ClassTable {
-            classes: HeldStages::Constant(LentStages::new(numbers, values)),
+            classes: TableStages::Constant(BorrowedStages::new(numbers, values)),
         }
     }
 
@@ -90,9 +90,9 @@ impl ClassTable {
     }
 
     /// Borrows the stages.
-    pub(crate) fn lent(&self) -> LentStages<'_, Class>
+    pub(crate) fn borrowed(&self) -> BorrowedStages<'_, Class>
         ensures { result ≡ self.now }
     {
-        self.classes.lent()
+        self.classes.borrowed()
     }
 }

@@ -3,7 +3,7 @@ ghost use Rattle.std.specs.Prelude.{IfOk, IfErr};
 ghost use Rattle.ucdfiles.specs.ClassFile.{class_fault, StatesClasses};
 ghost use Rattle.ucdfiles.specs.Files.{StateTables, IsFaulty, IsFirstFaulty};
 ghost use Rattle.ucdfiles.specs.PairFiles.{bracket_fault, mirror_fault, StatesBrackets, StatesMirrors};
-ghost use Rattle.ucdfiles.specs.Tables.{class_by, bracket_by, glyph_by};
+ghost use Rattle.ucdfiles.specs.Tables.{class_by, bracket_by, mirror_by};
 
 use crate::bracket_table::BracketTable;
 use crate::class_table::ClassTable;
@@ -48,7 +48,7 @@ fn read_brackets(alloc: Global, bytes: &[u8]) -> Result<BracketTable, TableFault
 
 /// Reads the mirror images that these bytes state.
 fn read_mirrors(alloc: Global, bytes: &[u8]) -> Result<MirrorTable, TableFault>
-    ensures ok { IfOk result (λ table. StatesMirrors bytes.now (glyph_by table)) }
+    ensures ok { IfOk result (λ table. StatesMirrors bytes.now (mirror_by table)) }
     ensures err { IfErr result (IsFaulty mirror_fault bytes.now) }
 {
     let mut source = SliceSource::new(bytes);

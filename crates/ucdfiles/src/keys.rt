@@ -59,7 +59,7 @@ impl Numbering {
     /// Returns the number of a character's canonical decomposition, and adds one if it is new.
     pub fn number(&mut self, alloc: Global, c: char) -> Result<u32, AllocError>
         ensures numbering { OnOk result (IsNumbering self.new) }
-        ensures kept { OnOk result (Keeps self.old self.new) }
+        ensures unchanged { OnOk result (Keeps self.old self.new) }
         ensures number { IfOk result (λ n. number_in self.new (nfd (c ∷ [])) ≡ Some n) }
     {
         let decomposition = decomposition(alloc, c)?;

@@ -7,7 +7,7 @@ use crate::pair_line::mirror_line;
 use crate::reading::{LineTable, read_lines};
 use crate::span::Span;
 use crate::statements::Statements;
-use crate::two_stage::{HeldStages, LentStages, TwoStage};
+use crate::two_stage::{TableStages, BorrowedStages, TwoStage};
 use std::alloc::{AllocError, Global};
 use std::marker::Model;
 use units::source::ByteSource;
@@ -17,7 +17,7 @@ impl LineTable for Statements<char> {
     ghost use Rattle.ucdfiles.specs.Statements.{AreStatedBy};
     ghost use Rattle.ucdfiles.specs.LongLines.{pair_fault-long};
 
-    ghost stands = { AreStatedBy (pair_line_says mirror_in) };
+    ghost represents = { AreStatedBy (pair_line_says mirror_in) };
 
     ghost fault = { mirror_fault };
 
@@ -45,27 +45,27 @@ fn images(alloc: Global, spans: &[Span<char>]) -> Result<Vec<Span<Option<char>>>
     Ok(images)
 }
 
-/// L4: the mirror images of the characters. Contracts see them through `glyph_by`.
+/// L4: the mirror images of the characters. Contracts see them through `mirror_by`.
 #[derive(Drop)]
 pub struct MirrorTable {
-    glyphs: HeldStages<'static, Option<char>>,
+    mirrored: TableStages<'static, Option<char>>,
 }
 
 impl Model for MirrorTable {
     ghost use Rattle.std.specs.Prelude.{ℕ, Option};
-    ghost use Rattle.ucdfiles.specs.HeldStages.{held_stages};
+    ghost use Rattle.ucdfiles.specs.TableStages.{stages_of};
     ghost use Rattle.ucdfiles.specs.Stages.{Stages};
 
     ghost Value = { Stages (Option ℕ) };
 
-    ghost view = { λ t. held_stages t.glyphs };
+    ghost view = { λ t. stages_of t.mirrored };
 }
 
 impl MirrorTable {
     ghost use Rattle.ucdfiles.specs.PairFiles.{mirror_fault, StatesMirrors};
     ghost use Rattle.ucdfiles.specs.Reading.{IsFault, OfAllBytes};
     ghost use Rattle.ucdfiles.specs.Stages.{AreStages};
-    ghost use Rattle.ucdfiles.specs.Tables.{glyph_by};
+    ghost use Rattle.ucdfiles.specs.Tables.{mirror_by};
 
     /// Reads the source to its end and returns the mirror table that its bytes state. Fails with the fault of the
     /// first faulty line. Fails with `Read` exactly if the source has failed; then no complete line is faulty, and no
@@ -74,7 +74,7 @@ impl MirrorTable {
     pub fn read<S: ByteSource>(alloc: Global, source: &mut S) -> Result<MirrorTable, TableFault>
         ensures read { (result ≡ Err TableFault.Read) ↔ (S.failures source.new ≡ 1) }
         ensures ok { IfOk result (λ table. OfAllBytes (S.gives source.old) S.ended source.new
-            (λ given. StatesMirrors given (glyph_by table))) }
+            (λ given. StatesMirrors given (mirror_by table))) }
         ensures err { IfErr result (λ e. (given : List ℕ) × S.gives source.old given source.new
             × IsFault mirror_fault (S.ended source.new) given e) }
     {
@@ -84,8 +84,8 @@ impl MirrorTable {
             return Err(TableFault::Memory);
         };
         match TwoStage::new(alloc, &images, &[], None) {
-            Ok(glyphs) => Ok(MirrorTable {
-                glyphs: HeldStages::Made(glyphs),
+            Ok(mirrored) => Ok(MirrorTable {
+                mirrored: TableStages::Made(mirrored),
             }),
             Err(_) => Err(TableFault::Memory),
         }
@@ -97,15 +97,15 @@ impl MirrorTable {
         ensures { result ≡ record { numbers = numbers.now; values = values.now } }
     {
         MirrorTable {
-            glyphs: HeldStages::Constant(LentStages::new(numbers, values)),
+            mirrored: TableStages::Constant(BorrowedStages::new(numbers, values)),
         }
     }
 
-    #[tactic(auto, unfolding(crate::specs::Tables::glyph_by))]
+    #[tactic(auto, unfolding(crate::specs::Tables::mirror_by))]
     /// Returns the mirror image of a character, if it has one.
     pub fn glyph(&self, c: char) -> Option<char>
-        ensures { result ≡ glyph_by self.now c }
+        ensures { result ≡ mirror_by self.now c }
     {
-        self.glyphs.value(c)
+        self.mirrored.value(c)
     }
 }

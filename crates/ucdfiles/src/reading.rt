@@ -3,8 +3,8 @@ ghost use Rattle.std.specs.Prelude.{◌≡◌, ◌≢◌, ℕ, ◌<◌, ◌↔�
 ghost use Rattle.std.specs.Prelude.{OnOk};
 ghost use Rattle.ucdfiles.specs.Faults.{over_long_line};
 ghost use Rattle.units.specs.Text.{longest_line};
-ghost use Rattle.ucdfiles.specs.Reading.{Reads, ReadsOn, TakesLine, IsLineRefusal, EndsFaultless, EndsFaulty, IsCut};
-ghost use Rattle.ucdfiles.specs.Reading.{IsRefusal, RefusesBytes, IsOutcome, OfBytes};
+ghost use Rattle.ucdfiles.specs.Reading.{Reads, ReadsOn, TakesLine, IsLineError, EndsFaultless, EndsFaulty, IsCut};
+ghost use Rattle.ucdfiles.specs.Reading.{IsCutError, RejectsBytes, IsOutcome, OfBytes};
 ghost use Rattle.ucdfiles.specs.declared.fault.Fault.{Fault as FaultKind};
 
 use crate::fault::TableFault;
@@ -14,15 +14,15 @@ use units::source::ByteSource;
 /// A table that is made from a file line by line.
 pub trait LineTable {
     // The table is what these lines state.
-    ghost stands: { Self → List (List ℕ) → Type 0 };
+    ghost represents: { Self → List (List ℕ) → Type 0 };
 
     // The fault of a line after these.
     ghost fault: { List (List ℕ) → List ℕ → Option FaultKind };
 
     /// Adds one more line, with its number, counted from 1. Fails with the line's fault, if it has one.
     fn add(&mut self, line: &[u8], number: u64) -> Result<(), TableFault>
-        ensures ok { OnOk result (TakesLine (stands self.old) (stands self.new) fault line.now) }
-        ensures err { IfErr result (IsLineRefusal (stands self.old) fault number line.now) }
+        ensures ok { OnOk result (TakesLine (represents self.old) (represents self.new) fault line.now) }
+        ensures err { IfErr result (IsLineError (represents self.old) fault number line.now) }
         ensures not_read { IfErr result (λ e. e ≢ TableFault.Read) };
 
     ghost over_long: { (lines : List (List ℕ)) (line : List ℕ) → longest_line < length line
@@ -30,8 +30,8 @@ pub trait LineTable {
 }
 
 fn take_cut<T: LineTable>(table: &mut T, taken: Cut<'_>) -> Result<(), TableFault>
-    ensures ok { OnOk result (IsCut (T.stands table.old) (T.stands table.new) T.fault taken.entry) }
-    ensures err { IfErr result (IsRefusal (T.stands table.old) T.fault taken.entry) }
+    ensures ok { OnOk result (IsCut (T.represents table.old) (T.represents table.new) T.fault taken.entry) }
+    ensures err { IfErr result (IsCutError (T.represents table.old) T.fault taken.entry) }
     ensures not_read { IfErr result (λ e. e ≢ TableFault.Read) }
 {
     match taken {
@@ -41,16 +41,16 @@ fn take_cut<T: LineTable>(table: &mut T, taken: Cut<'_>) -> Result<(), TableFaul
     }
 }
 
-fn feed<T: LineTable>(table: &mut T, cutter: &mut LineCut, piece: &[u8]) -> Result<(), TableFault>
-    ensures ok { OnOk result (ReadsOn (T.stands table.old) (T.stands table.new) T.fault cutter.old cutter.new
+fn feed<T: LineTable>(table: &mut T, splitter: &mut LineCut, piece: &[u8]) -> Result<(), TableFault>
+    ensures ok { OnOk result (ReadsOn (T.represents table.old) (T.represents table.new) T.fault splitter.old splitter.new
         piece.now) }
-    ensures err { IfErr result (λ e. (b : List ℕ) → Reads (T.stands table.old) T.fault cutter.old b
-        → RefusesBytes T.fault (b ++ piece.now) e) }
+    ensures err { IfErr result (λ e. (b : List ℕ) → Reads (T.represents table.old) T.fault splitter.old b
+        → RejectsBytes T.fault (b ++ piece.now) e) }
     ensures not_read { IfErr result (λ e. e ≢ TableFault.Read) }
 {
     let mut at = 0;
     while at < piece.len() {
-        let (used, taken) = cutter.take(&piece[at..]);
+        let (used, taken) = splitter.take(&piece[at..]);
         take_cut(table, taken)?;
         at += used;
     }
@@ -58,12 +58,12 @@ fn feed<T: LineTable>(table: &mut T, cutter: &mut LineCut, piece: &[u8]) -> Resu
 }
 
 // Adds the line that the end of the bytes ends.
-fn end<T: LineTable>(table: &mut T, cutter: &LineCut) -> Result<(), TableFault>
-    ensures ok { OnOk result (EndsFaultless (T.stands table.old) (T.stands table.new) T.fault cutter.now) }
-    ensures err { IfErr result (EndsFaulty (T.stands table.old) T.fault cutter.now) }
+fn end<T: LineTable>(table: &mut T, splitter: &LineCut) -> Result<(), TableFault>
+    ensures ok { OnOk result (EndsFaultless (T.represents table.old) (T.represents table.new) T.fault splitter.now) }
+    ensures err { IfErr result (EndsFaulty (T.represents table.old) T.fault splitter.now) }
     ensures not_read { IfErr result (λ e. e ≢ TableFault.Read) }
 {
-    match cutter.finish() {
+    match splitter.finish() {
         None => Ok(()),
         Some((number, text)) => table.add(text, number),
     }
@@ -75,16 +75,16 @@ pub fn read_lines<T: LineTable, S: ByteSource>(
     source: &mut S,
 ) -> Result<(), TableFault>
     ensures read { (result ≡ Err TableFault.Read) ↔ (S.failures source.new ≡ 1) }
-    ensures outcome { T.stands table.old [] → OfBytes (S.gives source.old) source.new
-        (IsOutcome (T.stands table.new) T.fault (S.ended source.new) result) }
+    ensures outcome { T.represents table.old [] → OfBytes (S.gives source.old) source.new
+        (IsOutcome (T.represents table.new) T.fault (S.ended source.new) result) }
 {
-    let mut cutter = LineCut::new();
+    let mut splitter = LineCut::new();
     let mut buf = [0; 4096];
     loop {
         match source.read(&mut buf) {
             Err(_) => return Err(TableFault::Read),
-            Ok(0) => return end(table, &cutter),
-            Ok(n) => feed(table, &mut cutter, &buf[..n])?,
+            Ok(0) => return end(table, &splitter),
+            Ok(n) => feed(table, &mut splitter, &buf[..n])?,
         }
     }
 }

@@ -2,7 +2,7 @@
 ghost use Rattle.std.specs.Prelude.{◌≡◌, ◌<◌, ◌≤◌, ◌≢◌, ℕ, length, None, IfErr, OnOk};
 ghost use Rattle.std.specs.List.{find, AllWithin};
 ghost use Rattle.ucdfiles.specs.Spans.{holds, IsRising, Adds, data_fault};
-ghost use Rattle.ucdfiles.specs.Faults.{RefusesAt};
+ghost use Rattle.ucdfiles.specs.Faults.{FailsAt};
 
 use crate::fault::{Fault, TableFault, at};
 use crate::span::Span;
@@ -35,7 +35,7 @@ pub fn add_span<V: Copy>(
     ensures rising { IsRising spans.new.items }
     ensures ok { OnOk result (Adds spans.old.items span spans.new.items
         × (data_fault taken spans.old.items span ≡ None)) }
-    ensures err { IfErr result (RefusesAt line (data_fault taken spans.old.items span)) }
+    ensures err { IfErr result (FailsAt line (data_fault taken spans.old.items span)) }
     ensures not_read { IfErr result (λ e. e ≢ TableFault.Read) }
 {
     if spans.len() >= MOST_DATA {

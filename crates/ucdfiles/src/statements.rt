@@ -1,6 +1,6 @@
 // The statements of the lines of a file so far.
 ghost use Rattle.std.specs.Prelude.{◌≡◌, ◌≢◌, [], ◌∷◌, ◌++◌, None, OnOk, IfErr};
-ghost use Rattle.ucdfiles.specs.Faults.{RefusesAt};
+ghost use Rattle.ucdfiles.specs.Faults.{FailsAt};
 ghost use Rattle.ucdfiles.specs.Spans.{default_fault};
 ghost use Rattle.ucdfiles.specs.Statements.{IsRisingLine, Becomes, stated_fault};
 
@@ -36,7 +36,7 @@ fn add_default<V: Copy>(
 ) -> Result<(), TableFault>
     ensures ok { OnOk result ((defaults.new.items ≡ defaults.old.items ++ span ∷ [])
         × (default_fault defaults.old.items ≡ None)) }
-    ensures err { IfErr result (RefusesAt line (default_fault defaults.old.items)) }
+    ensures err { IfErr result (FailsAt line (default_fault defaults.old.items)) }
     ensures not_read { IfErr result (λ e. e ≢ TableFault.Read) }
 {
     if defaults.len() >= MOST_DEFAULTS {
@@ -72,7 +72,7 @@ impl<V: Copy> Statements<V> {
     ) -> Result<(), TableFault>
         requires { IsRisingLine line }
         ensures ok { OnOk result (Becomes taken self.old line self.new) }
-        ensures err { IfErr result (RefusesAt number (stated_fault taken self.old line)) }
+        ensures err { IfErr result (FailsAt number (stated_fault taken self.old line)) }
         ensures not_read { IfErr result (λ e. e ≢ TableFault.Read) }
     {
         match line {

@@ -8,7 +8,7 @@ use crate::bracket_table::BracketTable;
 use crate::class_table::ClassTable;
 use crate::mirror_table::MirrorTable;
 use crate::span::Span;
-use crate::two_stage::LentStages;
+use crate::two_stage::BorrowedStages;
 use std::alloc::{AllocError, Global};
 use std::marker::Model;
 use units::bracket::{Bracket, Unit};
@@ -59,13 +59,13 @@ fn are_neutral(classes: &ClassTable, brackets: &BracketTable) -> bool
 /// The classes and the brackets of characters, borrowed from the tables for a text. Contracts see the stages that
 /// determine the unit of a code point (`unit_by_stages`).
 #[derive(Drop)]
-pub struct LentUnits<'a> {
-    classes: LentStages<'a, Class>,
-    brackets: LentStages<'a, Bracket>,
+pub struct BorrowedUnits<'a> {
+    classes: BorrowedStages<'a, Class>,
+    brackets: BorrowedStages<'a, Bracket>,
     brackets_are_neutral: bool,
 }
 
-impl<'a> Model for LentUnits<'a> {
+impl<'a> Model for BorrowedUnits<'a> {
     ghost use Rattle.std.specs.Prelude.{◌≡◌, true};
     ghost use Rattle.ucdfiles.specs.Tables.{AreNeutral};
     ghost use Rattle.ucdfiles.specs.UnitStages.{UnitStages};
@@ -77,7 +77,7 @@ impl<'a> Model for LentUnits<'a> {
     ghost invariant = { λ t. t.brackets_are_neutral ≡ true → AreNeutral t.classes t.brackets };
 }
 
-impl<'a> LentUnits<'a> {
+impl<'a> BorrowedUnits<'a> {
     ghost use Rattle.ucdfiles.specs.UnitStages.{unit_by_stages};
 
     /// Returns the properties of a character that the algorithm uses: its class and its bracket.
@@ -143,12 +143,12 @@ impl Tables {
     }
 
     /// Borrows the classes and the brackets, to look up the characters of a text one by one.
-    pub fn units(&self) -> LentUnits<'_>
+    pub fn units(&self) -> BorrowedUnits<'_>
         ensures { result ≡ unit_stages self.now }
     {
-        LentUnits {
-            classes: self.classes.lent(),
-            brackets: self.brackets.lent(),
+        BorrowedUnits {
+            classes: self.classes.borrowed(),
+            brackets: self.brackets.borrowed(),
             brackets_are_neutral: self.brackets_are_neutral,
         }
     }
@@ -166,9 +166,9 @@ impl Tables {
         requires { length units.old ≡ length text.now }
         ensures { units.new ≡ units_by self.now text.now }
     {
-        let lent = self.units();
+        let borrowed = self.units();
         for k in 0..text.len() {
-            lent.write_unit(text[k], &mut units[k]);
+            borrowed.write_unit(text[k], &mut units[k]);
         }
     }
 

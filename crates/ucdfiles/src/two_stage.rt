@@ -37,11 +37,11 @@ impl<V> Model for TwoStage<V> {
 
 // Of `len` code points from `first` on, returns the range of those that the span contains: its start and its end,
 // which is not included.
-fn held_range<V>(span: &Span<V>, first: u32, len: usize) -> (usize, usize)
+fn covered_range<V>(span: &Span<V>, first: u32, len: usize) -> (usize, usize)
     ensures bound { result.1 ≤ len }
     ensures before { (k : ℕ) → k < result.0 → holds (first + k) span.now ≡ false }
     ensures inside { (k : ℕ) → result.0 ≤ k → k < result.1 → holds (first + k) span.now ≡ true }
-    ensures behind { (k : ℕ) → result.1 ≤ k → k < len → holds (first + k) span.now ≡ false }
+    ensures following { (k : ℕ) → result.1 ≤ k → k < len → holds (first + k) span.now ≡ false }
 {
     if span.last < first {
         return (0, 0);
@@ -57,7 +57,7 @@ fn paint<V: Copy>(block: &mut [V], first: u32, span: &Span<V>)
     ensures len { length block.new ≡ length block.old }
     ensures values { IsPainted first (λ c. value_over c span.now) block.old block.new }
 {
-    let (from, to) = held_range(span, first, block.len());
+    let (from, to) = covered_range(span, first, block.len());
     for k in from..to {
         block[k] = span.value;
     }
@@ -117,7 +117,7 @@ fn number_of<V: Copy + PartialEq>(values: &mut Vec<V>, block: &[V]) -> Result<u1
     requires room { length values.old.items < 128 * most_blocks }
     ensures whole { OnOk result (length values.new.items % 128 ≡ 0) }
     ensures most { OnOk result (length values.new.items ≤ length values.old.items + 128) }
-    ensures kept { OnOk result ((more : List V) × (values.new.items ≡ values.old.items ++ more)) }
+    ensures unchanged { OnOk result ((more : List V) × (values.new.items ≡ values.old.items ++ more)) }
     ensures within { IfOk result (λ number. number * 128 + 128 ≤ length values.new.items) }
     ensures block { IfOk result (λ number. HasBlock values.new.items number block.now) }
 {
@@ -159,12 +159,12 @@ impl<V: Copy + PartialEq> TwoStage<V> {
 
 /// The two stages, borrowed: a caller that looks up many code points reads their addresses only once.
 #[derive(Drop)]
-pub struct LentStages<'a, V> {
+pub struct BorrowedStages<'a, V> {
     numbers: &'a [u16],
     values: &'a [V],
 }
 
-impl<'a, V> Model for LentStages<'a, V> {
+impl<'a, V> Model for BorrowedStages<'a, V> {
     ghost use Rattle.ucdfiles.specs.Stages.{Stages, AreStages};
 
     ghost Value = { Stages V };
@@ -174,29 +174,29 @@ impl<'a, V> Model for LentStages<'a, V> {
     ghost invariant = { λ t. AreStages (record { numbers = t.numbers.now; values = t.values.now }) };
 }
 
-impl<'a, V> LentStages<'a, V> {
+impl<'a, V> BorrowedStages<'a, V> {
     ghost use Rattle.ucdfiles.specs.Stages.{AreStages};
 
     /// Makes two stages from constants.
-    pub fn new(numbers: &'a [u16], values: &'a [V]) -> LentStages<'a, V>
+    pub fn new(numbers: &'a [u16], values: &'a [V]) -> BorrowedStages<'a, V>
         requires { AreStages (record { numbers = numbers.now; values = values.now }) }
         ensures { result ≡ record { numbers = numbers.now; values = values.now } }
     {
-        LentStages { numbers, values }
+        BorrowedStages { numbers, values }
     }
 
     /// Borrows the same stages.
-    pub fn lent(&self) -> LentStages<'_, V>
+    pub fn borrowed(&self) -> BorrowedStages<'_, V>
         ensures { result ≡ self.now }
     {
-        LentStages {
+        BorrowedStages {
             numbers: self.numbers,
             values: self.values,
         }
     }
 }
 
-impl<'a, V: Copy> LentStages<'a, V> {
+impl<'a, V: Copy> BorrowedStages<'a, V> {
     ghost use Rattle.ucdfiles.specs.Stages.{Stages};
 
     /// Returns the value of a character.
@@ -213,10 +213,10 @@ impl<V: Copy> TwoStage<V> {
     ghost use Rattle.ucdfiles.specs.Stages.{Stages};
 
     /// Borrows both stages.
-    pub fn lent(&self) -> LentStages<'_, V>
+    pub fn borrowed(&self) -> BorrowedStages<'_, V>
         ensures { result ≡ self.now }
     {
-        LentStages {
+        BorrowedStages {
             numbers: self.numbers.as_slice(),
             values: self.values.as_slice(),
         }
@@ -225,30 +225,30 @@ impl<V: Copy> TwoStage<V> {
 
 /// Two stages, made from lines or constant.
 #[derive(Drop)]
-pub enum HeldStages<'a, V> {
+pub enum TableStages<'a, V> {
     /// Stages that own their values.
     Made(TwoStage<V>),
     /// Stages that are constants of the program.
-    Constant(LentStages<'a, V>),
+    Constant(BorrowedStages<'a, V>),
 }
 
-impl<'a, V: Copy> HeldStages<'a, V> {
-    ghost use Rattle.ucdfiles.specs.HeldStages.{held_stages};
+impl<'a, V: Copy> TableStages<'a, V> {
+    ghost use Rattle.ucdfiles.specs.TableStages.{stages_of};
 
     /// Borrows both stages.
-    pub fn lent(&self) -> LentStages<'_, V>
-        ensures { result ≡ held_stages self.now }
+    pub fn borrowed(&self) -> BorrowedStages<'_, V>
+        ensures { result ≡ stages_of self.now }
     {
         match self {
-            HeldStages::Made(stages) => stages.lent(),
-            HeldStages::Constant(stages) => stages.lent(),
+            TableStages::Made(stages) => stages.borrowed(),
+            TableStages::Constant(stages) => stages.borrowed(),
         }
     }
 
     /// Returns the value of a character.
     pub fn value(&self, c: char) -> V
-        ensures { (d : V) → result ≡ stage_at (held_stages self.now) c d }
+        ensures { (d : V) → result ≡ stage_at (stages_of self.now) c d }
     {
-        self.lent().value(c)
+        self.borrowed().value(c)
     }
 }

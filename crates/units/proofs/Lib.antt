@@ -1,12 +1,12 @@
 pub mod CodePoints
 pub mod Cuts
 pub mod FirstItem
-pub mod HandingOut
+pub mod SourceReads
 pub mod Lengths
 pub mod LineAppending
 pub mod LineReading
 pub mod LineRunning
-pub mod LineStanding
+pub mod LineCuttingSteps
 pub mod Numbers
 pub mod Options
 pub mod Ranges

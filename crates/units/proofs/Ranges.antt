@@ -25,7 +25,7 @@ cut_at-some separator (b ∷ bs) =
       | false ↦ (b ∷ again.0, again.1, ap (onto_first b) again.2)
     ]
 
-pub ends_of_pieces-behind : (a b c d : List ℕ) → ends_of_pieces (a ∷ b ∷ c ∷ cut_at 46 d) ≡ None
-ends_of_pieces-behind a b c d = let s = cut_at-some 46 d in rw s.2 (ends_of_pieces-four a b c s.0 s.1)
+pub ends_of_pieces-following : (a b c d : List ℕ) → ends_of_pieces (a ∷ b ∷ c ∷ cut_at 46 d) ≡ None
+ends_of_pieces-following a b c d = let s = cut_at-some 46 d in rw s.2 (ends_of_pieces-four a b c s.0 s.1)
 
-pub ruleset range_pieces = (ends_of_pieces-two, ends_of_pieces-between, ends_of_pieces-behind)
+pub ruleset range_pieces = (ends_of_pieces-two, ends_of_pieces-between, ends_of_pieces-following)

@@ -32,11 +32,11 @@ unfolding explicit_levels_compute
 unmatched_pdi = refl
 
 -- an embedding in an overflow isolate closes with the isolate, and the PDF after it closes the last embedding around
-pub refused_in_refused : explicit_of standard.depth
+pub embedding_in_overflow_isolate : explicit_of standard.depth
     (replicated 62 (RLE ∷ LRE ∷ []) ++ RLE ∷ LRI ∷ LRE ∷ PDI ∷ PDF ∷ L ∷ []) 0
     ≡ replicate 125 None ++ Some (125, LRI) ∷ None ∷ Some (125, PDI) ∷ None ∷ Some (124, L) ∷ []
 unfolding explicit_levels_compute
-refused_in_refused = refl
+embedding_in_overflow_isolate = refl
 
 -- the 125th initiator has level 125, the 126th overflows
 pub deepest_level : laid_out (map plain (replicated 62 (RLE ∷ LRE ∷ []) ++ RLE ∷ LRE ∷ L ∷ [])) Ltr
@@ -45,17 +45,17 @@ unfolding layouts_compute
 deepest_level = refl
 
 -- each PDF closes one of the overflow embeddings
-pub refused_ones_close : laid_out
+pub overflow_embeddings_close : laid_out
     (map plain (replicated 62 (RLE ∷ LRE ∷ []) ++ RLE ∷ LRE ∷ RLE ∷ PDF ∷ PDF ∷ L ∷ [])) Ltr
     ≡ (replicate 129 None ++ Some 126 ∷ [], 129 ∷ [])
 unfolding layouts_compute
-refused_ones_close = refl
+overflow_embeddings_close = refl
 
 -- inside an initiator that overflows every initiator overflows, even if its level alone would be allowed
-pub refused_inside_refused : laid_out (map plain (replicated 62 (RLE ∷ LRE ∷ []) ++ LRE ∷ RLE ∷ L ∷ [])) Ltr
+pub embedding_in_overflow_embedding : laid_out (map plain (replicated 62 (RLE ∷ LRE ∷ []) ++ LRE ∷ RLE ∷ L ∷ [])) Ltr
     ≡ (replicate 126 None ++ Some 124 ∷ [], 126 ∷ [])
 unfolding layouts_compute
-refused_inside_refused = refl
+embedding_in_overflow_embedding = refl
 
 -- a removed position has no level and is in no order
 pub removed_alone_auto : laid_out (map plain (LRE ∷ [])) Auto
@@ -82,11 +82,11 @@ unfolding layouts_compute
 pdi_closes_no_embedding = refl
 
 -- a PDF inside an overflow isolate closes nothing outside it
-pub pdf_in_refused_isolate :
+pub pdf_in_overflow_isolate :
     (laid_out (map plain (replicated 62 (RLE ∷ LRE ∷ []) ++ RLE ∷ LRI ∷ PDF ∷ PDI ∷ L ∷ [])) Ltr).0
     ≡ replicate 125 None ++ Some 125 ∷ None ∷ Some 125 ∷ Some 126 ∷ []
 unfolding layouts_compute
-pdf_in_refused_isolate = refl
+pdf_in_overflow_isolate = refl
 
 -- PDF closes the last open embedding, and the override outside it stays in effect
 pub embeddings_in_override : (laid_out (map plain (RLO ∷ LRE ∷ L ∷ PDF ∷ PDI ∷ LRE ∷ L ∷ PDF ∷ [])) Ltr).0

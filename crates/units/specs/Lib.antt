@@ -28,7 +28,7 @@ pub mod Text
 pub mod Cuts
 pub mod Lines
 pub mod LineCutting
-pub mod LineAnswers
+pub mod LineReturns
 pub mod Joined
-pub mod HandsOut
+pub mod Provides
 pub mod CutSources

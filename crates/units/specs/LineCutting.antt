@@ -8,31 +8,31 @@ use Rattle.units.specs.declared.line_cut.Phase.TheVariants.{Within, Ended, Faile
 pub record Cutting : Type 0 where
   pub phase : Phase
   pub done : ℕ
-  pub held : List ℕ
+  pub stored : List ℕ
 
 -- what a line splitter in this phase stores after these lines
 abbrev pub HoldsAfter : Phase → ℕ → List ℕ → List ℕ → List (List ℕ) → Type 0
-HoldsAfter Within done held bytes lines = CutsInto bytes lines held × (done ≡ saturated (length lines))
-HoldsAfter Ended done held bytes lines = CutsInto bytes (lines ++ held ∷ []) [] × (done ≡ saturated (length lines + 1))
-HoldsAfter Failed done held bytes lines = IsTooLongAfter bytes lines × (done ≡ saturated (length lines))
+HoldsAfter Within done stored bytes lines = CutsInto bytes lines stored × (done ≡ saturated (length lines))
+HoldsAfter Ended done stored bytes lines = CutsInto bytes (lines ++ stored ∷ []) [] × (done ≡ saturated (length lines + 1))
+HoldsAfter Failed done stored bytes lines = IsTooLongAfter bytes lines × (done ≡ saturated (length lines))
 
 -- a line splitter that was given these bytes, in any pieces
-pub record StandsFor (cutter : Cutting) (bytes : List ℕ) : Type 0 where
+pub record Represents (splitter : Cutting) (bytes : List ℕ) : Type 0 where
   pub lines : List (List ℕ)
-  pub holds : HoldsAfter cutter.phase cutter.done cutter.held bytes lines
+  pub holds : HoldsAfter splitter.phase splitter.done splitter.stored bytes lines
 
 -- if the first line splitter represents a byte list, the second represents that list and then these bytes
 abbrev pub GoesOn : Cutting → List ℕ → Cutting → Type 0
-GoesOn before piece after = (b : List ℕ) → StandsFor before b → StandsFor after (b ++ piece)
+GoesOn before piece after = (b : List ℕ) → Represents before b → Represents after (b ++ piece)
 
 -- a property of a line splitter that was given no over-long line
 abbrev pub IfCut : Cutting → Type 0 → Type 0
-IfCut cutter fact =
-    (b : List ℕ) (lines : List (List ℕ)) (rest : List ℕ) → StandsFor cutter b → CutsInto b lines rest → fact
+IfCut splitter fact =
+    (b : List ℕ) (lines : List (List ℕ)) (rest : List ℕ) → Represents splitter b → CutsInto b lines rest → fact
 
 -- a property of a line splitter that was given an over-long line
 abbrev pub IfTooLong : Cutting → Type 0 → Type 0
-IfTooLong cutter fact = (b : List ℕ) (lines : List (List ℕ)) → StandsFor cutter b → IsTooLongAfter b lines → fact
+IfTooLong splitter fact = (b : List ℕ) (lines : List (List ℕ)) → Represents splitter b → IsTooLongAfter b lines → fact
 
 -- the phase of a line splitter after a piece of which this number of bytes was used
 abbrev pub Reaches : Phase → ℕ → List ℕ → Type 0

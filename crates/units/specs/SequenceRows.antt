@@ -37,7 +37,7 @@ unfolding layouts_compute
 not_joined = refl
 
 -- an isolate does not
-pub goes_on_behind_isolate : laid_out (map plain (R ∷ ON ∷ LRI ∷ L ∷ PDI ∷ ON ∷ R ∷ [])) Ltr
+pub continues_after_isolate : laid_out (map plain (R ∷ ON ∷ LRI ∷ L ∷ PDI ∷ ON ∷ R ∷ [])) Ltr
     ≡ (Some 1 ∷ Some 1 ∷ Some 1 ∷ Some 2 ∷ Some 1 ∷ Some 1 ∷ Some 1 ∷ [], 6 ∷ 5 ∷ 4 ∷ 3 ∷ 2 ∷ 1 ∷ 0 ∷ [])
 unfolding layouts_compute
-goes_on_behind_isolate = refl
+continues_after_isolate = refl

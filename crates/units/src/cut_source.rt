@@ -10,7 +10,7 @@ use std::marker::Model;
 /// whether the source has failed.
 #[derive(Drop)]
 pub struct CutSource<'a> {
-    left: &'a [u8],
+    limit: &'a [u8],
     has_failed: bool,
 }
 
@@ -20,48 +20,48 @@ impl<'a> Model for CutSource<'a> {
 
     ghost Value = { CutView };
 
-    ghost view = { λ s. record { left = s.left.now; has_failed = s.has_failed } };
+    ghost view = { λ s. record { limit = s.limit.now; has_failed = s.has_failed } };
 
-    ghost invariant = { λ s. s.has_failed ≡ true → s.left.now ≡ [] };
+    ghost invariant = { λ s. s.has_failed ≡ true → s.limit.now ≡ [] };
 }
 
 impl<'a> CutSource<'a> {
     /// Makes a source of the first `count` bytes.
     pub fn new(bytes: &'a [u8], count: usize) -> Self
         requires { count ≤ length bytes.now }
-        ensures left { result.left ≡ take count bytes.now }
+        ensures limit { result.limit ≡ take count bytes.now }
         ensures sound { result.has_failed ≡ false }
     {
         CutSource {
-            left: &bytes[..count],
+            limit: &bytes[..count],
             has_failed: false,
         }
     }
 }
 
 impl ByteSource for CutSource<'_> {
-    ghost gives = { λ s xs t. s.left ≡ xs ++ t.left };
+    ghost gives = { λ s xs t. s.limit ≡ xs ++ t.limit };
 
     ghost ended = { λ _. ⊥ };
 
     ghost failures = { λ s. failures_when s.has_failed };
 
-    ghost most_left = { λ s. length s.left };
+    ghost most_remaining = { λ s. length s.limit };
 
     ghost gives_nothing = { λ s. refl };
 
-    ghost gives_joined = { λ s t u xs ys f g. splits_joined s.left t.left u.left xs ys f g };
+    ghost gives_joined = { λ s t u xs ys f g. splits_joined s.limit t.limit u.limit xs ys f g };
 
     fn read(&mut self, buf: &mut [u8]) -> Result<usize, SourceFault> {
-        if self.has_failed || self.left.is_empty() {
+        if self.has_failed || self.limit.is_empty() {
             self.has_failed = true;
             return Err(SourceFault);
         }
-        let left = self.left;
-        let n = left.len().min(buf.len());
-        let (now, later) = left.split_at(n);
+        let limit = self.limit;
+        let n = limit.len().min(buf.len());
+        let (now, later) = limit.split_at(n);
         buf[..n].copy_from_slice(now);
-        self.left = later;
+        self.limit = later;
         Ok(n)
     }
 
@@ -69,7 +69,7 @@ impl ByteSource for CutSource<'_> {
         if self.has_failed { 1 } else { 0 }
     }
 
-    fn most_left(&self) -> u64 {
-        self.left.len() as u64
+    fn most_remaining(&self) -> u64 {
+        self.limit.len() as u64
     }
 }

@@ -49,7 +49,7 @@ impl Model for LineCut {
 
     ghost Value = { Cutting };
 
-    ghost view = { λ s. record { phase = s.phase; done = s.done; held = take s.len s.buffer } };
+    ghost view = { λ s. record { phase = s.phase; done = s.done; stored = take s.len s.buffer } };
 
     ghost invariant = { λ s. s.len ≤ longest_line };
 }
@@ -63,15 +63,15 @@ fn put(buffer: &mut [u8], at: usize, bytes: &[u8])
 }
 
 impl LineCut {
-    ghost use Rattle.units.specs.LineCutting.{Cutting, StandsFor, GoesOn, IfCut, IfTooLong, Reaches};
-    ghost use Rattle.units.specs.LineAnswers.{AnswersPiece, Finishes, CutIsShort};
+    ghost use Rattle.units.specs.LineCutting.{Cutting, Represents, GoesOn, IfCut, IfTooLong, Reaches};
+    ghost use Rattle.units.specs.LineReturns.{ReturnsPiece, Finishes, CutIsShort};
     ghost use Rattle.units.specs.contracts.line_cut.LineCut.{the_row};
     ghost use Rattle.std.specs.Borrow.{sem};
     ghost use Rattle.std.specs.Io.BufRead.{Rests};
 
     /// Makes a line splitter before the first byte.
     pub fn new() -> Self
-        ensures { StandsFor result [] }
+        ensures { Represents result [] }
     {
         LineCut {
             buffer: [0; LONGEST_LINE],
@@ -83,7 +83,7 @@ impl LineCut {
 
     // Begins the next line if a line has ended.
     fn begin(&mut self)
-        ensures stands { (b : List ℕ) → StandsFor self.old b → StandsFor self.new b }
+        ensures represents { (b : List ℕ) → Represents self.old b → Represents self.new b }
         ensures open { self.new.phase ≢ Phase.Ended }
     {
         if let Phase::Ended = self.phase {
@@ -96,7 +96,7 @@ impl LineCut {
     fn hold(&mut self, text: &[u8])
         requires within { self.old.phase ≡ Phase.Within }
         requires feeds { HasNoFeed text.now }
-        ensures stands { GoesOn self.old text.now self.new }
+        ensures represents { GoesOn self.old text.now self.new }
         ensures open { self.new.phase ≢ Phase.Ended }
     {
         if text.len() > LONGEST_LINE - self.len {
@@ -110,7 +110,7 @@ impl LineCut {
     // Ends a line with its line feed.
     fn end(&mut self)
         requires { self.old.phase ≢ Phase.Ended }
-        ensures stands { GoesOn self.old (10 ∷ []) self.new }
+        ensures represents { GoesOn self.old (10 ∷ []) self.new }
         ensures ended { self.new.phase ≢ Phase.Within }
     {
         if let Phase::Within = self.phase {
@@ -122,7 +122,7 @@ impl LineCut {
     // Takes the piece through its first LF, or whole, and returns how many bytes were used.
     fn advance(&mut self, piece: &[u8]) -> usize
         ensures used { result ≤ length piece.now }
-        ensures stands { GoesOn self.old (take result piece.now) self.new }
+        ensures represents { GoesOn self.old (take result piece.now) self.new }
         ensures some { 0 < length piece.now → 0 < result }
         ensures reaches { Reaches self.new.phase result piece.now }
         ensures through { IfCut self.old (EndsByFeed result piece.now) }
@@ -147,7 +147,7 @@ impl LineCut {
     }
 
     fn text(&self) -> &[u8]
-        ensures held { result.now ≡ self.now.held }
+        ensures stored { result.now ≡ self.now.stored }
         ensures short { length result.now ≤ longest_line }
     {
         &self.buffer[..self.len]
@@ -162,7 +162,7 @@ impl LineCut {
         ensures line { IfCut self.old (UsesOneLine result.0 piece.now) }
         ensures whole { IfTooLong self.old (result.0 ≡ length piece.now) }
         ensures short { CutIsShort result.1 }
-        ensures answer { (b : List ℕ) → StandsFor self.old b → AnswersPiece b piece.now result.0 result.1 }
+        ensures outcome { (b : List ℕ) → Represents self.old b → ReturnsPiece b piece.now result.0 result.1 }
         ensures* after { sem 𝓛 (Rests the_row self.entry (GoesOn self.old (take result.0 piece.now))) }
     {
         let used = self.advance(piece);
@@ -183,7 +183,7 @@ impl LineCut {
     /// Returns the number and the bytes of the line that has begun and not ended, if it has a byte. Returns `None`
     /// after an over-long line.
     pub fn finish(&self) -> Option<(u64, &[u8])>
-        ensures last { (b : List ℕ) → StandsFor self.now b → Finishes b result }
+        ensures last { (b : List ℕ) → Represents self.now b → Finishes b result }
         ensures short { IfSome result (λ last. length last.1.now ≤ longest_line) }
     {
         match self.phase {

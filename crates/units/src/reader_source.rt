@@ -1,6 +1,6 @@
 // A source over any reader.
 ghost use Rattle.std.specs.Prelude.{◌≡◌};
-ghost use Rattle.units.specs.HandsOut.{HandsOut, ReaderHasEnded, failures_of, unread_of, HandsOut-nothing, HandsOut-joined};
+ghost use Rattle.units.specs.Provides.{Provides, ReaderHasEnded, failures_of, unread_of, Provides-nothing, Provides-joined};
 
 use crate::source::{ByteSource, SourceFault};
 use crate::unread::Unread;
@@ -23,7 +23,7 @@ pub enum State {
 #[derive(Drop)]
 pub struct ReaderSource<R: Read + Drop> {
     reader: R,
-    left: u64,
+    limit: u64,
     state: State,
 }
 
@@ -31,11 +31,11 @@ impl<R: Read + Drop> Model for ReaderSource<R> {
     ghost use Rattle.std.specs.Prelude.{◌≡◌};
     ghost use Rattle.std.specs.Io.KnownBytes.{IsAtEnd};
     ghost use Rattle.units.specs.declared.reader_source.State.TheVariants.{Ended};
-    ghost use Rattle.units.specs.HandsOut.{Reading};
+    ghost use Rattle.units.specs.Provides.{Reading};
 
     ghost Value = { Reading };
 
-    ghost view = { λ s. record { remaining = R.remaining s.reader; left = s.left; state = s.state } };
+    ghost view = { λ s. record { remaining = R.remaining s.reader; limit = s.limit; state = s.state } };
 
     ghost invariant = { λ s. s.state ≡ Ended → IsAtEnd (R.remaining s.reader) };
 }
@@ -44,12 +44,12 @@ impl<R: Read + Drop> ReaderSource<R> {
     /// Makes a source over this reader that returns at most `most` bytes.
     pub fn new(reader: R, most: u64) -> Self
         ensures reader { result.remaining ≡ R.remaining reader }
-        ensures left { result.left ≡ most }
+        ensures limit { result.limit ≡ most }
         ensures state { result.state ≡ State.Open }
     {
         ReaderSource {
             reader,
-            left: most,
+            limit: most,
             state: State::Open,
         }
     }
@@ -67,17 +67,17 @@ impl<R: Read + Drop> ReaderSource<R> {
 }
 
 impl<R: Read + Drop> ByteSource for ReaderSource<R> {
-    ghost gives = { λ s xs t. HandsOut s.remaining t.remaining s.left t.left s.state t.state xs };
+    ghost gives = { λ s xs t. Provides s.remaining t.remaining s.limit t.limit s.state t.state xs };
 
     ghost ended = { λ s. ReaderHasEnded s };
 
     ghost failures = { λ s. failures_of s.state };
 
-    ghost most_left = { λ s. s.left };
+    ghost most_remaining = { λ s. s.limit };
 
-    ghost gives_nothing = { λ s. HandsOut-nothing s.remaining s.left s.state };
+    ghost gives_nothing = { λ s. Provides-nothing s.remaining s.limit s.state };
 
-    ghost gives_joined = { λ s t u xs ys f g. HandsOut-joined s.remaining t.remaining u.remaining s.left t.left u.left s.state t.state u.state xs ys f g };
+    ghost gives_joined = { λ s t u xs ys f g. Provides-joined s.remaining t.remaining u.remaining s.limit t.limit u.limit s.state t.state u.state xs ys f g };
 
     fn read(&mut self, buf: &mut [u8]) -> Result<usize, SourceFault> {
         match self.state {
@@ -95,11 +95,11 @@ impl<R: Read + Drop> ByteSource for ReaderSource<R> {
                 Ok(0)
             }
             Ok(n) => {
-                if n as u64 > self.left {
+                if n as u64 > self.limit {
                     self.state = State::Failed(Unread::TooLarge);
                     return Err(SourceFault);
                 }
-                self.left -= n as u64;
+                self.limit -= n as u64;
                 Ok(n)
             }
         }
@@ -112,7 +112,7 @@ impl<R: Read + Drop> ByteSource for ReaderSource<R> {
         }
     }
 
-    fn most_left(&self) -> u64 {
-        self.left
+    fn most_remaining(&self) -> u64 {
+        self.limit
     }
 }

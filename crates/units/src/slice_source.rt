@@ -8,13 +8,13 @@ use std::marker::Model;
 /// A source of the bytes of a slice, which never fails. Contracts see the bytes that remain.
 #[derive(Drop)]
 pub struct SliceSource<'a> {
-    left: &'a [u8],
+    limit: &'a [u8],
 }
 
 impl<'a> Model for SliceSource<'a> {
     ghost Value = { List ℕ };
 
-    ghost view = { λ s. s.left.now };
+    ghost view = { λ s. s.limit.now };
 }
 
 impl<'a> SliceSource<'a> {
@@ -22,7 +22,7 @@ impl<'a> SliceSource<'a> {
     pub fn new(bytes: &'a [u8]) -> Self
         ensures { result ≡ bytes.now }
     {
-        SliceSource { left: bytes }
+        SliceSource { limit: bytes }
     }
 }
 
@@ -33,18 +33,18 @@ impl ByteSource for SliceSource<'_> {
 
     ghost failures = { λ _. 0 };
 
-    ghost most_left = { length };
+    ghost most_remaining = { length };
 
     ghost gives_nothing = { λ s. refl };
 
     ghost gives_joined = { splits_joined };
 
     fn read(&mut self, buf: &mut [u8]) -> Result<usize, SourceFault> {
-        let left = self.left;
-        let n = left.len().min(buf.len());
-        let (now, later) = left.split_at(n);
+        let limit = self.limit;
+        let n = limit.len().min(buf.len());
+        let (now, later) = limit.split_at(n);
         buf[..n].copy_from_slice(now);
-        self.left = later;
+        self.limit = later;
         Ok(n)
     }
 
@@ -52,7 +52,7 @@ impl ByteSource for SliceSource<'_> {
         0
     }
 
-    fn most_left(&self) -> u64 {
-        self.left.len() as u64
+    fn most_remaining(&self) -> u64 {
+        self.limit.len() as u64
     }
 }

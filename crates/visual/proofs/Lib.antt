@@ -1,12 +1,12 @@
 pub mod SameLevel
-pub mod Kept
+pub mod EffectiveLevels
 pub mod InOrder
 pub mod LevelRuns
 pub mod LineRuns
 pub mod Partition
 pub mod SameCount
 pub mod NextRuns
-pub mod Walked
-pub mod Told
+pub mod Passed
+pub mod Converted
 pub mod GivenOrder
 pub mod GivenResets

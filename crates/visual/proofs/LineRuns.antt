@@ -6,14 +6,14 @@ use Rattle.units.specs.Isolates.{level_of_para}
 use Rattle.units.specs.declared.level.ParaLevel.{ParaLevel}
 use Rattle.units.specs.declared.level.ParaLevel.TheVariants.{Zero, One}
 use Rattle.lines.specs.LinePositions.{HasLevel}
-use Rattle.visual.specs.KeptLevels.{next_remaining}
+use Rattle.visual.specs.EffectiveLevelRanges.{next_remaining}
 use Rattle.visual.specs.Spans.{AllRemoved, BeginsAt, IsAlone, level_at_place, level_or_para}
 use Rattle.visual.specs.VisualRuns.{IsInOrder, IsRunAt, end_place, last_place, level_in}
 use Rattle.visual.specs.declared.line.OrderedLine.{OrderedLine}
 use Rattle.visual.specs.declared.runs.VisualRun.{VisualRun}
-use Rattle.visual.proofs.Kept.{kept-own, kept-end, kept-through}
+use Rattle.visual.proofs.EffectiveLevels.{effective-own, effective-end, effective-through}
 use Rattle.visual.proofs.InOrder.{IsSameLevel, remaining_at, same-rising, same-falling}
-use Rattle.visual.proofs.LevelRuns.{IsFound, ends_of, found_own, found_place, found_covers, some_level}
+use Rattle.visual.proofs.LevelRuns.{IsSearched, ends_of, computed_own, run_place, run_covers, some_level}
 
 abbrev pub para_of : OrderedLine → ℕ
 para_of line = level_of_para line.para_level
@@ -45,17 +45,17 @@ same_level line from to o b lt within same ends =
     }
 
 -- a run with these properties is the run at its place
-pub found_run : (line : OrderedLine) (place low high : ℕ) (run : VisualRun) → IsFound line.levels.now (para_of line) line.start line.end line.order.now place (place + run.shown) run.level low high run.start run.end → IsRunAt line place run
-found_run line place low high run f =
-    let own = found_own line.levels.now (para_of line) line.start line.end line.order.now place (place + run.shown) run.level low high run.start run.end f in
+pub is_run_at : (line : OrderedLine) (place low high : ℕ) (run : VisualRun) → IsSearched line.levels.now (para_of line) line.start line.end line.order.now place (place + run.shown) run.level low high run.start run.end → IsRunAt line place run
+is_run_at line place low high run f =
+    let own = computed_own line.levels.now (para_of line) line.start line.end line.order.now place (place + run.shown) run.level low high run.start run.end f in
     let begins : line.start < run.start → level_in line (run.start - 1) ≢ run.level = λ l. elim own.begins [ inl e ↦ absurd (omega arith) | inr ne ↦ ne ] in
     let ends : run.end < line.end → level_in line run.end ≢ run.level = λ l. elim own.ends [ inl e ↦ absurd (omega arith) | inr ne ↦ ne ] in
     record {
       level = record { some = own.some; from = own.first; within = own.within; level = own.level; begins = begins; ends = ends };
-      stands = record {
+      represents = record {
         inside = f.same.inside;
-        own = λ i a b. found_covers line.levels.now (para_of line) line.start line.end line.order.now place (place + run.shown) run.level low high run.start run.end i f a b;
-        all = λ p c s. found_place line.levels.now (para_of line) line.start line.end line.order.now place (place + run.shown) run.level low high run.start run.end p f c.0 c.1 s;
+        own = λ i a b. run_covers line.levels.now (para_of line) line.start line.end line.order.now place (place + run.shown) run.level low high run.start run.end i f a b;
+        all = λ p c s. run_place line.levels.now (para_of line) line.start line.end line.order.now place (place + run.shown) run.level low high run.start run.end p f c.0 c.1 s;
         removed = λ z. absurd (omega (arith, f.same.some, z));
         rising = λ even i j a l b. same-rising line.levels.now line.start line.end line.order.now place (place + run.shown) run.level i j f.in_order f.same even a l b;
         falling = λ odd i j a l b. same-falling line.levels.now line.start line.end line.order.now place (place + run.shown) run.level i j f.in_order f.same odd a l b;
@@ -73,7 +73,7 @@ run_from-is line place to low high bound run o b lt within same ends level shown
     (l ∙ ap (λ n. min (slice_index line.order.now place) n) at) (h ∙ ap (λ n. max (slice_index line.order.now place) n) at) in
     let r = remaining_at line.levels.now line.start line.end line.order.now e.lower.0 o (omega (arith, s.inside, e.lower.2)) in
     let bound_is : bound ≡ line.start = omega (arith, r.low, e.lower.3, bounded) in
-    found_run line place low high run (record {
+    is_run_at line place low high run (record {
       in_order = o;
       same = s;
       ends = e;
@@ -104,8 +104,8 @@ removed_run-is line run some first removed end level shown stops alone =
         from = first;
         within = omega arith;
         level = λ p a b.
-            kept-through line.levels.now (para_of line) line.end p line.end (omega arith) (omega arith) (λ d c g. removed d (omega arith) g)
-            ∙ kept-end line.levels.now (para_of line) line.end ∙ sym level;
+            effective-through line.levels.now (para_of line) line.end p line.end (omega arith) (omega arith) (λ d c g. removed d (omega arith) g)
+            ∙ effective-end line.levels.now (para_of line) line.end ∙ sym level;
         begins = λ l. elim stops [
           | inl e ↦ absurd (omega arith)
           | inr t ↦ elim alone [
@@ -113,12 +113,12 @@ removed_run-is line run some first removed end level shown stops alone =
             | inr ne ↦ λ same.
                 let u = some_level (slice_index_or line.levels.now (run.start - 1) None) t.1 in
                 let own : level_or_para line (run.start - 1) ≡ u.0 = ap (λ x. unwrap_or x (para_of line)) u.1 in
-                ne (own ∙ sym (kept-own line.levels.now (para_of line) line.end (run.start - 1) u.0 (omega arith) u.1) ∙ same ∙ level)
+                ne (own ∙ sym (effective-own line.levels.now (para_of line) line.end (run.start - 1) u.0 (omega arith) u.1) ∙ same ∙ level)
           ]
         ];
         ends = λ l. absurd (omega arith);
       };
-      stands = record {
+      represents = record {
         inside = omega (arith, end_place_inside line, shown);
         own = λ i a b. absurd (omega arith);
         all = λ p c s.

@@ -2,15 +2,15 @@
 use Rattle.std.proofs.Common.{◌≡◌, ℕ, ◌+◌, ◌-◌, ◌<◌, ◌≤◌, ◌⊎◌, Option, Some, None, List, [], ◌∷◌, length, zero, suc, refl, sym, ap, ◌∙◌, inl, inr, arith}
 use Rattle.std.specs.Prelude.{IsSome, slice_index, slice_index_or}
 use Rattle.std.proofs.lemmas.Bool.{cases_lt}
-use Rattle.visual.specs.KeptLevels.{next_remaining}
+use Rattle.visual.specs.EffectiveLevelRanges.{next_remaining}
 use Rattle.visual.specs.Spans.{AllRemoved}
 use Rattle.visual.specs.VisualRuns.{Covers, IsInOrder, IsLevelRun, IsRunAt, level_in}
 use Rattle.visual.specs.LineRuns.{AreRunsOf, IsRemovedRun, JoinTheLast, AreSideBySide, run_numbered}
 use Rattle.visual.specs.declared.line.OrderedLine.{OrderedLine}
 use Rattle.visual.specs.declared.runs.VisualRun.{VisualRun}
-use Rattle.visual.proofs.Kept.{kept-own, kept-end, kept-through}
+use Rattle.visual.proofs.EffectiveLevels.{effective-own, effective-end, effective-through}
 use Rattle.visual.proofs.InOrder.{place_of, remaining_at, left_at, some_from_level}
-use Rattle.visual.proofs.LevelRuns.{next_is, removed_behind}
+use Rattle.visual.proofs.LevelRuns.{next_is, removed_after}
 use Rattle.visual.proofs.LineRuns.{para_of}
 
 -- if all positions from one of a run to another position have its level, the run has that position too
@@ -39,7 +39,7 @@ pub stand_at : (line : OrderedLine) (from : ℕ) (runs : List VisualRun) (to i :
 stand_at line from [] to i s a b = absurd (omega (arith, s))
 stand_at line from (run ∷ runs) to i s a b =
     elim (cases_lt i (from + run.shown)) [
-      | inl l ↦ (0, omega arith, s.0.stands.own i a l, s.0.level)
+      | inl l ↦ (0, omega arith, s.0.represents.own i a l, s.0.level)
       | inr l ↦
           let t = stand_at line (from + run.shown) runs to i s.1 l b in
           (suc t.0, omega (arith, t.1), t.2, t.3)
@@ -56,17 +56,17 @@ run_at line from (run ∷ runs) to (suc k) s lt =
 -- two runs with their places
 pub record StandApart (line : OrderedLine) (run other : VisualRun) : Type 0 where
   pub place : ℕ
-  pub behind : ℕ
+  pub following : ℕ
   pub first : IsRunAt line place run
-  pub second : IsRunAt line behind other
-  pub apart : place + run.shown ≤ behind
+  pub second : IsRunAt line following other
+  pub apart : place + run.shown ≤ following
 
 stand_apart : (line : OrderedLine) (from : ℕ) (runs : List VisualRun) (to i j : ℕ) → AreSideBySide line from runs to → i < j → j < length runs → StandApart line (run_numbered runs i) (run_numbered runs j)
 stand_apart line from [] to i j s lt within = absurd (omega arith)
 stand_apart line from (run ∷ runs) to i zero s lt within = absurd (omega arith)
 stand_apart line from (run ∷ runs) to zero (suc j) s lt within =
     let t = run_at line (from + run.shown) runs to j s.1 (omega arith) in
-    record { place = from; behind = t.0; first = s.0; second = t.2; apart = t.1 }
+    record { place = from; following = t.0; first = s.0; second = t.2; apart = t.1 }
 stand_apart line from (run ∷ runs) to (suc i) (suc j) s lt within =
     stand_apart line (from + run.shown) runs to i j s.1 (omega arith) (omega arith)
 
@@ -81,19 +81,19 @@ none_shown line run other p o s c d =
     let first : run.shown ≡ 0 = elim (cases_lt 0 run.shown) [
       | inl l ↦
           let x = slice_index line.order.now s.place in
-          let in_run : Covers run x = s.first.stands.own s.place (omega arith) (omega arith) in
+          let in_run : Covers run x = s.first.represents.own s.place (omega arith) (omega arith) in
           let in_other : Covers other x = same_span line run other p x s.first.level s.second.level c d in_run in
-          let m = s.second.stands.all x in_other (some_at line s.place o (omega (arith, s.first.stands.inside))) in
-          let t = left_at line.levels.now line.start line.end line.order.now s.place m.0 o (omega (arith, m.1, s.apart)) (omega (arith, m.2, s.second.stands.inside)) in
+          let m = s.second.represents.all x in_other (some_at line s.place o (omega (arith, s.first.represents.inside))) in
+          let t = left_at line.levels.now line.start line.end line.order.now s.place m.0 o (omega (arith, m.1, s.apart)) (omega (arith, m.2, s.second.represents.inside)) in
           absurd (t.apart (sym m.3))
       | inr l ↦ omega arith
     ] in
     let second : other.shown ≡ 0 = elim (cases_lt 0 other.shown) [
       | inl l ↦
-          let x = slice_index line.order.now s.behind in
-          let in_other : Covers other x = s.second.stands.own s.behind (omega arith) (omega arith) in
+          let x = slice_index line.order.now s.following in
+          let in_other : Covers other x = s.second.represents.own s.following (omega arith) (omega arith) in
           let in_run : Covers run x = same_span line other run p x s.second.level s.first.level d c in_other in
-          let m = s.first.stands.all x in_run (some_at line s.behind o (omega (arith, s.second.stands.inside))) in
+          let m = s.first.represents.all x in_run (some_at line s.following o (omega (arith, s.second.represents.inside))) in
           absurd (omega (arith, m.1, m.2, first))
       | inr l ↦ omega arith
     ] in
@@ -109,7 +109,7 @@ abbrev pub EndIsCovered : OrderedLine → List VisualRun → Type 0
 EndIsCovered line runs = JoinTheLast line ⊎ ((k : ℕ) × (k < length runs) × IsRemovedRun line (run_numbered runs k))
 
 at_para : (line : OrderedLine) (p : ℕ) → p ≤ line.end → AllRemoved line.levels.now p line.end → level_in line p ≡ para_of line
-at_para line p le gone = kept-through line.levels.now (para_of line) line.end p line.end le (omega arith) gone ∙ kept-end line.levels.now (para_of line) line.end
+at_para line p le gone = effective-through line.levels.now (para_of line) line.end p line.end le (omega arith) gone ∙ effective-end line.levels.now (para_of line) line.end
 
 covered_end : (line : OrderedLine) (runs : List VisualRun) (p : ℕ) → IsInOrder line → AreSideBySide line 0 runs (length line.order.now) → EndIsCovered line runs → line.start ≤ p → p < line.end → AllRemoved line.levels.now p line.end → (k : ℕ) × (k < length runs) × Covers (run_numbered runs k) p
 covered_end line runs p o s e low high gone =
@@ -121,7 +121,7 @@ covered_end line runs p o s e low high gone =
           let at = stand_at line 0 runs (length line.order.now) place.at s (omega arith) place.inside in
           let run = run_numbered runs at.0 in
           let c : Covers run q = (omega (arith, at.2.0, place.is), omega (arith, at.2.1, place.is)) in
-          let own : level_in line q ≡ para_of line = kept-own line.levels.now (para_of line) line.end q (para_of line) (omega (arith, t.2)) t.3 in
+          let own : level_in line q ≡ para_of line = effective-own line.levels.now (para_of line) line.end q (para_of line) (omega (arith, t.2)) t.3 in
           let level : para_of line ≡ run.level = sym own ∙ at.3.level q c.0 c.1 in (
             at.0,
             at.1,
@@ -135,7 +135,7 @@ covered_end line runs p o s e low high gone =
           )
       | inr t ↦
           let run = run_numbered runs t.0 in
-          let r = t.2.stands.level in
+          let r = t.2.represents.level in
           let c : Covers run (line.end - 1) = (omega (arith, r.some, t.2.end), omega (arith, t.2.end)) in
           let last : level_in line (line.end - 1) ≡ para_of line = at_para line (line.end - 1) (omega arith) (λ d a b. gone d (omega arith) b) in
           let level : para_of line ≡ run.level = sym last ∙ r.level (line.end - 1) c.0 c.1 in (
@@ -160,10 +160,10 @@ covered_by line runs p (Some q) is o s e low high =
       extends line run q p at.3 c low high (λ x w.
           let x_low : p ≤ x = elim w [ inl u ↦ omega (arith, u.0, n.from) | inr u ↦ u.0 ] in
           let x_high : x ≤ q = elim w [ inl u ↦ omega (arith, u.1, n.from) | inr u ↦ u.1 ] in
-          kept-through line.levels.now (para_of line) line.end x q x_high (omega (arith, n.within)) (λ d a b. n.before d (omega arith) b) ∙ at.3.level q c.0 c.1),
+          effective-through line.levels.now (para_of line) line.end x q x_high (omega (arith, n.within)) (λ d a b. n.before d (omega arith) b) ∙ at.3.level q c.0 c.1),
     )
 covered_by line runs p None is o s e low high =
-    covered_end line runs p o s e low high (removed_behind line.levels.now line.end p is)
+    covered_end line runs p o s e low high (removed_after line.levels.now line.end p is)
 
 -- runs with these properties are those of the line
 pub are_runs : (line : OrderedLine) (runs : List VisualRun) → IsInOrder line → AreSideBySide line 0 runs (length line.order.now) → OneEmpty runs → EndIsCovered line runs → AreRunsOf line runs

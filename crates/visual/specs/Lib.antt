@@ -1,5 +1,5 @@
-pub mod KeptLevels
-pub mod KeptRows
+pub mod EffectiveLevelRanges
+pub mod EffectiveLevelRows
 pub mod GivenLevels
 pub mod GivenRows
 pub mod Spans

@@ -42,7 +42,7 @@ HasAtMost line most = (runs : List VisualRun) → AreRunsOf line runs → length
 pub record IsRemovedRun (line : OrderedLine) (run : VisualRun) : Type 0 where
   pub empty : run.shown ≡ 0
   pub end : run.end ≡ line.end
-  pub stands : IsRunAt line (end_place line) run
+  pub represents : IsRunAt line (end_place line) run
 
 -- removed positions at the end of the line, if there are any, are directly after one that has the level of the
 -- paragraph

@@ -11,20 +11,20 @@ pub record IsNextRun (old : Runs) (given : VisualRun) (new : Runs) : Type 0 wher
   pub line : new.line ≡ old.line
   pub run : IsInOrder old.line → IsRunAt old.line old.place given
   pub place : new.place ≡ old.place + given.shown
-  pub closed : old.end_is_left ≡ false → new.end_is_left ≡ false
-  pub either : ((0 < given.shown) × ((new.end_is_left ≡ old.end_is_left) ⊎ JoinTheLast old.line))
-      ⊎ (IsRemovedRun old.line given × (old.end_is_left ≡ true) × (new.end_is_left ≡ false)
+  pub closed : old.end_pending ≡ false → new.end_pending ≡ false
+  pub either : ((0 < given.shown) × ((new.end_pending ≡ old.end_pending) ⊎ JoinTheLast old.line))
+      ⊎ (IsRemovedRun old.line given × (old.end_pending ≡ true) × (new.end_pending ≡ false)
       × (old.place ≡ end_place old.line))
 
 -- no run remains
-pub record AreNoneLeft (old : Runs) : Type 0 where
+pub record IsExhausted (old : Runs) : Type 0 where
   pub place : old.place ≡ length old.line.order.now
-  pub end : (old.end_is_left ≡ false) ⊎ JoinTheLast old.line
+  pub end : (old.end_pending ≡ false) ⊎ JoinTheLast old.line
 
 -- a call returns the next run and changes the state, or returns none if none remains
 abbrev pub GivesRun : Runs → Option VisualRun → Runs → Type 0
-GivesRun old given new = MatchOption given (AreNoneLeft old) (λ run. IsNextRun old run new)
+GivesRun old given new = MatchOption given (IsExhausted old) (λ run. IsNextRun old run new)
 
 -- at most this number of runs remains: one for each place, and that of removed positions
-abbrev pub most_left : Runs → ℕ
-most_left runs = (length runs.line.order.now - runs.place) + (if runs.end_is_left then 1 else 0)
+abbrev pub most_remaining : Runs → ℕ
+most_remaining runs = (length runs.line.order.now - runs.place) + (if runs.end_pending then 1 else 0)

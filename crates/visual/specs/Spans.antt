@@ -1,7 +1,7 @@
 -- The starts and ends of the runs of a line.
 use Rattle.std.specs.Prelude.{ℕ, ◌≡◌, ◌≢◌, ◌<◌, ◌≤◌, ◌+◌, ◌-◌, ◌⊎◌, true, Option, None, List, is_some, slice_index, slice_index_or, unwrap_or}
 use Rattle.units.specs.Isolates.{level_of_para}
-use Rattle.visual.specs.KeptLevels.{next_remaining}
+use Rattle.visual.specs.EffectiveLevelRanges.{next_remaining}
 use Rattle.visual.specs.declared.line.OrderedLine.{OrderedLine}
 
 -- X9: all positions from p up to q were removed

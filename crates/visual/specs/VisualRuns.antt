@@ -4,7 +4,7 @@ use Rattle.units.specs.Isolates.{level_of_para}
 use Rattle.units.specs.Reordering.{IsLineOrder}
 use Rattle.units.specs.declared.level.ParaLevel.{ParaLevel}
 use Rattle.units.specs.declared.level.ParaLevel.TheVariants.{Zero, One}
-use Rattle.visual.specs.KeptLevels.{kept_level}
+use Rattle.visual.specs.EffectiveLevelRanges.{effective_level}
 use Rattle.visual.specs.declared.line.OrderedLine.{OrderedLine}
 use Rattle.visual.specs.declared.runs.VisualRun.{VisualRun}
 
@@ -14,7 +14,7 @@ IsInOrder line = IsLineOrder line.levels.now line.start line.end line.order.now
 
 -- the level of the position in the line
 abbrev pub level_in : OrderedLine → ℕ → ℕ
-level_in line p = kept_level line.levels.now (level_of_para line.para_level) line.end p
+level_in line p = effective_level line.levels.now (level_of_para line.para_level) line.end p
 
 -- the run has the position
 abbrev pub Covers : VisualRun → ℕ → Type 0
@@ -55,4 +55,4 @@ pub record RunIsAt (line : OrderedLine) (place : ℕ) (run : VisualRun) : Type 0
 -- the run is one of the line, and begins at this place
 pub record IsRunAt (line : OrderedLine) (place : ℕ) (run : VisualRun) : Type 0 where
   pub level : IsLevelRun line run
-  pub stands : RunIsAt line place run
+  pub represents : RunIsAt line place run

@@ -17,10 +17,10 @@ pub struct Runs<'a> {
     /// The place at which the next run begins.
     place: usize,
     /// Whether the run of removed positions at the end of the line, if there is one, has not been returned yet.
-    end_is_left: bool,
+    end_pending: bool,
     ghost inside: { place ≤ length line.order.now },
     ghost begins: { place < length line.order.now → BeginsAt line place },
-    ghost ahead: { end_is_left ≡ true → place ≤ end_place line },
+    ghost ahead: { end_pending ≡ true → place ≤ end_place line },
 }
 
 impl<'a> Runs<'a> {
@@ -32,12 +32,12 @@ impl<'a> Runs<'a> {
     pub fn of(line: OrderedLine<'a>) -> Runs<'a>
         ensures line { result.line ≡ line.entry }
         ensures place { result.place ≡ 0 }
-        ensures end { result.end_is_left ≡ true }
+        ensures end { result.end_pending ≡ true }
     {
         Runs {
             line,
             place: 0,
-            end_is_left: true,
+            end_pending: true,
         }
     }
 
@@ -45,30 +45,30 @@ impl<'a> Runs<'a> {
     fn next_removed(&mut self) -> Option<VisualRun>
         ensures line { self.new.line ≡ self.old.line }
         ensures place { self.new.place ≡ self.old.place }
-        ensures closed { self.old.end_is_left ≡ false → self.new.end_is_left ≡ false }
+        ensures closed { self.old.end_pending ≡ false → self.new.end_pending ≡ false }
         ensures given { IfSome result (λ run. IsRemovedRun self.old.line run
-            × (self.old.end_is_left ≡ true) × (self.new.end_is_left ≡ false)
+            × (self.old.end_pending ≡ true) × (self.new.end_pending ≡ false)
             × (self.old.place ≡ end_place self.old.line)) }
-        ensures left { IsNone result → (self.new.end_is_left ≡ self.old.end_is_left) ⊎ JoinTheLast self.old.line }
-        ensures ahead { self.new.end_is_left ≡ true → self.new.place < end_place self.new.line }
+        ensures left { IsNone result → (self.new.end_pending ≡ self.old.end_pending) ⊎ JoinTheLast self.old.line }
+        ensures ahead { self.new.end_pending ≡ true → self.new.place < end_place self.new.line }
     {
-        if !self.end_is_left || self.place != self.line.end_place() {
+        if !self.end_pending || self.place != self.line.end_place() {
             return None;
         }
-        self.end_is_left = false;
+        self.end_pending = false;
         self.line.removed_run()
     }
 }
 
 impl<'a> Iterator for Runs<'a> {
     ghost use Rattle.std.specs.Iterator.{at_most};
-    ghost use Rattle.visual.specs.NextRuns.{GivesRun, most_left};
+    ghost use Rattle.visual.specs.NextRuns.{GivesRun, most_remaining};
 
     type Item = VisualRun;
 
     ghost next_gives = { GivesRun };
 
-    ghost remaining = { λ runs. at_most (most_left runs) };
+    ghost remaining = { λ runs. at_most (most_remaining runs) };
 
     fn next(&mut self) -> Option<VisualRun> {
         if let Some(run) = self.next_removed() {

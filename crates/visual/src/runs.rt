@@ -1,7 +1,7 @@
 //! The runs of a line in their order from left to right.
 ghost use Rattle.std.specs.Prelude.{◌≡◌, ◌≢◌, ◌≤◌, ◌<◌, ◌+◌, ◌-◌, ◌⊎◌, ℕ, None, true, false, IfSome, IfNone, IsSome, IsNone, is_some, is_none, min, max, length, slice_index, slice_index_or, unwrap_or};
 ghost use Rattle.units.specs.Isolates.{level_of_para};
-ghost use Rattle.visual.specs.KeptLevels.{next_remaining};
+ghost use Rattle.visual.specs.EffectiveLevelRanges.{next_remaining};
 ghost use Rattle.visual.specs.LineRuns.{MayHaveRemovedRun};
 ghost use Rattle.visual.specs.Spans.{AllRemoved, BeginsAt, IsAlone, level_at_place, level_or_para};
 ghost use Rattle.visual.specs.VisualRuns.{IsInOrder, IsRunAt, end_place};
@@ -64,9 +64,9 @@ impl<'a> OrderedLine<'a> {
     }
 
     /// Returns the first place after this one whose position has another level, or the length of the order.
-    fn place_behind(&self, from: usize) -> usize
+    fn place_after(&self, from: usize) -> usize
         requires { from < length self.now.order.now }
-        ensures behind { from < result }
+        ensures following { from < result }
         ensures inside { result ≤ length self.now.order.now }
         ensures same { (i : ℕ) → from ≤ i → i < result → level_at_place self.now i ≡ level_at_place self.now from }
         ensures ends { result < length self.now.order.now → level_at_place self.now result ≢ level_at_place self.now from }
@@ -82,7 +82,7 @@ impl<'a> OrderedLine<'a> {
 
     /// Returns the position after a run, given its last remaining position and its level. Removed positions up to the
     /// end of the line belong to the run if it has the level of the paragraph.
-    fn end_behind(&self, last: usize, level: Level) -> usize
+    fn end_after(&self, last: usize, level: Level) -> usize
         requires { last < length self.now.levels.now }
         ensures joined { next_remaining self.now.levels.now self.now.end (last + 1) ≡ None
             → level ≡ level_of_para self.now.para_level → result ≡ self.now.end }
@@ -105,14 +105,14 @@ impl<'a> OrderedLine<'a> {
         ensures inside { from + result.shown ≤ length self.now.order.now }
         ensures ends { from + result.shown < length self.now.order.now → BeginsAt self.now (from + result.shown) }
     {
-        let to = self.place_behind(from);
+        let to = self.place_after(from);
         let first = self.order[from];
         let last = self.order[to - 1];
         let level = self.level_or_para(first);
         let least = first.min(last);
         VisualRun {
             start: first_removed(self.levels, self.start.min(least), least),
-            end: self.end_behind(first.max(last), level),
+            end: self.end_after(first.max(last), level),
             level,
             shown: to - from,
         }

@@ -103,7 +103,7 @@ impl Typesetter {
     }
 
     /// Adds the levels of a line, its runs and its order to the digest.
-    fn tell_line(&mut self, k: usize, digest: &mut Digest) {
+    fn add_line(&mut self, k: usize, digest: &mut Digest) {
         let layout = self.room.layout();
         if k >= layout.line_count() {
             return;
@@ -120,10 +120,10 @@ impl Typesetter {
     }
 
     /// Adds the level of the paragraph and all lines to the digest.
-    fn tell(&mut self, digest: &mut Digest) {
+    fn add_to(&mut self, digest: &mut Digest) {
         digest.add_para_levels(self.room.layout().para_levels());
         for k in 0..self.room.line_count() {
-            self.tell_line(k, digest);
+            self.add_line(k, digest);
         }
     }
 
@@ -143,7 +143,7 @@ impl Typesetter {
         let Ok(()) = self.room.set_lines(&self.breaks) else {
             return Err(io::ErrorKind::InvalidData.into());
         };
-        self.tell(digest);
+        self.add_to(digest);
         Ok(())
     }
 }

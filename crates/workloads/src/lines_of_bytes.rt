@@ -33,7 +33,7 @@ impl Editor {
     }
 
     /// Adds the level of the paragraph to the digest, and the levels, the runs and the order of its only line.
-    fn tell(&mut self, digest: &mut Digest) {
+    fn add_to(&mut self, digest: &mut Digest) {
         let layout = self.room.layout();
         if layout.line_count() == 0 {
             return;
@@ -60,7 +60,7 @@ impl Editor {
     }
 
     /// Lays out a line, adds what is shown to the digest, and then moves the cursor to some of its bytes.
-    fn edit(
+    fn show_line(
         &mut self,
         tables: &Tables,
         line: &str,
@@ -69,7 +69,7 @@ impl Editor {
     ) -> io::Result<()> {
         let bytes = line.as_bytes();
         let ask = Ask {
-            source: Source::Utf8(bytes, Faults::Refused),
+            source: Source::Utf8(bytes, Faults::Rejected),
             direction: Direction::Auto,
             breaks: &[],
             limits: Limits::standard(),
@@ -77,7 +77,7 @@ impl Editor {
         let Ok(()) = self.room.lay_out(tables, &ask) else {
             return Err(io::ErrorKind::InvalidData.into());
         };
-        self.tell(digest);
+        self.add_to(digest);
         for _ in 0..4 {
             self.move_to(maker.below(bytes.len()), digest);
         }
@@ -123,7 +123,7 @@ fn room(alloc: Global) -> io::Result<Room> {
 }
 
 /// Lays out so many lines one by one.
-fn edit_each(
+fn show_each_line(
     tables: &Tables,
     count: usize,
     lines: &mut LineMaker,
@@ -132,13 +132,13 @@ fn edit_each(
     let mut digest = Digest::new();
     for number in 0..count {
         lines.make(number)?;
-        editor.edit(tables, lines.line.as_str(), &mut lines.maker, &mut digest)?;
+        editor.show_line(tables, lines.line.as_str(), &mut lines.maker, &mut digest)?;
     }
     Ok(digest)
 }
 
 /// The same, with buffers for orders and runs.
-fn edit_with(
+fn show_with(
     tables: &Tables,
     count: usize,
     lines: &mut LineMaker,
@@ -147,11 +147,11 @@ fn edit_with(
     room: Room,
 ) -> io::Result<Digest> {
     let mut editor = Editor::new(room, order, runs);
-    edit_each(tables, count, lines, &mut editor)
+    show_each_line(tables, count, lines, &mut editor)
 }
 
 /// Lays out so many lines one by one, with these tables.
-fn edit_lines(
+fn show_lines(
     alloc: Global,
     tables: &Tables,
     count: usize,
@@ -160,12 +160,12 @@ fn edit_lines(
     let order = Vec::from_elem(alloc, 0, MOST_BYTES)?;
     let runs = no_runs(alloc, MOST_BYTES)?;
     let room = room(alloc)?;
-    edit_with(tables, count, lines, order, runs, room)
+    show_with(tables, count, lines, order, runs, room)
 }
 
 /// Lays out so many lines one by one.
 pub fn lay_out_lines(alloc: Global, count: usize, seed: u64) -> io::Result<Digest> {
     let tables = standard_15::tables();
     let mut lines = LineMaker::new(alloc, seed);
-    edit_lines(alloc, &tables, count, &mut lines)
+    show_lines(alloc, &tables, count, &mut lines)
 }

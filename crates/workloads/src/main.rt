@@ -112,7 +112,7 @@ fn report_named(rt: &HostRuntime, name: &str, seed: &str) -> io::Result<()> {
 }
 
 /// Returns the arguments after the program's own name.
-fn words_behind_name(rt: &HostRuntime) -> io::Result<Vec<String>> {
+fn words_after_name(rt: &HostRuntime) -> io::Result<Vec<String>> {
     let mut words = Vec::new(rt.alloc());
     for word in env::args(rt)?.skip(1) {
         words.push(word)?;
@@ -121,7 +121,7 @@ fn words_behind_name(rt: &HostRuntime) -> io::Result<Vec<String>> {
 }
 
 fn main(rt: HostRuntime) -> io::Result<()> {
-    let words = words_behind_name(&rt)?;
+    let words = words_after_name(&rt)?;
     if words.is_empty() {
         return report_all(&rt);
     }

@@ -37,7 +37,7 @@ const FORMS: [Form; 6] = [
 const DIRECTIONS: [Direction; 3] = [Direction::Auto, Direction::Ltr, Direction::Rtl];
 
 /// Returns the error for memory that was refused, or for what else went wrong, as a fault of a stream.
-fn refused() -> io::Error {
+fn rejected() -> io::Error {
     io::ErrorKind::OutOfMemory.into()
 }
 
@@ -47,7 +47,7 @@ fn letters_of(alloc: Global, kind: Kind<'_>, form: Form) -> io::Result<Vec<Lette
         Kind::Classes => class_letters(alloc, form.classes()),
         Kind::Characters(tables) => character_letters(alloc, tables, form.characters()),
     };
-    letters.map_err(|_| refused())
+    letters.map_err(|_| rejected())
 }
 
 /// Returns the form of the file with this number and kind.
@@ -69,9 +69,9 @@ fn write_file(
     file.clear();
     let letters = letters_of(alloc, kind, form)?;
     let Ok(texts) = Random::new(&letters, 1, 48, seed, TEXTS) else {
-        return Err(refused());
+        return Err(rejected());
     };
-    print_random(alloc, file, kind, &texts, &DIRECTIONS).map_err(|_| refused())
+    print_random(alloc, file, kind, &texts, &DIRECTIONS).map_err(|_| rejected())
 }
 
 /// Writes the file with this number and kind, which differs from all earlier ones and is not empty. It replaces what
@@ -96,26 +96,26 @@ fn write_new_file(
 }
 
 /// Judges a file in pieces, and adds the line of the verdict.
-fn judge(alloc: Global, kind: Kind<'_>, file: &[u8], told: &mut Vec<u8>) -> io::Result<()> {
+fn judge(alloc: Global, kind: Kind<'_>, file: &[u8], reported: &mut Vec<u8>) -> io::Result<()> {
     let judge = match kind {
         Kind::Classes => Judge::for_classes(alloc),
         Kind::Characters(tables) => Judge::for_characters(alloc, tables),
     };
-    let mut judge = judge.map_err(|_| refused())?;
+    let mut judge = judge.map_err(|_| rejected())?;
     for piece in file.chunks(4_096) {
         judge.feed(piece);
     }
-    print_verdict(told, &judge.finish())
+    print_verdict(reported, &judge.finish())
 }
 
 /// Reports on a file with other limits, and adds the report.
-fn report_on(alloc: Global, kind: Kind<'_>, file: &[u8], told: &mut Vec<u8>) -> io::Result<()> {
-    let limits = Limits::new(6, 3).map_err(|_| refused())?;
-    let report = Report::new(alloc, kind, Terms::strict(limits)).map_err(|_| refused())?;
+fn report_on(alloc: Global, kind: Kind<'_>, file: &[u8], reported: &mut Vec<u8>) -> io::Result<()> {
+    let limits = Limits::new(6, 3).map_err(|_| rejected())?;
+    let report = Report::new(alloc, kind, Terms::strict(limits)).map_err(|_| rejected())?;
     let mut source = SliceSource::new(file);
-    match print_report(told, report, &mut source, 20) {
+    match print_report(reported, report, &mut source, 20) {
         Ok(_) => Ok(()),
-        Err(_) => Err(refused()),
+        Err(_) => Err(rejected()),
     }
 }
 
@@ -135,14 +135,14 @@ fn work_on(
         Kind::Classes
     };
     write_new_file(alloc, kind, number, seed, file, files)?;
-    let mut told = Vec::new(alloc);
+    let mut reported = Vec::new(alloc);
     if number / 12 % 2 == 0 {
-        judge(alloc, kind, file, &mut told)?;
+        judge(alloc, kind, file, &mut reported)?;
     } else {
-        report_on(alloc, kind, file, &mut told)?;
+        report_on(alloc, kind, file, &mut reported)?;
     }
     digest.add_bytes(file);
-    digest.add_bytes(&told);
+    digest.add_bytes(&reported);
     Ok(())
 }
 

@@ -16,7 +16,7 @@ pub struct TextMaker {
 #[derive(Clone, Copy)]
 struct Around {
     before: &'static str,
-    behind: &'static str,
+    following: &'static str,
 }
 
 const GAPS: [&str; 16] = [
@@ -48,7 +48,7 @@ impl TextMaker {
 
     /// Returns the characters around a word of another direction.
     fn around(&mut self, script: Script) -> Around {
-        let (before, behind) = match (script, self.below(8)) {
+        let (before, following) = match (script, self.below(8)) {
             (Script::Isolated, 0..=3) => ("\u{2068}", "\u{2069}"),
             (Script::Isolated, 4) => ("\u{2066}", "\u{2069}"),
             (Script::Embedded, 0..=2) => ("\u{202A}", "\u{202C}"),
@@ -57,7 +57,7 @@ impl TextMaker {
             (_, 6) => ("[", "]"),
             _ => ("", ""),
         };
-        Around { before, behind }
+        Around { before, following }
     }
 
     /// Adds a word of another script, or a number.
@@ -70,7 +70,7 @@ impl TextMaker {
         };
         text.push_str(around.before)?;
         text.push_str(word)?;
-        text.push_str(around.behind)?;
+        text.push_str(around.following)?;
         Ok(())
     }
 

@@ -7,7 +7,7 @@ use Rattle.units.specs.declared.class.Class.{Class}
 use Rattle.explicit.proofs.Matched.Balance.{Exclude, match_extends, match_within, match_of_bounds, surplus_open, unmatched_before}
 use Rattle.explicit.proofs.Matched.OpenStack.{IsStack, stack_stays}
 use Rattle.explicit.proofs.Matched.Matching.{opens_at, closes_at, isolates_exclude, IsOpenStack, matching_before, matching_pdi_of, matching_pdi_before}
-use Rattle.explicit.proofs.Matched.Nesting.{IsHeld}
+use Rattle.explicit.proofs.Matched.Nesting.{IsContained}
 use Rattle.explicit.proofs.StrongSides.Around.{around_is, around_nowhere}
 
 -- no open position comes after the last one of the stack
@@ -29,12 +29,12 @@ last_is_last o c k n s ex stack a h =
 
 module _ (cs : List Class) (k : ℕ) (inside : k < length cs) where
   -- an isolate around k has no match before k
-  held_is_open : (j : ℕ) → IsHeld cs j k → matching_before cs k j ≡ None
-  held_is_open j h = grind (arith, match_of_bounds, matching_pdi_of, match_extends)
+  holder_is_open : (j : ℕ) → IsContained cs j k → matching_before cs k j ≡ None
+  holder_is_open j h = grind (arith, match_of_bounds, matching_pdi_of, match_extends)
 
   -- with no isolate open, k lies outside of all
   pub around_none_open : (s : ℕ → ℕ) → IsOpenStack cs k 0 s → isolate_around cs k ≡ None
-  around_none_open s stack = around_nowhere cs k (λ j h. let at = stack.complete j h.after h.opener (held_is_open j h) in omega (arith, at.1))
+  around_none_open s stack = around_nowhere cs k (λ j h. let at = stack.complete j h.after h.opener (holder_is_open j h) in omega (arith, at.1))
 
   -- else a position that opens no isolate and closes none lies in the last open one
   pub around_last_open : (n : ℕ) (s : ℕ → ℕ) → IsOpenStack cs k (suc n) s → is_isolate_initiator (class_at cs k) ≡ false → is_pdi (class_at cs k) ≡ false → isolate_around cs k ≡ Some (s n)
@@ -52,7 +52,7 @@ module _ (cs : List Class) (k : ℕ) (inside : k < length cs) where
         ];
       })
       (λ j after h.
-      let at = stack.complete j h.after h.opener (held_is_open j h) in
+      let at = stack.complete j h.after h.opener (holder_is_open j h) in
       let le = last_is_last (opens_at cs) (closes_at cs) k n s (isolates_exclude cs) stack at.0 at.1 in
       let here = at.2 in
       omega (arith, here, le))

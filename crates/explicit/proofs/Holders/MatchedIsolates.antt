@@ -10,7 +10,7 @@ use Rattle.units.specs.Explicit.{State, explicit_at}
 use Rattle.units.specs.declared.class.Class.{Class}
 use Rattle.units.specs.declared.class.Class.TheVariants.{LRI, RLI, FSI, PDI}
 use Rattle.explicit.proofs.Holders.Taken.{level-bound}
-use Rattle.explicit.specs.OpenInitiators.{is_isolate, opened, past_isolate, left_open}
+use Rattle.explicit.specs.OpenInitiators.{is_isolate, opened, past_isolate, still_open}
 use Rattle.explicit.specs.StatusStacks.{state_within, leveled_in}
 use Rattle.explicit.proofs.Matched.Matching.{matching_pdi_opens}
 use Rattle.explicit.proofs.Matched.Nesting.{match_bounds, match_is_pdi}
@@ -18,9 +18,9 @@ use Rattle.explicit.proofs.Matched.StillOpen.{bit}
 use Rattle.explicit.proofs.Holders.Roles.{IsOfKinds, Role, role, opens_isolate, opens_embedding, closes_isolate, closes_embedding, plain}
 use Rattle.explicit.proofs.Holders.Open.{below, holders}
 use Rattle.explicit.proofs.Holders.OpenIsolates.{AllBelow, OpenIsolates, OpenIsolates-next, holds-open_isolate}
-use Rattle.explicit.proofs.Holders.IsolatesBehind.{left_open-keeps}
-use Rattle.explicit.proofs.Holders.HoldersBehind.{holders-are_open, holders-step}
-use Rattle.explicit.proofs.LevelsFound.ExplicitAt.{explicit-leveled_in}
+use Rattle.explicit.proofs.Holders.IsolatesAfter.{still_open-keeps}
+use Rattle.explicit.proofs.Holders.HoldersAfter.{holders-are_open, holders-step}
+use Rattle.explicit.proofs.LevelsComputed.ExplicitAt.{explicit-leveled_in}
 
 -- each is followed by the initiators around it
 abbrev pub Stacked : List Class → List ℕ → Type 0
@@ -32,7 +32,7 @@ opened-stacked cs y h = grind arith
 
 pub holders-stacked : (cs : List Class) (y : ℕ) → y < length cs → Stacked cs (holders cs y)
 holders-stacked cs zero l = tt
-holders-stacked cs (suc y) l = rw (holders-step cs y l) (left_open-keeps cs (λ qs. Stacked cs qs) (λ q qs h. h.1) (class_at cs (suc y)) (opened cs y (holders cs y)) (opened-stacked cs y (holders-stacked cs y (omega arith))))
+holders-stacked cs (suc y) l = rw (holders-step cs y l) (still_open-keeps cs (λ qs. Stacked cs qs) (λ q qs h. h.1) (class_at cs (suc y)) (opened cs y (holders cs y)) (opened-stacked cs y (holders-stacked cs y (omega arith))))
 
 abbrev pub is_among : ℕ → List ℕ → Bool
 is_among i qs = list_any (λ q. q == i) qs
@@ -96,8 +96,8 @@ closed cs i y h (closes_isolate r) =
     let opener = matching_pdi_opens cs i (suc y) h in
     let v : list_any (is_isolate cs) qs ≡ true = isolate-among cs i qs opener (among-open cs i y h) in
     let s = opened-stacked cs y (holders-stacked cs y (omega (arith, b.1))) in
-    let left : left_open cs (class_at cs (suc y)) qs ≡ past_isolate cs qs = rw (r.pdi_is, v) refl in
-    holders-step cs y b.1 ∙ left ∙ past-matched cs i y qs o.bound b.1 r o.isolates s opener (among-open cs i y h) (ends-there cs i (suc y) h)
+    let remaining : still_open cs (class_at cs (suc y)) qs ≡ past_isolate cs qs = rw (r.pdi_is, v) refl in
+    holders-step cs y b.1 ∙ remaining ∙ past-matched cs i y qs o.bound b.1 r o.isolates s opener (among-open cs i y h) (ends-there cs i (suc y) h)
 
 -- both have the same initiators around them
 pub holders-matched : (cs : List Class) (i j : ℕ) → matching_pdi cs i ≡ Some j → holders cs j ≡ holders cs i

@@ -10,9 +10,9 @@ use Rattle.std.proofs.lemmas.List.Sums.{sum_by-append}
 use Rattle.std.proofs.lemmas.List.Folds.{prefix_len-append}
 use Rattle.units.specs.declared.class.Class.{Class}
 use Rattle.explicit.specs.OpenInitiators.{is_isolate}
-use Rattle.explicit.specs.StatusStacks.{state_within, is_taken, entries_of, taken_isolates, refused_isolates, IsRefusedTail}
+use Rattle.explicit.specs.StatusStacks.{state_within, is_taken, entries_of, taken_isolates, overflow_isolates_of, IsOverflowTail}
 use Rattle.explicit.proofs.Matched.StillOpen.{bit}
-use Rattle.explicit.proofs.Holders.Taken.{taken-outer, none_refused, adds-taken}
+use Rattle.explicit.proofs.Holders.Taken.{taken-outer, no_overflow, adds-taken}
 
 count-cons : (t : ℕ → Bool) (q : ℕ) (qs : List ℕ) → count_by t (q ∷ qs) ≡ bit (t q) + count_by t qs
 count-cons t q qs = sum_by-append (λ x. cond (t x) 1 0) (q ∷ []) qs ∙ ap (λ k. k + count_by t qs) (omega arith)
@@ -34,37 +34,37 @@ all_taken depth cs para [] s = (refl, refl)
 all_taken depth cs para (q ∷ qs) s =
     grind (arith, nat_tests, common_steps, taken-outer, adds-taken, length-append, count-cons, all_taken depth cs para qs (taken-outer depth cs para q qs s))
 
-cut-sound : (depth : ℕ) (cs : List Class) (para : ℕ) (qs : List ℕ) → (state_within depth cs para qs).sound ≡ true → IsRefusedTail depth cs para [] qs
+cut-sound : (depth : ℕ) (cs : List Class) (para : ℕ) (qs : List ℕ) → (state_within depth cs para qs).sound ≡ true → IsOverflowTail depth cs para [] qs
 cut-sound depth cs para qs s =
     let a = all_taken depth cs para qs s in
-    let z = none_refused depth cs para qs s in
+    let z = no_overflow depth cs para qs s in
     record { sound = s; entries = refl; one_each = a.0; overflow_isolates = z.0; overflow_embeddings = z.1; valid_isolates = a.1 }
 
-cut-refused : (depth : ℕ) (cs : List Class) (para q : ℕ) (refused taken : List ℕ) → is_taken depth cs para q (refused ++ taken) ≡ false → IsRefusedTail depth cs para refused taken → IsRefusedTail depth cs para (q ∷ refused) taken
-cut-refused depth cs para q refused taken t c =
+cut-rejected : (depth : ℕ) (cs : List Class) (para q : ℕ) (rejected taken : List ℕ) → is_taken depth cs para q (rejected ++ taken) ≡ false → IsOverflowTail depth cs para rejected taken → IsOverflowTail depth cs para (q ∷ rejected) taken
+cut-rejected depth cs para q rejected taken t c =
     let t' = λ (q : ℕ). not (is_isolate cs q) in
     record {
       sound = c.sound;
       entries = rw t c.entries;
       one_each = c.one_each;
-      overflow_isolates = rw t (ap (λ k. bit (is_isolate cs q) + k) c.overflow_isolates ∙ sym (count-cons (is_isolate cs) q refused));
-      overflow_embeddings = elim (cases_lt 0 (refused_isolates depth cs para (refused ++ taken))) [
+      overflow_isolates = rw t (ap (λ k. bit (is_isolate cs q) + k) c.overflow_isolates ∙ sym (count-cons (is_isolate cs) q rejected));
+      overflow_embeddings = elim (cases_lt 0 (overflow_isolates_of depth cs para (rejected ++ taken))) [
         | inl more ↦
-            let some : suffix_len t' refused < length refused = suffix-some (is_isolate cs) refused (omega (arith, c.overflow_isolates)) in
-            let off : (suffix_len t' refused == length refused) ≡ false = ne_eqb (suffix_len t' refused) (length refused) (λ e. omega arith) in
-            let none : (is_isolate cs q || nat_lt 0 (refused_isolates depth cs para (refused ++ taken))) ≡ true = or_right (is_isolate cs q) (nat_lt 0 (refused_isolates depth cs para (refused ++ taken))) (lt-ltb 0 (refused_isolates depth cs para (refused ++ taken)) more) in
-            let s : suffix_len t' (q ∷ refused) ≡ suffix_len t' refused = suffix-cons t' q refused ∙ rw off refl in
+            let some : suffix_len t' rejected < length rejected = suffix-some (is_isolate cs) rejected (omega (arith, c.overflow_isolates)) in
+            let off : (suffix_len t' rejected == length rejected) ≡ false = ne_eqb (suffix_len t' rejected) (length rejected) (λ e. omega arith) in
+            let none : (is_isolate cs q || nat_lt 0 (overflow_isolates_of depth cs para (rejected ++ taken))) ≡ true = or_right (is_isolate cs q) (nat_lt 0 (overflow_isolates_of depth cs para (rejected ++ taken))) (lt-ltb 0 (overflow_isolates_of depth cs para (rejected ++ taken)) more) in
+            let s : suffix_len t' (q ∷ rejected) ≡ suffix_len t' rejected = suffix-cons t' q rejected ∙ rw off refl in
             rw (t, none) (omega (arith, s, c.overflow_embeddings))
         | inr nothing ↦
-            let all : suffix_len t' refused ≡ length refused = suffix-all (is_isolate cs) refused (omega (arith, c.overflow_isolates)) in
-            let on : (suffix_len t' refused == length refused) ≡ true = eq-eqb (suffix_len t' refused) (length refused) all in
-            let none : nat_lt 0 (refused_isolates depth cs para (refused ++ taken)) ≡ false = le-ltb 0 (refused_isolates depth cs para (refused ++ taken)) (omega arith) in
+            let all : suffix_len t' rejected ≡ length rejected = suffix-all (is_isolate cs) rejected (omega (arith, c.overflow_isolates)) in
+            let on : (suffix_len t' rejected == length rejected) ≡ true = eq-eqb (suffix_len t' rejected) (length rejected) all in
+            let none : nat_lt 0 (overflow_isolates_of depth cs para (rejected ++ taken)) ≡ false = le-ltb 0 (overflow_isolates_of depth cs para (rejected ++ taken)) (omega arith) in
             elim (cases_Bool (is_isolate cs q)) [
               | inl u ↦
-                  let s : suffix_len t' (q ∷ refused) ≡ length refused + 0 = suffix-cons t' q refused ∙ rw (on, u) refl in
+                  let s : suffix_len t' (q ∷ rejected) ≡ length rejected + 0 = suffix-cons t' q rejected ∙ rw (on, u) refl in
                   rw (t, u) (omega (arith, s, c.overflow_embeddings, all))
               | inr u ↦
-                  let s : suffix_len t' (q ∷ refused) ≡ length refused + 1 = suffix-cons t' q refused ∙ rw (on, u) refl in
+                  let s : suffix_len t' (q ∷ rejected) ≡ length rejected + 1 = suffix-cons t' q rejected ∙ rw (on, u) refl in
                   rw (t, u, none) (omega (arith, s, c.overflow_embeddings, all))
             ]
       ];
@@ -72,12 +72,12 @@ cut-refused depth cs para q refused taken t c =
     }
 
 -- whichever initiators are open, the overflow ones are inside the valid ones, so they come first in the list
-pub cut_of : (depth : ℕ) (cs : List Class) (para : ℕ) (qs : List ℕ) → (refused : List ℕ) × (taken : List ℕ) × (qs ≡ refused ++ taken) × IsRefusedTail depth cs para refused taken
+pub cut_of : (depth : ℕ) (cs : List Class) (para : ℕ) (qs : List ℕ) → (rejected : List ℕ) × (taken : List ℕ) × (qs ≡ rejected ++ taken) × IsOverflowTail depth cs para rejected taken
 cut_of depth cs para [] = ([], [], refl, cut-sound depth cs para [] refl)
 cut_of depth cs para (q ∷ qs) =
     elim (cases_Bool (is_taken depth cs para q qs)) [
       | inl t ↦ ([], q ∷ qs, refl, cut-sound depth cs para (q ∷ qs) t)
       | inr t ↦
           let ih = cut_of depth cs para qs in
-          (q ∷ ih.0, ih.1, ap (λ xs. q ∷ xs) ih.2, cut-refused depth cs para q ih.0 ih.1 (ap (is_taken depth cs para q) (sym ih.2) ∙ t) ih.3)
+          (q ∷ ih.0, ih.1, ap (λ xs. q ∷ xs) ih.2, cut-rejected depth cs para q ih.0 ih.1 (ap (is_taken depth cs para q) (sym ih.2) ∙ t) ih.3)
     ]

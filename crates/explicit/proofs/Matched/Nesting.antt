@@ -27,35 +27,35 @@ match_injective cs i j a e e' =
     match_once (opens_at cs) (closes_at cs) (length cs) i j a (isolates_exclude cs) (matching_pdi_opens cs i a e) (matching_pdi_opens cs j a e') (matching_pdi_before cs i a e) (matching_pdi_before cs j a e')
 
 -- the isolate that begins at i contains p, in parts
-pub record IsHeld (cs : List Class) (i : ℕ) (p : ℕ) : Type 0 where
+pub record IsContained (cs : List Class) (i : ℕ) (p : ℕ) : Type 0 where
   pub opener : is_isolate_initiator (class_at cs i) ≡ true
   pub after : i < p
   pub before : (a : ℕ) → matching_pdi cs i ≡ Some a → p < a
 
-pub held : (cs : List Class) (i p : ℕ) → isolate_holds cs i p ≡ true → IsHeld cs i p
+pub contained : (cs : List Class) (i p : ℕ) → isolate_holds cs i p ≡ true → IsContained cs i p
 unfolding isolate_holds
-held cs i p h = grind (arith, and_parts, ltb-true)
+contained cs i p h = grind (arith, and_parts, ltb-true)
 
-pub holds_from : (cs : List Class) (i p : ℕ) → IsHeld cs i p → isolate_holds cs i p ≡ true
+pub holds_from : (cs : List Class) (i p : ℕ) → IsContained cs i p → isolate_holds cs i p ≡ true
 unfolding isolate_holds
 holds_from cs i p h = grind (arith, and_from, lt-ltb)
 
 -- an outer isolate contains what an inner one contains
-pub holds_through : (cs : List Class) (i j p : ℕ) → IsHeld cs i j → IsHeld cs j p → IsHeld cs i p
+pub holds_through : (cs : List Class) (i j p : ℕ) → IsContained cs i j → IsContained cs j p → IsContained cs i p
 holds_through cs i j p outer inner = grind (arith, inner_match)
 
 -- an isolate contains the positions from its beginning to any position in it
-pub holds_down : (cs : List Class) (i p q : ℕ) → IsHeld cs i p → i < q → q ≤ p → IsHeld cs i q
+pub holds_down : (cs : List Class) (i p q : ℕ) → IsContained cs i p → i < q → q ≤ p → IsContained cs i q
 holds_down cs i p q h lt le = record { opener = h.opener; after = lt; before = λ a e. omega (arith, h.before a e) }
 
 -- if two isolates contain a position, then the outer one contains the beginning of the inner one
-pub holds_nested : (cs : List Class) (i j p : ℕ) → IsHeld cs i p → IsHeld cs j p → i < j → IsHeld cs i j
+pub holds_nested : (cs : List Class) (i j p : ℕ) → IsContained cs i p → IsContained cs j p → i < j → IsContained cs i j
 holds_nested cs i j p hi hj lt = holds_down cs i p j hi lt (omega (arith, hj.after))
 
 -- the isolate that begins later lies within the other one, or the two are apart
 pub nest_or_apart : (cs : List Class) (outer inner : ℕ) → outer < inner → IsWithin cs inner outer ⊎ AreApart cs inner outer
 nest_or_apart cs outer inner lt =
     elim (cases_Bool (isolate_holds cs outer inner)) [
-      | inl t ↦ inl (λ p h. holds_from cs outer p (holds_through cs outer inner p (held cs outer inner t) (held cs inner p h)))
-      | inr f ↦ inr (λ p h h'. false≢true (sym f ∙ holds_from cs outer inner (holds_nested cs outer inner p (held cs outer p h') (held cs inner p h) lt)))
+      | inl t ↦ inl (λ p h. holds_from cs outer p (holds_through cs outer inner p (contained cs outer inner t) (contained cs inner p h)))
+      | inr f ↦ inr (λ p h h'. false≢true (sym f ∙ holds_from cs outer inner (holds_nested cs outer inner p (contained cs outer p h') (contained cs inner p h) lt)))
     ]

@@ -117,5 +117,5 @@ stack_pop o c k n s stack ok ck = record {
 }
 
 -- with nothing open, a position closes nothing
-pub stack_none_left : (o c : ℕ → Bool) (k : ℕ) (s : ℕ → ℕ) → IsStack o c k 0 s → o k ≡ false → IsStack o c (k + 1) 0 s
-stack_none_left o c k s stack ok = grind (arith, true≢false, unmatched_before)
+pub stack_none_open : (o c : ℕ → Bool) (k : ℕ) (s : ℕ → ℕ) → IsStack o c k 0 s → o k ≡ false → IsStack o c (k + 1) 0 s
+stack_none_open o c k s stack ok = grind (arith, true≢false, unmatched_before)

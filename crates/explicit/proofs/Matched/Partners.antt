@@ -7,28 +7,28 @@ use Rattle.units.specs.declared.class.Class.{Class}
 use Rattle.explicit.proofs.Holders.Roles.{opening, closing, other, kind_of}
 use Rattle.units.specs.Positions.{as_many}
 use Rattle.explicit.proofs.Matched.Balance.{match_new, match_stays, match_extends, match_within, match_of_bounds, stays_unclosed}
-use Rattle.explicit.proofs.Matched.OpenStack.{unlevel_at_other, unlevel_at_opening, unlevel_at_closing, stack_empty, stack_stays, stack_push, top_is_closed, stack_pop, stack_none_left}
+use Rattle.explicit.proofs.Matched.OpenStack.{unlevel_at_other, unlevel_at_opening, unlevel_at_closing, stack_empty, stack_stays, stack_push, top_is_closed, stack_pop, stack_none_open}
 use Rattle.explicit.proofs.Matched.Matching.{opens_at, closes_at, matching_before, IsOpenStack, matching_pdi_of, matching_pdi_none, matching_pdi_opens, matching_pdi_before}
 use Rattle.units.proofs.Positions.{last_below_is, last_below_nowhere, same_position_true, same_position_refl}
 
 -- the match of an initiator after one more position
-pub matching_kept : (cs : List Class) (k i : ℕ) → i < k → (matching_before cs k i ≡ None → as_many (opens_at cs) (closes_at cs) i k ≡ false) → matching_before cs (k + 1) i ≡ matching_before cs k i
-matching_kept cs k i h u = grind (arith, stays_unclosed, match_stays)
+pub matching_unchanged : (cs : List Class) (k i : ℕ) → i < k → (matching_before cs k i ≡ None → as_many (opens_at cs) (closes_at cs) i k ≡ false) → matching_before cs (k + 1) i ≡ matching_before cs k i
+matching_unchanged cs k i h u = grind (arith, stays_unclosed, match_stays)
 
-pub kept_at_opening : (cs : List Class) (k m i : ℕ) (s : ℕ → ℕ) → IsOpenStack cs k m s → is_isolate_initiator (class_at cs k) ≡ true → is_pdi (class_at cs k) ≡ false → i < k → is_isolate_initiator (class_at cs i) ≡ true → matching_before cs (k + 1) i ≡ matching_before cs k i
-kept_at_opening cs k m i s stack o c h opener =
-    matching_kept cs k i h (λ none. let at = stack.complete i h opener none in rw (← at.2) (unlevel_at_opening (opens_at cs) (closes_at cs) k m s stack o c at.0 at.1))
+pub same_at_opening : (cs : List Class) (k m i : ℕ) (s : ℕ → ℕ) → IsOpenStack cs k m s → is_isolate_initiator (class_at cs k) ≡ true → is_pdi (class_at cs k) ≡ false → i < k → is_isolate_initiator (class_at cs i) ≡ true → matching_before cs (k + 1) i ≡ matching_before cs k i
+same_at_opening cs k m i s stack o c h opener =
+    matching_unchanged cs k i h (λ none. let at = stack.complete i h opener none in rw (← at.2) (unlevel_at_opening (opens_at cs) (closes_at cs) k m s stack o c at.0 at.1))
 
-pub kept_at_other : (cs : List Class) (k m i : ℕ) (s : ℕ → ℕ) → IsOpenStack cs k m s → is_isolate_initiator (class_at cs k) ≡ false → is_pdi (class_at cs k) ≡ false → i < k → is_isolate_initiator (class_at cs i) ≡ true → matching_before cs (k + 1) i ≡ matching_before cs k i
-kept_at_other cs k m i s stack o c h opener =
-    matching_kept cs k i h (λ none. let at = stack.complete i h opener none in rw (← at.2) (unlevel_at_other (opens_at cs) (closes_at cs) k m s stack o c at.0 at.1))
+pub same_at_other : (cs : List Class) (k m i : ℕ) (s : ℕ → ℕ) → IsOpenStack cs k m s → is_isolate_initiator (class_at cs k) ≡ false → is_pdi (class_at cs k) ≡ false → i < k → is_isolate_initiator (class_at cs i) ≡ true → matching_before cs (k + 1) i ≡ matching_before cs k i
+same_at_other cs k m i s stack o c h opener =
+    matching_unchanged cs k i h (λ none. let at = stack.complete i h opener none in rw (← at.2) (unlevel_at_other (opens_at cs) (closes_at cs) k m s stack o c at.0 at.1))
 
-pub kept_at_closing : (cs : List Class) (k n i : ℕ) (s : ℕ → ℕ) → IsOpenStack cs k (suc n) s → is_isolate_initiator (class_at cs k) ≡ false → is_pdi (class_at cs k) ≡ true → i < k → is_isolate_initiator (class_at cs i) ≡ true → i ≢ s n → matching_before cs (k + 1) i ≡ matching_before cs k i
-kept_at_closing cs k n i s stack o c h opener ne = grind (arith, matching_kept, unlevel_at_closing)
+pub same_at_closing : (cs : List Class) (k n i : ℕ) (s : ℕ → ℕ) → IsOpenStack cs k (suc n) s → is_isolate_initiator (class_at cs k) ≡ false → is_pdi (class_at cs k) ≡ true → i < k → is_isolate_initiator (class_at cs i) ≡ true → i ≢ s n → matching_before cs (k + 1) i ≡ matching_before cs k i
+same_at_closing cs k n i s stack o c h opener ne = grind (arith, matching_unchanged, unlevel_at_closing)
 
-pub kept_at_closing_none : (cs : List Class) (k i : ℕ) (s : ℕ → ℕ) → IsOpenStack cs k 0 s → i < k → is_isolate_initiator (class_at cs i) ≡ true → matching_before cs (k + 1) i ≡ matching_before cs k i
-kept_at_closing_none cs k i s stack h opener =
-    matching_kept cs k i h (λ none. let at = stack.complete i h opener none in absurd (omega (arith, at.1)))
+pub same_at_closing_none : (cs : List Class) (k i : ℕ) (s : ℕ → ℕ) → IsOpenStack cs k 0 s → i < k → is_isolate_initiator (class_at cs i) ≡ true → matching_before cs (k + 1) i ≡ matching_before cs k i
+same_at_closing_none cs k i s stack h opener =
+    matching_unchanged cs k i h (λ none. let at = stack.complete i h opener none in absurd (omega (arith, at.1)))
 
 -- the initiator that the PDI at k matches
 pub new_match_is_open : (cs : List Class) (k i : ℕ) → i < k → matching_before cs (k + 1) i ≡ Some k → matching_before cs k i ≡ None
@@ -58,8 +58,8 @@ initiator_top cs k n s inside stack o c =
     last_below_is _ k (s n) (stack.before n lt) (rw whole (same_position_refl (Some k))) (λ i a b. false_from_ne_true _ (λ t.
     let at = matched_at cs k i (same_position_true _ _ t) in
     let none = new_match_is_open cs k i b at.2 in
-    let kept = kept_at_closing cs k n i s stack o c b at.1 (λ e. absurd (omega arith)) in
-    let no : None ≡ Some k = sym none ∙ sym kept ∙ at.2 in
+    let retained = same_at_closing cs k n i s stack o c b at.1 (λ e. absurd (omega arith)) in
+    let no : None ≡ Some k = sym none ∙ sym retained ∙ at.2 in
     absurd (cc)))
 
 -- the pass after the first k positions: the open initiators, and the partners so far
@@ -77,21 +77,21 @@ pub at_or_below : (P : ℕ → Type 0) (k : ℕ) → P k → ((p : ℕ) → p < 
 at_or_below P k here below p h = elim (cases_eq p k) [ inl e ↦ subst P (sym e) here | inr ne ↦ below p (omega arith) ]
 
 pub pass_opening : (cs : List Class) (k m : ℕ) (s s' : ℕ → ℕ) (t t' : ℕ → Option ℕ) → IsPass cs k m s t → is_isolate_initiator (class_at cs k) ≡ true → ((a : ℕ) → a < m → s' a ≡ s a) → s' m ≡ k → ((p : ℕ) → p < k → t' p ≡ t p) → t' k ≡ None → IsPass cs (k + 1) (m + 1) s' t'
-pass_opening cs k m s s' t t' pass o agree top kept here =
-    grind (arith, kind_of, closing, true≢false, other, opening, stack_push, at_or_below, match_new, kept_at_opening)
+pass_opening cs k m s s' t t' pass o agree top retained here =
+    grind (arith, kind_of, closing, true≢false, other, opening, stack_push, at_or_below, match_new, same_at_opening)
 
 pub pass_other : (cs : List Class) (k m : ℕ) (s : ℕ → ℕ) (t t' : ℕ → Option ℕ) → IsPass cs k m s t → is_isolate_initiator (class_at cs k) ≡ false → is_pdi (class_at cs k) ≡ false → ((p : ℕ) → p < k → t' p ≡ t p) → t' k ≡ None → IsPass cs (k + 1) m s t'
-pass_other cs k m s t t' pass o c kept here = grind (arith, stack_stays, at_or_below, true≢false, kept_at_other)
+pass_other cs k m s t t' pass o c retained here = grind (arith, stack_stays, at_or_below, true≢false, same_at_other)
 
 pub closing_opens_nothing : (c : Class) → is_pdi c ≡ true → is_isolate_initiator c ≡ false
 closing_opens_nothing c h = grind (arith, kind_of, opening, true≢false, closing, other)
 
 pub pass_unmatched : (cs : List Class) (k : ℕ) (s : ℕ → ℕ) (t t' : ℕ → Option ℕ) → IsPass cs k 0 s t → is_pdi (class_at cs k) ≡ true → ((p : ℕ) → p < k → t' p ≡ t p) → t' k ≡ None → IsPass cs (k + 1) 0 s t'
-pass_unmatched cs k s t t' pass c kept here =
-    grind (arith, closing_opens_nothing, stack_none_left, at_or_below, true≢false, kept_at_closing_none, initiator_none)
+pass_unmatched cs k s t t' pass c retained here =
+    grind (arith, closing_opens_nothing, stack_none_open, at_or_below, true≢false, same_at_closing_none, initiator_none)
 
 pub pass_matched : (cs : List Class) (k n : ℕ) (s : ℕ → ℕ) (t t' : ℕ → Option ℕ) → k < length cs → IsPass cs k (suc n) s t → is_pdi (class_at cs k) ≡ true → ((p : ℕ) → p < k → p ≢ s n → t' p ≡ t p) → t' (s n) ≡ Some k → t' k ≡ Some (s n) → IsPass cs (k + 1) n s t'
-pass_matched cs k n s t t' inside pass c kept there here =
+pass_matched cs k n s t t' inside pass c retained there here =
     let o = closing_opens_nothing (class_at cs k) c in
     let lt : n < suc n = omega arith in
     let top = pass.stack.opener n lt in
@@ -102,14 +102,14 @@ pass_matched cs k n s t t' inside pass c kept there here =
           (λ opener. absurd (true≢false (sym opener ∙ o)))
           (λ p h opener. elim (cases_eq p (s n)) [
             | inl e ↦ rw e (there ∙ sym (top_is_closed (opens_at cs) (closes_at cs) k n s pass.stack o c))
-            | inr ne ↦ kept p h ne ∙ pass.initiators p h opener ∙ sym (kept_at_closing cs k n p s pass.stack o c h opener ne)
+            | inr ne ↦ retained p h ne ∙ pass.initiators p h opener ∙ sym (same_at_closing cs k n p s pass.stack o c h opener ne)
           ]);
       pdis = at_or_below (λ p. is_pdi (class_at cs p) ≡ true → t' p ≡ matching_initiator cs p) k
           (λ _. here ∙ sym (initiator_top cs k n s inside pass.stack o c))
-          (λ p h closer. kept p h (differs p (closing_opens_nothing (class_at cs p) closer)) ∙ pass.pdis p h closer);
+          (λ p h closer. retained p h (differs p (closing_opens_nothing (class_at cs p) closer)) ∙ pass.pdis p h closer);
       others = at_or_below (λ p. is_isolate_initiator (class_at cs p) ≡ false → is_pdi (class_at cs p) ≡ false → t' p ≡ None) k
           (λ _ no. absurd (true≢false (sym c ∙ no)))
-          (λ p h a b. kept p h (differs p a) ∙ pass.others p h a b);
+          (λ p h a b. retained p h (differs p a) ∙ pass.others p h a b);
     }
 
 -- after the whole pass every position has its partner

@@ -27,7 +27,7 @@ cleared_length from end partners = stretched_length (λ _. None) from end partne
 pub no_formatting_both : (cs : List Class) (from p end : ℕ) → HasNoFormatting cs from p → HasNoFormatting cs p end → HasNoFormatting cs from end
 no_formatting_both cs from p end one other q low high = elim (cases_lt q p) [
   | inl before ↦ one q low before
-  | inr behind ↦ other q behind high
+  | inr following ↦ other q following high
 ]
 
 none_of_four : (a b c d : Bool) → (((a || b) || c) || d) ≡ false → (a ≡ false) × (b ≡ false) × (c ≡ false) × (d ≡ false)
@@ -55,7 +55,7 @@ no_formatting_four cs k a b c d at0 at1 at2 at3 h q low high =
     ]
 
 -- the positions that are skipped four at a time
-pub passed_by_fours : (sought : Bool) (cs : List Class) (from end : ℕ) → HasNoFormatting cs from end → (sought ≡ true → end ≡ from) → ArePassed sought cs from end
+pub passed_by_fours : (wanted : Bool) (cs : List Class) (from end : ℕ) → HasNoFormatting cs from end → (wanted ≡ true → end ≡ from) → ArePassed wanted cs from end
 passed_by_fours true cs from end none seeks p low high = let e = seeks refl in absurd (omega arith)
 passed_by_fours false cs from end none seeks p low high = rw (none p low high) refl
 
@@ -66,27 +66,27 @@ none_of false false true h = absurd (cc)
 none_of false false false h = (refl, refl, refl)
 
 -- the properties of a class that is skipped
-pub record IsNoStop (sought : Bool) (c : Class) : Type 0 where
+pub record IsNoStop (wanted : Bool) (c : Class) : Type 0 where
   pub initiator_is : is_isolate_initiator c ≡ false
   pub pdi_is : is_pdi c ≡ false
-  pub strong_is : (sought && is_strong c) ≡ false
+  pub strong_is : (wanted && is_strong c) ≡ false
 
-pub no_stop : (sought : Bool) (c : Class) → is_passed sought c ≡ true → IsNoStop sought c
-no_stop sought c h =
-    let parts = none_of (is_isolate_initiator c) (is_pdi c) (sought && is_strong c) h in
+pub no_stop : (wanted : Bool) (c : Class) → is_passed wanted c ≡ true → IsNoStop wanted c
+no_stop wanted c h =
+    let parts = none_of (is_isolate_initiator c) (is_pdi c) (wanted && is_strong c) h in
     record { initiator_is = parts.0; pdi_is = parts.1; strong_is = parts.2 }
 
 -- after the skipped positions
-pub filling_passed : (cs : List Class) (sought : Bool) (from end depth room : ℕ) (partners : List (Option ℕ)) (openers : List ℕ) → IsFilling cs from depth room partners openers → ArePassed sought cs from end → end ≤ length cs → (n : ℕ) → from + n ≤ end → IsFilling cs (from + n) depth room (without_partners from (from + n) partners) openers
-filling_passed cs sought from end depth room partners openers now passed inside zero h =
+pub filling_passed : (cs : List Class) (wanted : Bool) (from end depth room : ℕ) (partners : List (Option ℕ)) (openers : List ℕ) → IsFilling cs from depth room partners openers → ArePassed wanted cs from end → end ≤ length cs → (n : ℕ) → from + n ≤ end → IsFilling cs (from + n) depth room (without_partners from (from + n) partners) openers
+filling_passed cs wanted from end depth room partners openers now passed inside zero h =
     let e : from + 0 ≡ from = omega arith in
     rw (e, cleared_none from partners) now
-filling_passed cs sought from end depth room partners openers now passed inside (suc n) h =
+filling_passed cs wanted from end depth room partners openers now passed inside (suc n) h =
     let e : from + suc n ≡ from + n + 1 = omega arith in
-    let no = no_stop sought (class_at cs (from + n)) (passed (from + n) (omega arith) (omega arith)) in
-    rw (e, sym (cleared_next from (from + n) partners (omega arith))) (filling_other cs (from + n) depth room (without_partners from (from + n) partners) openers (filling_passed cs sought from end depth room partners openers now passed inside n (omega arith)) (omega arith) no.initiator_is no.pdi_is)
+    let no = no_stop wanted (class_at cs (from + n)) (passed (from + n) (omega arith) (omega arith)) in
+    rw (e, sym (cleared_next from (from + n) partners (omega arith))) (filling_other cs (from + n) depth room (without_partners from (from + n) partners) openers (filling_passed cs wanted from end depth room partners openers now passed inside n (omega arith)) (omega arith) no.initiator_is no.pdi_is)
 
-pub filling_passed_all : (cs : List Class) (sought : Bool) (from end depth room : ℕ) (partners : List (Option ℕ)) (openers : List ℕ) → IsFilling cs from depth room partners openers → ArePassed sought cs from end → end ≤ length cs → from ≤ end → IsFilling cs end depth room (without_partners from end partners) openers
-filling_passed_all cs sought from end depth room partners openers now passed inside low =
+pub filling_passed_all : (cs : List Class) (wanted : Bool) (from end depth room : ℕ) (partners : List (Option ℕ)) (openers : List ℕ) → IsFilling cs from depth room partners openers → ArePassed wanted cs from end → end ≤ length cs → from ≤ end → IsFilling cs end depth room (without_partners from end partners) openers
+filling_passed_all cs wanted from end depth room partners openers now passed inside low =
     let whole : from + (end - from) ≡ end = omega arith in
-    rw whole at (filling_passed cs sought from end depth room partners openers now passed inside (end - from) (omega arith))
+    rw whole at (filling_passed cs wanted from end depth room partners openers now passed inside (end - from) (omega arith))

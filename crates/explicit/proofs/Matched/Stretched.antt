@@ -24,7 +24,7 @@ module _ {X : Type 0} (value : ℕ → Option X) where
 
   pub stretched_outside : (from end : ℕ) (xs : List (Option X)) (k : ℕ) → k < length xs → (k < from) ⊎ (end ≤ k) → get_or (with_stretch from end value xs) k None ≡ get_or xs k None
   stretched_outside from end xs k h (inl before) = stretched_read from end xs k h ∙ rw (lt-leb from k before) refl
-  stretched_outside from end xs k h (inr behind) = stretched_read from end xs k h ∙ rw (and_right (nat_le from k) (nat_lt k end) (le-ltb k end behind)) refl
+  stretched_outside from end xs k h (inr following) = stretched_read from end xs k h ∙ rw (and_right (nat_le from k) (nat_lt k end) (le-ltb k end following)) refl
 
   -- no position
   pub stretched_none : (from : ℕ) (xs : List (Option X)) → with_stretch from from value xs ≡ xs
@@ -45,7 +45,7 @@ module _ {X : Type 0} (value : ℕ → Option X) where
           | inl before ↦ stretched_outside from p xs k l (inl before) ∙ sym (stretched_outside from (p + 1) xs k l (inl before))
           | inr after ↦ elim (cases_lt k p) [
             | inl inside ↦ stretched_inside from p xs k l after inside ∙ sym (stretched_inside from (p + 1) xs k l after (omega arith))
-            | inr behind ↦ stretched_outside from p xs k l (inr behind) ∙ sym (stretched_outside from (p + 1) xs k l (inr (omega arith)))
+            | inr following ↦ stretched_outside from p xs k l (inr following) ∙ sym (stretched_outside from (p + 1) xs k l (inr (omega arith)))
           ]
         ]
       ])
@@ -66,6 +66,6 @@ module _ {X : Type 0} (value : ℕ → Option X) where
         ]
         | inr over ↦ elim (cases_lt k end) [
           | inl inside ↦ stretched_inside p end ys k l' over inside ∙ sym (stretched_inside from end xs k l (omega arith) inside)
-          | inr behind ↦ stretched_outside p end ys k l' (inr behind) ∙ stretched_outside from p xs k l (inr over) ∙ sym (stretched_outside from end xs k l (inr behind))
+          | inr following ↦ stretched_outside p end ys k l' (inr following) ∙ stretched_outside from p xs k l (inr over) ∙ sym (stretched_outside from end xs k l (inr following))
         ]
       ])

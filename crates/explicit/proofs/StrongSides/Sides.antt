@@ -44,8 +44,8 @@ one_more : (cs : List Class) (isolate : Option ℕ) (k : ℕ) → first_from (is
 one_more cs isolate k = grind (arith, first_from_more)
 
 -- one position more, which is no strong class of the isolate, or is one
-side_kept : (cs : List Class) (isolate : Option ℕ) (k : ℕ) → is_strong_in cs isolate k ≡ false → side_before cs (k + 1) isolate ≡ side_before cs k isolate
-side_kept cs isolate k fails = ap (side_at cs) (one_more cs isolate k ∙ (rw fails (or_nothing (first_from (is_strong_in cs isolate) 0 k))))
+side_unchanged : (cs : List Class) (isolate : Option ℕ) (k : ℕ) → is_strong_in cs isolate k ≡ false → side_before cs (k + 1) isolate ≡ side_before cs k isolate
+side_unchanged cs isolate k fails = ap (side_at cs) (one_more cs isolate k ∙ (rw fails (or_nothing (first_from (is_strong_in cs isolate) 0 k))))
 
 side_noted : (cs : List Class) (isolate : Option ℕ) (k : ℕ) → is_strong_in cs isolate k ≡ true → side_before cs (k + 1) isolate ≡ noted (side_before cs k isolate) (class_at cs k)
 side_noted cs isolate k holds = ap (side_at cs) (one_more cs isolate k ∙ (rw holds refl)) ∙ or_here cs k (first_from (is_strong_in cs isolate) 0 k)
@@ -63,8 +63,8 @@ pub record AreNoted (cs : List Class) (k : ℕ) (sides : List Side) (outside : S
 pub noted_none : (cs : List Class) (sides : List Side) → AreNoted cs 0 sides Unknown
 noted_none cs sides = record { inside_is = λ i h. absurd (omega arith); outside_is = refl }
 
-weak_kept : (cs : List Class) (k : ℕ) (isolate : Option ℕ) → is_strong (class_at cs k) ≡ false → side_before cs (k + 1) isolate ≡ side_before cs k isolate
-weak_kept cs k isolate weak = side_kept cs isolate k (and_left _ _ weak)
+weak_unchanged : (cs : List Class) (k : ℕ) (isolate : Option ℕ) → is_strong (class_at cs k) ≡ false → side_before cs (k + 1) isolate ≡ side_before cs k isolate
+weak_unchanged cs k isolate weak = side_unchanged cs isolate k (and_left _ _ weak)
 
 module _ {cs : List Class} {k : ℕ} {sides : List Side} {outside : Side} (now : AreNoted cs k sides outside) where
   -- a class that isn't strong, and begins no isolate
@@ -72,9 +72,9 @@ module _ {cs : List Class} {k : ℕ} {sides : List Side} {outside : Side} (now :
   noted_weak weak plain = record {
     inside_is = λ i h opener. elim (cases_eq i k) [
       | inl same ↦ absurd (true≢false (sym opener ∙ ap (λ q. is_isolate_initiator (class_at cs q)) same ∙ plain))
-      | inr other ↦ now.inside_is i (omega arith) opener ∙ sym (weak_kept cs k (Some i) weak)
+      | inr other ↦ now.inside_is i (omega arith) opener ∙ sym (weak_unchanged cs k (Some i) weak)
     ];
-    outside_is = now.outside_is ∙ sym (weak_kept cs k None weak);
+    outside_is = now.outside_is ∙ sym (weak_unchanged cs k None weak);
   }
 
   -- an initiator
@@ -84,13 +84,13 @@ module _ {cs : List Class} {k : ℕ} {sides : List Side} {outside : Side} (now :
       record {
         inside_is = λ i h o. elim (cases_eq i k) [
           | inl same ↦ rw same (get_or-set_same sides k Unknown Unknown room ∙ sym (side_unknown cs k))
-          | inr other ↦ get_or-set_other sides k i Unknown Unknown other ∙ now.inside_is i (omega arith) o ∙ sym (weak_kept cs k (Some i) weak)
+          | inr other ↦ get_or-set_other sides k i Unknown Unknown other ∙ now.inside_is i (omega arith) o ∙ sym (weak_unchanged cs k (Some i) weak)
         ];
-        outside_is = now.outside_is ∙ sym (weak_kept cs k None weak);
+        outside_is = now.outside_is ∙ sym (weak_unchanged cs k None weak);
       }
 
-  strong_kept : (isolate : Option ℕ) → (isolate_around cs k ≡ isolate → ⊥) → side_before cs (k + 1) isolate ≡ side_before cs k isolate
-  strong_kept isolate ne = side_kept cs isolate k (elsewhere cs isolate k ne)
+  strong_unchanged : (isolate : Option ℕ) → (isolate_around cs k ≡ isolate → ⊥) → side_before cs (k + 1) isolate ≡ side_before cs k isolate
+  strong_unchanged isolate ne = side_unchanged cs isolate k (elsewhere cs isolate k ne)
 
   strong_here : (isolate : Option ℕ) → is_strong (class_at cs k) ≡ true → isolate_around cs k ≡ isolate → is_strong_in cs isolate k ≡ true
   strong_here isolate strong here = and_from _ _ strong (rw here (same_position_refl isolate))
@@ -100,12 +100,12 @@ module _ {cs : List Class} {k : ℕ} {sides : List Side} {outside : Side} (now :
 
   -- a strong class outside of all isolates
   pub noted_outside : is_strong (class_at cs k) ≡ true → isolate_around cs k ≡ None → AreNoted cs (k + 1) sides (noted outside (class_at cs k))
-  noted_outside strong here = grind (arith, not_opener, strong_kept, side_noted, strong_here)
+  noted_outside strong here = grind (arith, not_opener, strong_unchanged, side_noted, strong_here)
 
   -- a strong class in the isolate that begins at q
   pub noted_inside : (q : ℕ) → q < k → q < length sides → is_isolate_initiator (class_at cs q) ≡ true → is_strong (class_at cs k) ≡ true → isolate_around cs k ≡ Some q → AreNoted cs (k + 1) (noted_at sides q (class_at cs k)) outside
   noted_inside q below room begins strong here =
-      grind (arith, nat_tests, get_or-set_same, side_noted, strong_here, get_or-set_other, not_opener, strong_kept)
+      grind (arith, nat_tests, get_or-set_same, side_noted, strong_here, get_or-set_other, not_opener, strong_unchanged)
 
 -- a strong class, in the last of the open isolates, or outside of all isolates if none is open
 pub noted_strong : (cs : List Class) (k depth : ℕ) (s : ℕ → ℕ) (class : Class) (sides new : List Side) (outside found : Side) → AreNoted cs k sides outside → k < length cs → k ≤ length sides → IsOpenStack cs k depth s → class_at cs k ≡ class → is_strong (class_at cs k) ≡ true →
@@ -121,10 +121,10 @@ noted_strong cs k (suc n) s class sides new outside found now inside room stack 
     rw (e.0, e.1, ← same) (noted_inside now (s n) below (omega (arith, below)) (stack.opener n (omega arith)) strong (around_last_open cs k inside n s stack plain.0 plain.1))
 
 -- and the number of sides is unchanged
-pub sides_kept : (depth : ℕ) (s : ℕ → ℕ) (class : Class) (sides new : List Side) (outside found : Side) →
+pub sides_unchanged : (depth : ℕ) (s : ℕ → ℕ) (class : Class) (sides new : List Side) (outside found : Side) →
     (depth ≡ 0 → (found ≡ noted outside class) × (new ≡ sides)) → ((d : ℕ) → depth ≡ d + 1 → (found ≡ outside) × (new ≡ noted_at sides (s d) class)) → length new ≡ length sides
-sides_kept zero s class sides new outside found none some = ap length (none refl).1
-sides_kept (suc n) s class sides new outside found none some = let one : suc n ≡ n + 1 = omega arith in ap length (some n one).1 ∙ length-set sides (s n) _
+sides_unchanged zero s class sides new outside found none some = ap length (none refl).1
+sides_unchanged (suc n) s class sides new outside found none some = let one : suc n ≡ n + 1 = omega arith in ap length (some n one).1 ∙ length-set sides (s n) _
 
 -- no PDI is strong
 pub pdi_is_weak : (c : Class) → is_pdi c ≡ true → is_strong c ≡ false

@@ -2,16 +2,16 @@
 ghost use Rattle.std.specs.Prelude.{◌≡◌, ◌≢◌, ◌==◌, [], ◌∷◌, ◌≤◌, length, MatchOption, IfSome};
 ghost use Rattle.std.specs.List.{before_first};
 ghost use Rattle.units.specs.Text.{cut_at, fields_of};
-ghost use Rattle.units.specs.Cuts.{IsBehindFirst, pieces_behind, fields_behind};
+ghost use Rattle.units.specs.Cuts.{IsAfterFirst, pieces_after, fields_after};
 
 use crate::text::trim::trim;
 use memchr::memchr;
 
 /// Returns the bytes before the first separator, and the bytes after it.
 pub fn cut(bytes: &[u8], separator: u8) -> (&[u8], Option<&[u8]>)
-    ensures pieces { cut_at separator bytes.now ≡ result.0.now ∷ pieces_behind separator result.1 }
+    ensures pieces { cut_at separator bytes.now ≡ result.0.now ∷ pieces_after separator result.1 }
     ensures before { result.0.now ≡ before_first (λ b. b == separator) bytes.now }
-    ensures behind { IsBehindFirst separator bytes.now result.1 }
+    ensures following { IsAfterFirst separator bytes.now result.1 }
     ensures short { length result.0.now ≤ length bytes.now }
     ensures less { IfSome result.1 (λ rest. length rest.now ≤ length bytes.now) }
 {
@@ -23,7 +23,7 @@ pub fn cut(bytes: &[u8], separator: u8) -> (&[u8], Option<&[u8]>)
 
 /// Returns the first field, and the bytes after its `;`.
 pub fn cut_field(content: &[u8]) -> (&[u8], Option<&[u8]>)
-    ensures fields { fields_of content.now ≡ result.0.now ∷ fields_behind result.1 }
+    ensures fields { fields_of content.now ≡ result.0.now ∷ fields_after result.1 }
     ensures short { length result.0.now ≤ length content.now }
     ensures less { IfSome result.1 (λ rest. length rest.now ≤ length content.now) }
 {

@@ -1,7 +1,7 @@
 // Blanks at the ends of bytes.
 ghost use Rattle.std.specs.Prelude.{◌≡◌, ◌≤◌, length, reverse};
 ghost use Rattle.std.specs.List.{take_while};
-ghost use Rattle.units.specs.Text.{is_blank as blank_of, without_blanks_before, without_blanks_behind, trimmed, content_of};
+ghost use Rattle.units.specs.Text.{is_blank as blank_of, without_blanks_before, without_trailing_blanks, trimmed, content_of};
 
 use memchr::memchr;
 
@@ -18,7 +18,7 @@ fn blanks_before(bytes: &[u8]) -> usize
     bytes.iter().take_while(|b| is_blank(**b)).count()
 }
 
-fn blanks_behind(bytes: &[u8]) -> usize
+fn blanks_after(bytes: &[u8]) -> usize
     ensures { result ≡ length (take_while blank_of (reverse bytes.now)) }
 {
     bytes.iter().rev().take_while(|b| is_blank(**b)).count()
@@ -34,10 +34,10 @@ pub fn trim_start(bytes: &[u8]) -> &[u8]
 
 /// Returns the bytes without the blanks at the end.
 pub fn trim_end(bytes: &[u8]) -> &[u8]
-    ensures rest { result.now ≡ without_blanks_behind bytes.now }
+    ensures rest { result.now ≡ without_trailing_blanks bytes.now }
     ensures short { length result.now ≤ length bytes.now }
 {
-    &bytes[..bytes.len() - blanks_behind(bytes)]
+    &bytes[..bytes.len() - blanks_after(bytes)]
 }
 
 /// Returns the bytes without the blanks at both ends.

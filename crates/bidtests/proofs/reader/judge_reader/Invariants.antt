@@ -11,4 +11,4 @@ invariant-loop-judge g l =
     × ((limits : LimitsOf) (kind : Kind) (b : List ℕ) → Judges limits kind l.initial.judge b → Judges limits kind l.judge (b ++ given))
 
 abbrev pub decreases-loop-judge : goal.decreases-loop-judge
-decreases-loop-judge g l = g.S.ByteSource.most_left l.source
+decreases-loop-judge g l = g.S.ByteSource.most_remaining l.source

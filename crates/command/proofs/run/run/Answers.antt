@@ -1,5 +1,5 @@
 use Rattle.std.proofs.Common.{◌≡◌, ℕ, List, Result, Ok, subst}
-use Rattle.command.specs.declared.refusal.WordsFault.{WordsFault}
+use Rattle.command.specs.declared.rejection.WordsFault.{WordsFault}
 use Rattle.clap.specs.Walk.{texts}
 use Rattle.command.specs.CommandLine.{IsRead, IsReadAs}
 use Rattle.command.specs.declared.invocation.Invocation.{Invocation}

@@ -6,5 +6,5 @@ returns-in-Err-NoRequest-clause-ended g c =
     rw (c.in-Err-NoRequest.is, c.in-Err-NoRequest.field-0-is, ← c.in-Err-NoRequest.why-is) (record {
       status_is = c.say_no_request.ensures.status;
       unprinted = refl;
-      says = c.say_no_request.ensures.said;
+      says = c.say_no_request.ensures.noted;
     })

@@ -6,7 +6,7 @@ use Rattle.clap.specs.Simple.{App, HasMatchesOf, app_of, is_simple, subcommand_r
 use Rattle.clap.specs.Walk.{Text, texts}
 use Rattle.clap.specs.declared.error.Error.{Error}
 use Rattle.clap.specs.declared.parser.matches.ArgMatches.{ArgMatches}
-use Rattle.command.specs.CommandLine.{HasMet, IsBidi, IsRefusedByClap}
+use Rattle.command.specs.CommandLine.{HasMet, IsBidi, IsRejectedByClap}
 use Rattle.command.proofs.words.matches_of.Goals as goal
 
 simple : (app : App) → IsBidi app → is_simple app ≡ true
@@ -20,11 +20,11 @@ met : (app : App) (words : List Text) (r : Result ArgMatches Error) → IsBidi a
 met app words (Ok m) h passes found = record { app = app; is = h; passes = passes; same = (found (simple app h)).1 }
 met app words (Err e) h fails found = tt
 
-refused : (app : App) (words : List Text) (r : Result ArgMatches Error) → IsBidi app → FailsBy (fault_of app words) r
-    → IfErr r (IsRefusedByClap words)
-refused app words (Ok m) h passes = tt
-refused app words (Err e) h (inl memory) = inl memory
-refused app words (Err e) h (inr kind) = inr (app, h, kind)
+rejected : (app : App) (words : List Text) (r : Result ArgMatches Error) → IsBidi app → FailsBy (fault_of app words) r
+    → IfErr r (IsRejectedByClap words)
+rejected app words (Ok m) h passes = tt
+rejected app words (Err e) h (inl memory) = inl memory
+rejected app words (Err e) h (inr kind) = inr (app, h, kind)
 
 pub returns-clause-met : goal.returns-clause-met
 returns-clause-met c =
@@ -33,8 +33,8 @@ returns-clause-met c =
     met app (texts c.args.words.now) c.try_get_matches_from_mut.result bidi (c.try_get_matches_from_mut.ensures.kinds (free app bidi))
     (IfOk-weaker c.try_get_matches_from_mut.result _ _ (λ m h. h.2) c.try_get_matches_from_mut.ensures.ok)
 
-pub returns-clause-refused : goal.returns-clause-refused
-returns-clause-refused c =
+pub returns-clause-rejected : goal.returns-clause-rejected
+returns-clause-rejected c =
     let bidi = c.in_ok-command.ensures in
     let app = app_of c.in_ok-command.command in
-    refused app (texts c.args.words.now) c.try_get_matches_from_mut.result bidi (c.try_get_matches_from_mut.ensures.kinds (free app bidi))
+    rejected app (texts c.args.words.now) c.try_get_matches_from_mut.result bidi (c.try_get_matches_from_mut.ensures.kinds (free app bidi))

@@ -1,5 +1,5 @@
 use Rattle.lines.specs.LineBreaks.{AreBreaksOf, IsFirstBreakFault}
-use Rattle.decoding.proofs.FoundBreaks.{no_fault, ok_unless}
+use Rattle.decoding.proofs.BreakIndices.{no_fault, ok_unless}
 use Rattle.decoding.proofs.breaking.breaks_at.Goals as goal
 
 pub unwrap-requires : goal.unwrap-requires

@@ -1,7 +1,7 @@
 use Rattle.std.proofs.Common.{◌≡◌, ◌<◌, ◌-◌, ℕ, length, take}
 use Rattle.decoding.specs.Decoded.{IsWritten}
 use Rattle.decoding.specs.Encodings.{utf16_text, IsPaired}
-use Rattle.decoding.specs.declared.fault.Faults.TheVariants.{Refused}
+use Rattle.decoding.specs.declared.fault.Faults.TheVariants.{Rejected}
 use Rattle.decoding.proofs.Utf16Texts.{IsAt}
 use Rattle.decoding.proofs.utf16.decode_utf16.Given as goal
 
@@ -10,7 +10,7 @@ invariant-loop-at l =
     record {
       reached : IsAt l.text l.count l.at;
       written : IsWritten l.tables (take l.count (utf16_text l.text)) (record { characters = l.count; code_units = l.at }) l.units l.starts;
-      paired : l.fn.faults ≡ Refused → (k : ℕ) → k < l.count → IsPaired l.text k;
+      paired : l.fn.faults ≡ Rejected → (k : ℕ) → k < l.count → IsPaired l.text k;
     }
 
 abbrev pub decreases-loop-at : goal.decreases-loop-at

@@ -29,17 +29,17 @@ loop-at-preserved c =
     let bytes = c.args.bytes.now in
     let tables = c.args.tables.now in
     let d = c.known_char_at-c.result.0 in
-    let behind = c.known_char_at-c.result.1 in
+    let following = c.known_char_at-c.result.1 in
     let is = c.known_char_at-c.ensures in
-    let more = forward bytes l.at d behind is in
-    let unit = c.write_unit.ensures ∙ ap (λ (s : UnitStages). unit_by_stages s d) c.units-lent.ensures in
+    let more = forward bytes l.at d following is in
+    let unit = c.write_unit.ensures ∙ ap (λ (s : UnitStages). unit_by_stages s d) c.units-borrowed.ensures in
     record {
       few = omega (arith, more, l.invariant.few);
       inside = is.inside;
-      front = utf8_more bytes l.at d behind l.invariant.front is;
-      written = subst (λ (xs : List Spelled). IsWritten tables xs (record { characters = l.count + 1; code_units = behind }) (set l.units l.count c.write_unit.new.unit) (set l.starts l.count l.at))
-          (sym (text_more bytes l.at d behind l.invariant.front is))
-          (written_more tables (utf8_text (take l.at bytes)) (in_utf8 d) l.count l.at l.units l.starts c.write_unit.new.unit (record { characters = l.count + 1; code_units = behind })
+      front = utf8_more bytes l.at d following l.invariant.front is;
+      written = subst (λ (xs : List Spelled). IsWritten tables xs (record { characters = l.count + 1; code_units = following }) (set l.units l.count c.write_unit.new.unit) (set l.starts l.count l.at))
+          (sym (text_more bytes l.at d following l.invariant.front is))
+          (written_more tables (utf8_text (take l.at bytes)) (in_utf8 d) l.count l.at l.units l.starts c.write_unit.new.unit (record { characters = l.count + 1; code_units = following })
           (omega (arith, l.invariant.few, c.loop-at-test.true, l.auto.units, c.requires.units)) (omega (arith, l.invariant.few, c.loop-at-test.true, l.auto.starts, c.requires.starts))
-          unit refl is.behind l.invariant.written);
+          unit refl is.following l.invariant.written);
     }

@@ -50,7 +50,7 @@ loop-c-preserved c =
     let lt : n < length (utf8_text text) = omega (arith, t.0, length-utf8_text text) in
     let read = read_utf8 text n d t.0 t.1 in
     let wide = ap (λ x. l.code_units + x) c.len_utf8-code_units.ensures.len in
-    let is = c.write_unit.ensures ∙ ap (λ (s : UnitStages). unit_by_stages s d) c.units-lent.ensures in
+    let is = c.write_unit.ensures ∙ ap (λ (s : UnitStages). unit_by_stages s d) c.units-borrowed.ensures in
     let in_units : l.characters < length l.units = omega (arith, t.0, l.invariant.characters, c.requires.units, l.auto.units) in
     let in_starts : l.characters < length l.starts = omega (arith, t.0, l.invariant.characters, c.requires.starts, l.auto.starts) in
     record {

@@ -8,11 +8,11 @@ returns-in_default-clause-fault c = first_fault c.args.bytes.now c.loop-at.at (o
 
 pub loop-at-smaller : goal.loop-at-smaller
 loop-at-smaller c =
-    let more = forward c.args.bytes.now c.loop-at.at c.in-Some.field-0-0 c.in-Some.behind c.in-Some.ensures in
-    let less : c.args.end - c.in-Some.behind < c.args.end - c.loop-at.at = omega (arith, more, c.loop-at-test.true) in
+    let more = forward c.args.bytes.now c.loop-at.at c.in-Some.field-0-0 c.in-Some.following c.in-Some.ensures in
+    let less : c.args.end - c.in-Some.following < c.args.end - c.loop-at.at = omega (arith, more, c.loop-at-test.true) in
     less
 
 pub loop-at-preserved : goal.loop-at-preserved
 loop-at-preserved c =
     let is = c.in-Some.ensures in
-    record { inside = is.inside; front = utf8_more c.args.bytes.now c.loop-at.at c.in-Some.field-0-0 c.in-Some.behind c.loop-at.invariant.front is }
+    record { inside = is.inside; front = utf8_more c.args.bytes.now c.loop-at.at c.in-Some.field-0-0 c.in-Some.following c.loop-at.invariant.front is }

@@ -7,4 +7,4 @@ invariant-loop-search g l =
     (given : List ℕ) × g.S.ByteSource.gives l.initial.source given l.source × SearchesOn l.kind l.number l.search given
 
 abbrev pub decreases-loop-search : goal.decreases-loop-search
-decreases-loop-search g l = g.S.ByteSource.most_left l.source
+decreases-loop-search g l = g.S.ByteSource.most_remaining l.source

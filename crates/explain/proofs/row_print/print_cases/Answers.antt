@@ -13,7 +13,7 @@ loop-direction-preserved g c = record {
 
 pub returns-in_err-print_case-clause-fault : goal.returns-in_err-print_case-clause-fault
 returns-in_err-print_case-clause-fault g c =
-    let left = drop_more c.args.directions.now c.loop-direction.direction-index _ c.loop-direction-test.true in
+    let remaining = drop_more c.args.directions.now c.loop-direction.direction-index _ c.loop-direction-test.true in
     let passed = c.loop-direction.invariant.passed in
     leaves_on _ _ _ _ _ c.from_residual.ensures.1
-    (fault_along _ _ _ _ _ _ _ (λ v. front_of_passed _ _ _ _ _ _ _ _ left passed v) c.in_err-print_case.ensures.fault)
+    (fault_along _ _ _ _ _ _ _ (λ v. front_of_passed _ _ _ _ _ _ _ _ remaining passed v) c.in_err-print_case.ensures.fault)

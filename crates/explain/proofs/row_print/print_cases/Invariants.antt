@@ -8,5 +8,5 @@ abbrev pub invariant-loop-direction : goal.invariant-loop-direction
 invariant-loop-direction g l = record {
   passed : HasPrintedUpTo (g.W.Write.contents l.initial.w) (g.W.Write.contents l.w) (case_text l.number l.row)
       l.directions (drop l.direction-index l.directions);
-  room : length l.row.claim.text ≤ room_of l.scratch;
+  room : length l.row.expected.text ≤ room_of l.scratch;
 }

@@ -1,6 +1,6 @@
 use Rattle.std.proofs.Common.{◌≡◌, sym, ◌∙◌, arith}
 use Rattle.explicit.specs.FirstParagraph.{first_length}
-use Rattle.explicit.proofs.LevelsFound.OneCutting.{first_length_at, first_length_nowhere, first_length_within}
+use Rattle.explicit.proofs.LevelsComputed.OneCutting.{first_length_at, first_length_nowhere, first_length_within}
 use Rattle.explicit.proofs.cutting.first_length.Goals as goal
 
 pub returns-in-Some : goal.returns-in-Some

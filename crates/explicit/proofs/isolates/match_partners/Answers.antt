@@ -7,8 +7,8 @@ use Rattle.explicit.specs.Stops.{ArePassed, without_partners}
 use Rattle.explicit.proofs.Holders.Roles.{class_read}
 use Rattle.explicit.proofs.Matched.Filling.{filling_opening, filling_other, filling_unmatched, filling_matched, filling_all, filling_none}
 use Rattle.explicit.proofs.Matched.Stops.{cleared_next, filling_passed_all}
-use Rattle.explicit.proofs.StrongSides.Passed.{at_stop, found_strong, is_not, noted_passed_all}
-use Rattle.explicit.proofs.StrongSides.Sides.{noted_none, noted_weak, noted_opening, noted_strong, noted_all_inside, noted_all_outside, strong_is_other, pdi_is_weak, sides_kept}
+use Rattle.explicit.proofs.StrongSides.Passed.{at_stop, strong_is_noted, is_not, noted_passed_all}
+use Rattle.explicit.proofs.StrongSides.Sides.{noted_none, noted_weak, noted_opening, noted_strong, noted_all_inside, noted_all_outside, strong_is_other, pdi_is_weak, sides_unchanged}
 use Rattle.explicit.proofs.isolates.match_partners.Goals as goal
 use Rattle.explicit.proofs.isolates.match_partners.Goals.{else-is_pdi-via-then-is_pdi+else-depth-gt0, else-is_pdi-via-else-is_pdi}
 
@@ -28,7 +28,7 @@ note_strong-outside-requires-clause-within g c = λ d e.
     let cs : List Class = classes_of c.args.para.now in
     let stop = c.in-Some.ensures.found in
     let inside = stop.within in
-    let now = filling_passed_all cs l.sought l.from c.in-Some.p l.depth _ l.partners l.openers l.invariant.filling stop.first (omega (arith, inside)) stop.later in
+    let now = filling_passed_all cs l.wanted l.from c.in-Some.p l.depth _ l.partners l.openers l.invariant.filling stop.first (omega (arith, inside)) stop.later in
     let low = now.pass.stack.before d (omega (arith, e)) in
     omega (arith, low, now.enough, l.invariant.sides_fit, inside)
 
@@ -44,7 +44,7 @@ loop-p-preserved-then-is_isolate_initiator g c =
     let len : length cs ≡ length para = length-map _ _ in
     let inside : p < length para = omega (arith, len, inside') in
     let fit = l.invariant.sides_fit in
-    let here = at_stop cs l.sought l.from p l.depth _ l.partners l.openers l.sides l.outside l.invariant.filling fit l.invariant.found l.invariant.noted stop in
+    let here = at_stop cs l.wanted l.from p l.depth _ l.partners l.openers l.sides l.outside l.invariant.filling fit l.invariant.found l.invariant.noted stop in
     let now = here.0 in
     let before = here.1 in
     let passed : List (Option ℕ) = without_partners l.from p l.partners in
@@ -74,7 +74,7 @@ loop-p-preserved-then-depth-gt0 g c =
     let len : length cs ≡ length para = length-map _ _ in
     let inside : p < length para = omega (arith, len, inside') in
     let fit = l.invariant.sides_fit in
-    let here = at_stop cs l.sought l.from p l.depth _ l.partners l.openers l.sides l.outside l.invariant.filling fit l.invariant.found l.invariant.noted stop in
+    let here = at_stop cs l.wanted l.from p l.depth _ l.partners l.openers l.sides l.outside l.invariant.filling fit l.invariant.found l.invariant.noted stop in
     let now = here.0 in
     let before = here.1 in
     let passed : List (Option ℕ) = without_partners l.from p l.partners in
@@ -106,7 +106,7 @@ loop-p-preserved-then-is_strong g c =
     let len : length cs ≡ length para = length-map _ _ in
     let inside : p < length para = omega (arith, len, inside') in
     let fit = l.invariant.sides_fit in
-    let here = at_stop cs l.sought l.from p l.depth _ l.partners l.openers l.sides l.outside l.invariant.filling fit l.invariant.found l.invariant.noted stop in
+    let here = at_stop cs l.wanted l.from p l.depth _ l.partners l.openers l.sides l.outside l.invariant.filling fit l.invariant.found l.invariant.noted stop in
     let now = here.0 in
     let before = here.1 in
     let passed : List (Option ℕ) = without_partners l.from p l.partners in
@@ -121,9 +121,9 @@ loop-p-preserved-then-is_strong g c =
     rw cleared (record {
       within = omega (arith, inside);
       filling = filling_other _ _ _ _ passed _ now inside' plain.0 plain.1;
-      sides_fit = sides_kept l.depth _ _ l.sides _ _ _ outer inner ∙ fit;
+      sides_fit = sides_unchanged l.depth _ _ l.sides _ _ _ outer inner ∙ fit;
       noted = noted_strong _ _ _ _ _ _ c.note_strong-outside.new.sides _ c.note_strong-outside.result before inside' (omega (arith, fit, enough, inside')) now.pass.stack read strong outer inner;
-      found = λ f. found_strong l.depth _ _ l.sides _ _ _ outer inner (λ d e. let under = now.pass.stack.before d (omega (arith, e)) in omega (arith, under, fit, enough, inside'));
+      found = λ f. strong_is_noted l.depth _ _ l.sides _ _ _ outer inner (λ d e. let under = now.pass.stack.before d (omega (arith, e)) in omega (arith, under, fit, enough, inside'));
       taken = taken';
     })
 
@@ -139,7 +139,7 @@ loop-p-preserved g c =
     let len : length cs ≡ length para = length-map _ _ in
     let inside : p < length para = omega (arith, len, inside') in
     let fit = l.invariant.sides_fit in
-    let here = at_stop cs l.sought l.from p l.depth _ l.partners l.openers l.sides l.outside l.invariant.filling fit l.invariant.found l.invariant.noted stop in
+    let here = at_stop cs l.wanted l.from p l.depth _ l.partners l.openers l.sides l.outside l.invariant.filling fit l.invariant.found l.invariant.noted stop in
     let now = here.0 in
     let before = here.1 in
     let passed : List (Option ℕ) = without_partners l.from p l.partners in
@@ -171,10 +171,10 @@ returns-clause-matched g c =
     let l = c.loop-p in
     let len : length cs ≡ length c.args.para.now = length-map _ _ in
     let low : l.from ≤ length cs = omega (arith, len, l.invariant.within) in
-    let Q : ℕ → Type 0 = λ k. ArePassed l.sought cs l.from k in
+    let Q : ℕ → Type 0 = λ k. ArePassed l.wanted cs l.from k in
     let first : Q (length cs) = subst Q (sym len) (c.in_default.ensures.none refl) in
     let all : c.next_stop.new.partners ≡ without_partners l.from (length cs) l.partners = c.in_default.ensures.all_partners refl ∙ ap (λ (k : ℕ). without_partners l.from k l.partners) (sym len) in
-    rw all (filling_all cs l.depth _ _ l.openers (filling_passed_all cs l.sought l.from (length cs) l.depth _ l.partners l.openers l.invariant.filling first (omega arith) low))
+    rw all (filling_all cs l.depth _ _ l.openers (filling_passed_all cs l.wanted l.from (length cs) l.depth _ l.partners l.openers l.invariant.filling first (omega arith) low))
 
 pub returns-clause-sides : goal.returns-clause-sides
 returns-clause-sides g c =
@@ -182,9 +182,9 @@ returns-clause-sides g c =
     let l = c.loop-p in
     let len : length cs ≡ length c.args.para.now = length-map _ _ in
     let low : l.from ≤ length cs = omega (arith, len, l.invariant.within) in
-    let Q : ℕ → Type 0 = λ k. ArePassed l.sought cs l.from k in
+    let Q : ℕ → Type 0 = λ k. ArePassed l.wanted cs l.from k in
     let first : Q (length cs) = subst Q (sym len) (c.in_default.ensures.none refl) in
-    noted_all_inside cs l.sides l.outside (noted_passed_all cs l.sought l.from (length cs) l.depth _ l.partners l.openers l.sides l.outside l.invariant.filling first (omega arith) l.invariant.sides_fit l.invariant.found l.invariant.noted low)
+    noted_all_inside cs l.sides l.outside (noted_passed_all cs l.wanted l.from (length cs) l.depth _ l.partners l.openers l.sides l.outside l.invariant.filling first (omega arith) l.invariant.sides_fit l.invariant.found l.invariant.noted low)
 
 pub returns-clause-outside : goal.returns-clause-outside
 returns-clause-outside g c =
@@ -192,6 +192,6 @@ returns-clause-outside g c =
     let l = c.loop-p in
     let len : length cs ≡ length c.args.para.now = length-map _ _ in
     let low : l.from ≤ length cs = omega (arith, len, l.invariant.within) in
-    let Q : ℕ → Type 0 = λ k. ArePassed l.sought cs l.from k in
+    let Q : ℕ → Type 0 = λ k. ArePassed l.wanted cs l.from k in
     let first : Q (length cs) = subst Q (sym len) (c.in_default.ensures.none refl) in
-    noted_all_outside cs l.sides l.outside (noted_passed_all cs l.sought l.from (length cs) l.depth _ l.partners l.openers l.sides l.outside l.invariant.filling first (omega arith) l.invariant.sides_fit l.invariant.found l.invariant.noted low)
+    noted_all_outside cs l.sides l.outside (noted_passed_all cs l.wanted l.from (length cs) l.depth _ l.partners l.openers l.sides l.outside l.invariant.filling first (omega arith) l.invariant.sides_fit l.invariant.found l.invariant.noted low)

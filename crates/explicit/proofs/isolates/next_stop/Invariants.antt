@@ -6,7 +6,7 @@ use Rattle.explicit.proofs.isolates.next_stop.Given as goal
 abbrev pub invariant-loop-p : goal.invariant-loop-p
 invariant-loop-p g l = record {
   later : l.from ≤ l.p;
-  passed : ArePassed l.sought (classes_of l.para) l.from l.p;
+  passed : ArePassed l.wanted (classes_of l.para) l.from l.p;
   room : length l.partners ≡ length l.fn.partners;
   cleared : l.partners ≡ without_partners l.from l.p l.fn.partners;
   taken : l.steps + l.from ≡ l.fn.steps + l.p;

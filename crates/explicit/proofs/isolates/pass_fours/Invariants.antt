@@ -8,7 +8,7 @@ invariant-loop-partners g l = record {
   later : l.from ≤ l.p;
   within : l.p ≤ length l.para;
   passed : HasNoFormatting (classes_of l.para) l.from l.p;
-  seeks : l.sought ≡ true → l.p ≡ l.from;
+  seeks : l.wanted ≡ true → l.p ≡ l.from;
   room : length l.partners ≡ length l.fn.partners;
   cleared : l.partners ≡ without_partners l.from l.p l.fn.partners;
   taken : l.steps + l.from ≡ l.fn.steps + l.p;

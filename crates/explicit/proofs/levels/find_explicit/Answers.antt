@@ -6,8 +6,8 @@ use Rattle.units.specs.declared.class.Class.{Class}
 use Rattle.explicit.specs.StatusStacks.{is_ordinary}
 use Rattle.explicit.proofs.Holders.Represented.{entries-some}
 use Rattle.explicit.proofs.Holders.Roles.{class_read}
-use Rattle.explicit.proofs.LevelsFound.ExplicitAt.{open_before, explicit-more, kept-before, passed-is}
-use Rattle.explicit.proofs.LevelsFound.Stretches.{stretch-keeps, stretch-moves, stretch-room, stretch-explicit}
+use Rattle.explicit.proofs.LevelsComputed.ExplicitAt.{open_before, explicit-more, retained-before, passed-is}
+use Rattle.explicit.proofs.LevelsComputed.Stretches.{stretch-keeps, stretch-moves, stretch-room, stretch-explicit}
 use Rattle.explicit.proofs.levels.find_explicit.Goals as goal
 
 pub loop-p-init : goal.loop-p-init
@@ -63,8 +63,8 @@ loop-p-preserved-then-is_ordinary g c =
       most = omega (arith, moves, i.most, c.tick.ensures, c.level_ordinary-p.ensures.steps);
     }
 
-pub pass-leveled-requires-clause-kept : goal.pass-leveled-requires-clause-kept
-pass-leveled-requires-clause-kept g c = kept-before c.args.depth (classes_of c.args.para.now) c.args.base c.loop-p.p c.loop-p.stack c.requires.within c.requires.base (omega arith) c.loop-p.invariant.keeps
+pub pass-leveled-requires-clause-retained : goal.pass-leveled-requires-clause-retained
+pass-leveled-requires-clause-retained g c = retained-before c.args.depth (classes_of c.args.para.now) c.args.base c.loop-p.p c.loop-p.stack c.requires.within c.requires.base (omega arith) c.loop-p.invariant.keeps
 
 pub loop-p-preserved : goal.loop-p-preserved
 loop-p-preserved g c =

@@ -3,7 +3,7 @@ use Rattle.std.specs.Prelude.{None}
 use Rattle.units.specs.Classes.{classes_of}
 use Rattle.units.specs.Explicit.{explicit_at}
 use Rattle.explicit.specs.StatusStacks.{Represents, entry_count}
-use Rattle.explicit.proofs.LevelsFound.ExplicitAt.{open_before}
+use Rattle.explicit.proofs.LevelsComputed.ExplicitAt.{open_before}
 use Rattle.explicit.proofs.levels.find_explicit.Given as goal
 
 abbrev pub invariant-loop-p : goal.invariant-loop-p

@@ -6,7 +6,7 @@ use Rattle.units.specs.declared.class.Class.{Class}
 use Rattle.explicit.specs.StatusStacks.{is_ordinary}
 use Rattle.explicit.specs.Stretches.{leveled_by_status, with_leveled}
 use Rattle.explicit.proofs.Holders.Roles.{class_read}
-use Rattle.explicit.proofs.LevelsFound.Stretches.{explicit-next, explicit-none}
+use Rattle.explicit.proofs.LevelsComputed.Stretches.{explicit-next, explicit-none}
 use Rattle.explicit.proofs.levels.level_ordinary.Goals as goal
 
 pub loop-p-init : goal.loop-p-init

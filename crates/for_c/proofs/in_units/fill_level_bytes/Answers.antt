@@ -4,9 +4,9 @@ use Rattle.std.proofs.lemmas.List.{get_or_default}
 use Rattle.units.specs.Layout.{TextLayout}
 use Rattle.room.specs.Rooms.{characters_in, offset_in}
 use Rattle.room.specs.Looking.{size_in}
-use Rattle.room.proofs.LevelWalk.{at_inside}
+use Rattle.room.proofs.LevelPass.{at_inside}
 use Rattle.for_c.specs.LevelBytes.{level_byte}
-use Rattle.for_c.proofs.LevelBytesWalk.{one_more}
+use Rattle.for_c.proofs.LevelBytesWritten.{one_more}
 use Rattle.for_c.proofs.in_units.fill_level_bytes.Goals as goal
 
 pub loop-k-preserved : goal.loop-k-preserved

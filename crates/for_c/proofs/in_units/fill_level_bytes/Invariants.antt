@@ -1,6 +1,6 @@
 use Rattle.std.proofs.Common.{◌≡◌}
 use Rattle.room.specs.Rooms.{offset_in}
-use Rattle.for_c.proofs.LevelBytesWalk.{AreWritten}
+use Rattle.for_c.proofs.LevelBytesWritten.{AreWritten}
 use Rattle.for_c.proofs.in_units.fill_level_bytes.Given as goal
 
 -- the levels of the units before this character are written

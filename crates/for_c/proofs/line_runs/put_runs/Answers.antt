@@ -1,9 +1,9 @@
 use Rattle.std.proofs.Common.{◌++◌, ◌∷◌, [], arith, ◌∙◌}
-use Rattle.visual.proofs.Told.{told-behind, told-len}
-use Rattle.visual.proofs.Walked.{all_given, given_more, length_more}
+use Rattle.visual.proofs.Converted.{converted-following, converted-len}
+use Rattle.visual.proofs.Passed.{all_given, given_more, length_more}
 use Rattle.room.proofs.RunLists.{run_within}
 use Rattle.for_c.proofs.LineRunLists.{written_run}
-use Rattle.for_c.specs.LineRuns.{run_told}
+use Rattle.for_c.specs.LineRuns.{returned_run}
 use Rattle.for_c.proofs.line_runs.put_runs.Goals as goal
 
 pub loop-run-preserved : goal.loop-run-preserved
@@ -12,8 +12,8 @@ loop-run-preserved c =
     let runs = i.3.0 in
     let run = c.in-Some.run' in
     let n = length_more runs run in
-    let len = told-len c.loop-run.out c.put.new.out c.loop-run.count c.run_told.result c.put.ensures in
-    let put = told-behind c.loop-run.out c.put.new.out c.loop-run.count c.run_told.result c.put.ensures in (
+    let len = converted-len c.loop-run.out c.put.new.out c.loop-run.count c.returned_run.result c.put.ensures in
+    let put = converted-following c.loop-run.out c.put.new.out c.loop-run.count c.returned_run.result c.put.ensures in (
       tt,
       tt,
       len ∙ i.2,
@@ -21,18 +21,18 @@ loop-run-preserved c =
         runs ++ run ∷ [],
         given_more c.args.line.now runs c.loop-run.run-iterator run c.next.new.self i.3.1 c.in-Some.ensures.steps,
         omega (arith, n, i.3.2),
-        written_run (run_told c.args.room.now c.args.in_units) runs run c.loop-run.out c.put.new.out c.loop-run.count c.run_told.result len c.run_told.ensures put i.3.3,
+        written_run (returned_run c.args.room.now c.args.in_units) runs run c.loop-run.out c.put.new.out c.loop-run.count c.returned_run.result len c.returned_run.ensures put i.3.3,
       ),
     )
 
-pub run_told-requires-clause-forward : goal.run_told-requires-clause-forward
-run_told-requires-clause-forward c =
+pub returned_run-requires-clause-forward : goal.returned_run-requires-clause-forward
+returned_run-requires-clause-forward c =
     let i = c.loop-run.invariant in
     let w = run_within c.args.line.now i.3.0 c.loop-run.run-iterator c.in-Some.run' c.next.new.self c.requires.order i.3.1 c.in-Some.ensures.steps in
     omega (arith, w.forward, w.end, c.requires.inside)
 
-pub run_told-requires-clause-inside : goal.run_told-requires-clause-inside
-run_told-requires-clause-inside c =
+pub returned_run-requires-clause-inside : goal.returned_run-requires-clause-inside
+returned_run-requires-clause-inside c =
     let i = c.loop-run.invariant in
     let w = run_within c.args.line.now i.3.0 c.loop-run.run-iterator c.in-Some.run' c.next.new.self c.requires.order i.3.1 c.in-Some.ensures.steps in
     omega (arith, w.end, c.requires.inside)

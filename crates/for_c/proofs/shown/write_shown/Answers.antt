@@ -15,8 +15,8 @@ returns-then-line_count-k c =
       shown = λ _. subst (λ (l : LineLayout). Writes (length l.order) (AreShown c.args.tables.now room c.args.codes.now l.order) 0 c.args.out.now c.args.out.now) (sym none) (record {
         count = refl;
         written = λ _ i lt. absurd (omega (arith, lt));
-        behind = refl;
-        kept = λ _. refl;
+        following = refl;
+        unchanged = λ _. refl;
       });
       other = λ ne. absurd (ne (omega (arith, c.characters.ensures, c.if-codes-characters.false)));
     }

@@ -17,8 +17,8 @@ returns-then-line_count-k c =
       shown = λ _. subst (λ (l : LineLayout). WritesWhole (flat_map (shown_units_of encode_utf16 (utf16_code_at c.args.text.now) c.args.tables.now room) l.order) 0 c.args.out.now c.args.out.now) (sym none) (record {
         count = refl;
         written = λ _. refl;
-        behind = refl;
-        kept = λ _. refl;
+        following = refl;
+        unchanged = λ _. refl;
       });
       other = λ ne. absurd (ne (omega (arith, c.size.ensures, c.if-text-size.false)));
     }

@@ -1,7 +1,7 @@
 use Rattle.std.proofs.Common.{ℕ, rules, leb}
 use Rattle.std.proofs.lemmas.Bool.{leb-false, leb-true}
 use Rattle.std.proofs.lemmas.List.Sorted.{IsPartitionPoint-from_clause}
-use Rattle.lines.proofs.ParagraphFound.{parted}
+use Rattle.lines.proofs.ParagraphSearch.{parted}
 use Rattle.lines.proofs.alone.count_up_to.Goals as goal
 
 pub returns-clause-below : goal.returns-clause-below

@@ -2,7 +2,7 @@ use Rattle.std.proofs.Common.{◌≡◌, arith, length, subst, sym}
 use Rattle.std.proofs.lemmas.List.{length-map}
 use Rattle.units.specs.Classes.{classes_of}
 use Rattle.lines.specs.LineEnds.{AreParagraphEnds}
-use Rattle.lines.proofs.ParagraphFound.{IsFound, ends_rise, found, line_crosses, line_found}
+use Rattle.lines.proofs.ParagraphSearch.{IsSearched, ends_rise, found, line_crosses, line_of_paragraph}
 use Rattle.lines.proofs.alone.paragraph_of_line.Goals as goal
 
 pub count_up_to-paragraph-requires : goal.count_up_to-paragraph-requires
@@ -14,7 +14,7 @@ returns-then-ends-paragraph-clause-line g c =
     let ends = c.args.ends.now in
     let count = c.count_up_to-paragraph in
     let len : length own ≡ length c.args.text.now = length-map c.args.text.now (λ u. u.class) in
-    let f : IsFound own ends c.args.start count.result =
+    let f : IsSearched own ends c.args.start count.result =
     found own ends c.args.start count.result (subst (AreParagraphEnds own ends) (sym len) c.requires) (omega arith) count.ensures.bound count.ensures.below count.ensures.above in
     (omega arith, omega arith, line_crosses c.args.text.now ends c.args.start c.args.end count.result f (omega arith) (omega arith))
 
@@ -24,6 +24,6 @@ returns-clause-line g c =
     let ends = c.args.ends.now in
     let count = c.count_up_to-paragraph in
     let len : length own ≡ length c.args.text.now = length-map c.args.text.now (λ u. u.class) in
-    let f : IsFound own ends c.args.start count.result =
+    let f : IsSearched own ends c.args.start count.result =
     found own ends c.args.start count.result (subst (AreParagraphEnds own ends) (sym len) c.requires) (omega arith) count.ensures.bound count.ensures.below count.ensures.above in
-    line_found c.args.text.now ends c.args.start c.args.end count.result f (omega arith) (omega arith)
+    line_of_paragraph c.args.text.now ends c.args.start c.args.end count.result f (omega arith) (omega arith)

@@ -1,6 +1,6 @@
 use Rattle.std.proofs.Common.{◌≡◌, ◌<◌, List, ℕ, ap, arith, get_or, length, subst, take}
 use Rattle.units.specs.Reordering.{line_order}
-use Rattle.lines.proofs.Law.{line_order-places}
+use Rattle.lines.proofs.Theorem.{line_order-places}
 use Rattle.lines.proofs.alone.write_order_alone.Goals as goal
 
 pub move_to-requires : goal.move_to-requires

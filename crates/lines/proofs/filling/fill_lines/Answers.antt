@@ -11,7 +11,7 @@ use Rattle.lines.specs.LineEnds.{AreAllLineEnds, EndsLineAt}
 use Rattle.lines.specs.LinePositions.{IsAtOneLevel}
 use Rattle.lines.proofs.BoolBytes.{bool_byte-is}
 use Rattle.explicit.proofs.Holders.Roles.{class_read}
-use Rattle.lines.proofs.LineEnds.{cut_read, end_kept}
+use Rattle.lines.proofs.LineEnds.{cut_read, end_unchanged}
 use Rattle.lines.proofs.LinesWritten.{Filling, filling_end, filling_more, filling_start}
 use Rattle.lines.proofs.KnownLevels.{known_level, where_known}
 use Rattle.lines.proofs.ParagraphLines.{counted_on, line_uniform, para_read}
@@ -31,13 +31,13 @@ loop-line-init g c =
     let one : take (0 + 1) bounds ≡ first_bound ∷ [] = take_more bounds 0 first_bound (omega (arith, ap length c.deref_mut-bounds.ensures.value, c.requires.room.bounds)) ∙ ap (λ (b : Bound). b ∷ []) first in
     record {
       filling = λ breaks all. rw (start, one) (filling_start c.args.levels.now (begins_line (classes_of c.args.own.now) breaks));
-      kept = λ k. refl;
+      unchanged = λ k. refl;
       few_positions = omega arith;
       counted = ap (λ n. count_by is_separator (take n (classes_of c.args.own.now))) (sym start);
       at_least = omega arith;
       at_most = omega arith;
       twice = λ known. omega arith;
-      light = λ known. omega arith;
+      if_uniform = λ known. omega arith;
     }
 
 pub bounds-paras-paragraph : goal.bounds-paras-paragraph
@@ -57,7 +57,7 @@ invariant_of-span g c =
     let own = classes_of c.args.own.now in
     let at = c.requires.ends.0 in
     let len : length own ≡ length c.args.own.now = length-map c.args.own.now (λ u. u.class) in
-    let cut = cut_read (begins_line own at) _ _ _ _ (length own) (l.invariant.kept l.line) (l.invariant.kept (l.line + 1)) (ends.cut l.line c.loop-line-test.true) in
+    let cut = cut_read (begins_line own at) _ _ _ _ (length own) (l.invariant.unchanged l.line) (l.invariant.unchanged (l.line + 1)) (ends.cut l.line c.loop-line-test.true) in
     record { forward = omega (arith, cut.above); within = omega (arith, cut.within, len, c.requires.levels) }
 
 pub write_line-positions-requires-clause-uniform : goal.write_line-positions-requires-clause-uniform
@@ -72,8 +72,8 @@ write_line-positions-requires-clause-uniform g c =
     let end = (bound_at l.bounds (l.line + 1)).position in
     let len : length own ≡ length c.args.own.now = length-map c.args.own.now (λ u. u.class) in
     let cut : EndsLineAt (begins_line own at) start end (length own) =
-    cut_read (begins_line own at) _ _ start end (length own) (l.invariant.kept l.line) (l.invariant.kept (l.line + 1)) (ends.cut l.line c.loop-line-test.true) in
-    let counted : l.paragraph ≡ count_by is_separator (take start own) = l.invariant.counted ∙ ap (λ n. count_by is_separator (take n own)) (sym (l.invariant.kept l.line)) in
+    cut_read (begins_line own at) _ _ start end (length own) (l.invariant.unchanged l.line) (l.invariant.unchanged (l.line + 1)) (ends.cut l.line c.loop-line-test.true) in
+    let counted : l.paragraph ≡ count_by is_separator (take start own) = l.invariant.counted ∙ ap (λ n. count_by is_separator (take n own)) (sym (l.invariant.unchanged l.line)) in
     let bound = paragraph_at c.args.own.now (length paras) start c.requires.paras (omega (arith, cut.above, cut.within)) in
     let para = para_read own paras start l.paragraph counted (omega (arith, bound, counted)) in
     subst (λ o. IfSome o (λ p. IsAtOneLevel levels start end (level_of_para p))) (sym c.then_some-level.ensures)
@@ -88,8 +88,8 @@ loop-line-preserved g c =
     let levels = c.args.levels.now in
     let start : ℕ = (bound_at l.bounds l.line).position in
     let end : ℕ = (bound_at l.bounds (l.line + 1)).position in
-    let same_start = l.invariant.kept l.line in
-    let same_end = l.invariant.kept (l.line + 1) in
+    let same_start = l.invariant.unchanged l.line in
+    let same_end = l.invariant.unchanged (l.line + 1) in
     let len : length own ≡ length c.args.own.now = length-map c.args.own.now (λ u. u.class) in
     let same : length own ≡ length levels = len ∙ sym c.requires.levels in
     let at = c.requires.ends.0 in
@@ -112,7 +112,7 @@ loop-line-preserved g c =
           (subst (EndsLineAt test start end) same here)
           line.ensures.order (omega (arith, written, line.ensures.few)) put
           (subst (λ n. Filling levels test n (take l.positions l.orders) (take (l.line + 1) l.bounds)) (sym same_start) (l.invariant.filling breaks all)));
-      kept = λ k. end_kept l.bounds (l.line + 1) line.result k room ∙ l.invariant.kept k;
+      unchanged = λ k. end_unchanged l.bounds (l.line + 1) line.result k room ∙ l.invariant.unchanged k;
       few_positions = omega (arith, same_end, line.ensures.few);
       counted =
           ap (λ n. l.paragraph + n) (c.from-paragraph.ensures ∙ bool_byte-is c.is_separator.result)
@@ -124,9 +124,9 @@ loop-line-preserved g c =
       twice = λ known.
           let many = where_known c.args.resolved.uniform _ c.then_some-level.result c.then_some-level.ensures line.ensures.twice known in
           omega (arith, same_start, same_end, l.invariant.twice known, cut.above, c.tick.ensures, many);
-      light = λ known.
-          let few = where_known c.args.resolved.uniform _ c.then_some-level.result c.then_some-level.ensures line.ensures.light known in
-          omega (arith, same_start, same_end, l.invariant.light known, cut.above, c.tick.ensures, few);
+      if_uniform = λ known.
+          let few = where_known c.args.resolved.uniform _ c.then_some-level.result c.then_some-level.ensures line.ensures.if_uniform known in
+          omega (arith, same_start, same_end, l.invariant.if_uniform known, cut.above, c.tick.ensures, few);
     }
 
 pub returns-clause-bounds : goal.returns-clause-bounds
@@ -145,16 +145,16 @@ pub returns-clause-lines : goal.returns-clause-lines
 returns-clause-lines g c = λ breaks ends.
     let l = c.loop-line in
     let room = c.args.columns.now in
-    let held = c.deref_mut-bounds.result.now in
+    let stored = c.deref_mut-bounds.result.now in
     let own = classes_of c.args.own.now in
     let levels = c.args.levels.now in
     let all : l.line ≡ c.args.resolved.lines = omega (arith, l.auto.line-end) in
     let len : length own ≡ length c.args.own.now = length-map c.args.own.now (λ u. u.class) in
     let were = subst (AreAllLineEnds c.args.own.now breaks c.args.resolved.lines) (sym c.deref_mut-bounds.ensures.value) ends in
-    let done : (bound_at held l.line).position ≡ length levels = ap (λ n. (bound_at held n).position) all ∙ were.last ∙ sym c.requires.levels in
-    let f : Filling levels (begins_line own breaks) (bound_at held l.line).position (take l.positions l.orders) (take (c.args.resolved.lines + 1) l.bounds) =
-    subst (λ n. Filling levels (begins_line own breaks) (bound_at held l.line).position (take l.positions l.orders) (take (n + 1) l.bounds)) all (l.invariant.filling breaks were) in
+    let done : (bound_at stored l.line).position ≡ length levels = ap (λ n. (bound_at stored n).position) all ∙ were.last ∙ sym c.requires.levels in
+    let f : Filling levels (begins_line own breaks) (bound_at stored l.line).position (take l.positions l.orders) (take (c.args.resolved.lines + 1) l.bounds) =
+    subst (λ n. Filling levels (begins_line own breaks) (bound_at stored l.line).position (take l.positions l.orders) (take (n + 1) l.bounds)) all (l.invariant.filling breaks were) in
     let as_orders : length l.orders ≡ room.orders.items.len = search rules in
     let as_bounds : length l.bounds ≡ room.bounds.items.len = search rules in
     rw (with_items_is room.orders.items l.orders as_orders, with_items_is room.bounds.items l.bounds as_bounds)
-    (filling_end levels own breaks (bound_at held l.line).position (take l.positions l.orders) (take (c.args.resolved.lines + 1) l.bounds) (len ∙ sym c.requires.levels) done f)
+    (filling_end levels own breaks (bound_at stored l.line).position (take l.positions l.orders) (take (c.args.resolved.lines + 1) l.bounds) (len ∙ sym c.requires.levels) done f)

@@ -5,7 +5,7 @@ use Rattle.std.specs.Option.{is_some}
 use mir.Val.{bool_byte}
 use Rattle.lines.specs.LinePositions.{is_remaining, remaining}
 use Rattle.lines.proofs.BoolBytes.{bool_byte-at_most_one}
-use Rattle.lines.proofs.Remaining.{kept, remaining-before, remaining-none}
+use Rattle.lines.proofs.Remaining.{unchanged, remaining-before, remaining-none}
 use Rattle.lines.proofs.order.write_falling.Goals as goal
 
 pub loop-position-init : goal.loop-position-init
@@ -31,7 +31,7 @@ loop-position-preserved g c =
     let step : l.count + c.from-count.result ≡ l.count + bool_byte c.is_some.result = ap (λ n. l.count + n) c.from-count.ensures in
     record {
       within = omega arith;
-      order = kept l.order l.count (l.count + c.from-count.result) p c.is_some.result (omega (arith, l.auto.order, l.invariant.count)) step
+      order = unchanged l.order l.count (l.count + c.from-count.result) p c.is_some.result (omega (arith, l.auto.order, l.invariant.count)) step
           ∙ ap (λ xs. xs ++ cond c.is_some.result (p ∷ []) []) (l.invariant.order ∙ ap (λ n. reverse (remaining levels n c.args.span.end)) (sym there))
           ∙ ap (λ b. reverse (remaining levels (p + 1) c.args.span.end) ++ cond b (p ∷ []) []) test
           ∙ sym (remaining-before levels p c.args.span.end (omega arith));

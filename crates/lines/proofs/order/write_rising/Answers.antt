@@ -5,7 +5,7 @@ use Rattle.std.specs.Option.{is_some}
 use mir.Val.{bool_byte}
 use Rattle.lines.specs.LinePositions.{is_remaining, remaining}
 use Rattle.lines.proofs.BoolBytes.{bool_byte-at_most_one}
-use Rattle.lines.proofs.Remaining.{kept, remaining-next}
+use Rattle.lines.proofs.Remaining.{unchanged, remaining-next}
 use Rattle.lines.proofs.order.write_rising.Goals as goal
 
 pub loop-position-preserved : goal.loop-position-preserved
@@ -19,7 +19,7 @@ loop-position-preserved g c =
     let one = bool_byte-at_most_one c.is_some.result in
     let step : l.count + c.from-count.result ≡ l.count + bool_byte c.is_some.result = ap (λ n. l.count + n) c.from-count.ensures in
     record {
-      order = kept l.order l.count (l.count + c.from-count.result) l.position c.is_some.result (omega (arith, l.auto.order, l.invariant.count)) step
+      order = unchanged l.order l.count (l.count + c.from-count.result) l.position c.is_some.result (omega (arith, l.auto.order, l.invariant.count)) step
           ∙ ap (λ xs. xs ++ cond c.is_some.result (l.position ∷ []) []) l.invariant.order
           ∙ ap (λ b. remaining levels c.args.span.start l.position ++ cond b (l.position ∷ []) []) test
           ∙ sym (remaining-next levels c.args.span.start l.position (omega arith));

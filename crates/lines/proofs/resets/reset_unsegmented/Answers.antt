@@ -3,14 +3,14 @@ use Rattle.units.specs.Classes.{classes_of}
 use Rattle.lines.specs.LineBreaks.{AreBreaks}
 use Rattle.lines.specs.LineEnds.{paragraph_start}
 use Rattle.lines.proofs.Begun.{begun, begun_all, begun_none, begun_over, begun_step}
-use Rattle.lines.proofs.ResetSteps.{counted_back, counted_here, last_before, paragraph_here, passed_one, passed_to, resets_one, walk_end, walk_start}
+use Rattle.lines.proofs.ResetSteps.{counted_back, counted_here, last_before, paragraph_here, passed_one, passed_to, resets_one, pass_end, pass_start}
 use Rattle.lines.proofs.Unsegmented.{counted_within, free_before}
 use Rattle.lines.proofs.resets.reset_unsegmented.Goals as goal
 
 pub loop-position-init : goal.loop-position-init
 loop-position-init g c = record {
   within = omega arith;
-  text = walk_start c.args.own.now c.args.paras.now c.count_separators-paragraph.result c.requires.levels (subst (AreBreaks c.positions-at.result.now) c.requires.len c.positions-at.ensures.breaks) c.count_separators-paragraph.ensures;
+  text = pass_start c.args.own.now c.args.paras.now c.count_separators-paragraph.result c.requires.levels (subst (AreBreaks c.positions-at.result.now) c.requires.len c.positions-at.ensures.breaks) c.count_separators-paragraph.ensures;
   at_least = omega (arith, begun_all c.args.own.now c.args.para_ends.now c.requires.ends, ap (begun (classes_of c.args.own.now)) c.requires.levels);
   at_most = omega arith;
 }
@@ -84,7 +84,7 @@ loop-position-preserved g c =
     }
 
 pub returns-clause-levels : goal.returns-clause-levels
-returns-clause-levels g c = walk_end c.args.own.now c.args.paras.now c.loop-position.invariant.text c.args.breaks.now.positions (omega arith) c.positions-at.ensures.positions
+returns-clause-levels g c = pass_end c.args.own.now c.args.paras.now c.loop-position.invariant.text c.args.breaks.now.positions (omega arith) c.positions-at.ensures.positions
 
 pub returns-clause-at_least : goal.returns-clause-at_least
 returns-clause-at_least g c =

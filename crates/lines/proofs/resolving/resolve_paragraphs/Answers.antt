@@ -9,10 +9,10 @@ use Rattle.units.specs.declared.bracket.Unit.{Unit as BidiUnit}
 use Rattle.units.specs.Paragraphs.{paragraphs_of, SeparatorOnlyLast}
 use Rattle.units.specs.declared.level.Direction.{Direction}
 use Rattle.explicit.specs.FirstParagraph.{first_length}
-use Rattle.explicit.proofs.LevelsFound.OneCutting.{paragraphs_of_split}
+use Rattle.explicit.proofs.LevelsComputed.OneCutting.{paragraphs_of_split}
 use Rattle.units.specs.Classes.{classes_of}
 use Rattle.paragraph.specs.Contents.{keeps_level}
-use Rattle.lines.specs.Kept.{each_keeps_level, keeps_own_level}
+use Rattle.lines.specs.Unchanged.{each_keeps_level, keeps_own_level}
 use Rattle.units.specs.declared.class.Class.TheVariants.{S}
 use Rattle.paragraph.specs.ClassSets.{is_class}
 use Rattle.lines.specs.Spaces.{has_segments}
@@ -21,7 +21,7 @@ use Rattle.lines.specs.LineBreaks.{AreBreaks}
 use Rattle.lines.specs.LineEnds.{AreLineEnds, AreParagraphEnds, BreaksArePassed}
 use Rattle.lines.proofs.LineEnds.{ends_none}
 use Rattle.lines.proofs.NextLine.{passed_none}
-use Rattle.lines.proofs.ParagraphFound.{paragraph_ends_more, paragraph_ends_none}
+use Rattle.lines.proofs.ParagraphSearch.{paragraph_ends_more, paragraph_ends_none}
 use Rattle.lines.proofs.ParagraphLines.{paragraph_from}
 use Rattle.lines.proofs.TextLevels.{IsWritten, written_none, separator_last, written_to, written_paras, written_levels}
 use Rattle.lines.proofs.resolving.resolve_paragraphs.Goals as goal
@@ -52,7 +52,7 @@ loop-start-init g c = record {
   resolver = search rules;
   at_least = omega (arith, c.start_cut-cut.ensures.lines);
   at_most = omega arith;
-  light = λ known. omega arith;
+  if_uniform = λ known. omega arith;
 }
 
 -- the first paragraph, as a slice of the text
@@ -120,9 +120,9 @@ loop-start-preserved g c =
       resolver = search rules;
       at_least = omega (arith, long);
       at_most = omega (arith, long);
-      light = λ both.
+      if_uniform = λ both.
           let parts = and_parts l.uniform known.result.uniform both in
-          omega (arith, long, some, l.invariant.light parts.0, known.ensures.light parts.1);
+          omega (arith, long, some, l.invariant.if_uniform parts.0, known.ensures.if_uniform parts.1);
     }
 
 -- at the end of the text no paragraph remains

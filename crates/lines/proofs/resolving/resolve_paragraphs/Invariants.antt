@@ -3,10 +3,10 @@ use Rattle.std.specs.Prelude.{◌&&◌}
 use Rattle.std.specs.List.{list_all}
 use Rattle.units.specs.Classes.{classes_of}
 use Rattle.units.specs.Paragraphs.{paragraphs_of}
-use Rattle.lines.specs.Kept.{each_keeps_level, keeps_own_level}
+use Rattle.lines.specs.Unchanged.{each_keeps_level, keeps_own_level}
 use Rattle.lines.specs.LineEnds.{AreLineEnds, AreParagraphEnds, BreaksArePassed}
 use Rattle.lines.specs.Spaces.{has_segments}
-use Rattle.lines.specs.StepBounds.{light_text_steps, text_steps}
+use Rattle.lines.specs.StepBounds.{uniform_text_steps, text_steps}
 use Rattle.lines.proofs.TextLevels.{IsWritten}
 use Rattle.lines.proofs.resolving.resolve_paragraphs.Given as goal
 
@@ -25,7 +25,7 @@ invariant-loop-start g l = record {
   resolver : l.resolver ≡ l.initial.resolver;
   at_least : l.initial.steps + 2 * l.start + l.paragraphs + l.cut.lines ≤ l.steps;
   at_most : l.steps ≤ l.initial.steps + text_steps * l.start;
-  light : l.uniform ≡ true → l.steps ≤ l.initial.steps + light_text_steps * l.start;
+  if_uniform : l.uniform ≡ true → l.steps ≤ l.initial.steps + uniform_text_steps * l.start;
 }
 
 abbrev pub decreases-loop-start : goal.decreases-loop-start

@@ -1,7 +1,7 @@
 use Rattle.std.proofs.Common.{arith, ap, refl, sym, ◌+◌, ◌∙◌, ℕ}
 use Rattle.units.specs.Layout.{no_unit}
 use Rattle.paragraph.specs.FirstSides.{side_by}
-use Rattle.paragraph.proofs.Scan.{ends_here, front_more, set_more, still_found}
+use Rattle.paragraph.proofs.Scan.{ends_here, front_more, set_more, first_strong_stays}
 use Rattle.paragraph.proofs.contents.scan_near.Goals as goal
 
 pub loop-position-preserved : goal.loop-position-preserved
@@ -9,7 +9,7 @@ loop-position-preserved g c =
     record {
       later = omega (arith, c.loop-position.invariant.later);
       front = front_more c.loop-position.invariant.front c.loop-position-test.true (sym c.is_separator.ensures ∙ c.if-is_separator.false) (c.with-classes.ensures _ c.loop-position.invariant.front.set);
-      strong = still_found c.args.text.now c.loop-position.position no_unit c.loop-position-test.true c.args.strong c.loop-position.invariant.strong;
+      strong = first_strong_stays c.args.text.now c.loop-position.position no_unit c.loop-position-test.true c.args.strong c.loop-position.invariant.strong;
       steps = omega arith;
     }
 
@@ -20,6 +20,6 @@ returns-then-is_separator-clause-first g c =
       length = ends_here c.args.text.now p no_unit c.loop-position-test.true (sym c.is_separator.ensures ∙ c.if-is_separator.true) c.loop-position.invariant.front.goes_on;
       contents = record {
         classes = set_more c.with-classes.result c.args.text.now p (p + 1) refl c.loop-position-test.true (c.with-classes.ensures _ c.loop-position.invariant.front.set);
-        side = c.noting-side.ensures ∙ sym (ap side_by (still_found c.args.text.now p no_unit c.loop-position-test.true c.args.strong c.loop-position.invariant.strong));
+        side = c.noting-side.ensures ∙ sym (ap side_by (first_strong_stays c.args.text.now p no_unit c.loop-position-test.true c.args.strong c.loop-position.invariant.strong));
       };
     }

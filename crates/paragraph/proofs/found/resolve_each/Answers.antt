@@ -1,7 +1,7 @@
 use Rattle.std.proofs.Common.{arith, rules}
 use Rattle.units.specs.Classes.{class_at, classes_of}
 use Rattle.resolve.proofs.OwnClasses.{mark-own}
-use Rattle.paragraph.proofs.Covering.{covered_none, covered_next, copied, length_next, stands_in_all}
+use Rattle.paragraph.proofs.Covering.{covered_none, covered_next, copied, length_next, is_in_all}
 use Rattle.paragraph.proofs.found.resolve_each.Goals as goal
 
 pub loop-k-init : goal.loop-k-init
@@ -14,14 +14,14 @@ loop-k-init g c = record {
 
 pub resolve_sequence-requires-clause-copy : goal.resolve_sequence-requires-clause-copy
 resolve_sequence-requires-clause-copy g c =
-    copied c.requires.apart c.get-sequence.ensures.value (omega arith) c.loop-k.classes c.args.para.now.before.now c.loop-k.invariant.covered.kept
+    copied c.requires.apart c.get-sequence.ensures.value (omega arith) c.loop-k.classes c.args.para.now.before.now c.loop-k.invariant.covered.unchanged
 
 pub resolve_sequence-requires-clause-own : goal.resolve_sequence-requires-clause-own
-resolve_sequence-requires-clause-own g c = λ e p h. c.requires.own p (stands_in_all c.requires.apart c.get-sequence.ensures.value (omega arith) p h)
+resolve_sequence-requires-clause-own g c = λ e p h. c.requires.own p (is_in_all c.requires.apart c.get-sequence.ensures.value (omega arith) p h)
 
 pub resolve_sequence-requires-clause-marks : goal.resolve_sequence-requires-clause-marks
 resolve_sequence-requires-clause-marks g c = λ p h.
-    mark-own (class_at c.args.para.now.before.now p) (class_at (classes_of c.args.para.now.units.now) p) (c.requires.own p (stands_in_all c.requires.apart c.get-sequence.ensures.value (omega arith) p h))
+    mark-own (class_at c.args.para.now.before.now p) (class_at (classes_of c.args.para.now.units.now) p) (c.requires.own p (is_in_all c.requires.apart c.get-sequence.ensures.value (omega arith) p h))
 
 pub loop-k-preserved : goal.loop-k-preserved
 loop-k-preserved g c = record {

@@ -1,6 +1,6 @@
 use Rattle.std.proofs.Common.{◌≡◌, ◌∙◌, ap, arith, length, refl, sym}
 use Rattle.printing.specs.Columns.{is_column_break, separates_at}
-use Rattle.printing.proofs.Breaks.{passing, passing-added, passing-kept, breaks-of-columns, start_after_separator, start_kept}
+use Rattle.printing.proofs.Breaks.{passing, passing-added, passing-unchanged, breaks-of-columns, start_after_separator, start_unchanged}
 use Rattle.printing.proofs.columns.column_breaks.Goals as goal
 use Rattle.printing.proofs.columns.column_breaks.Goals.{then-is_separator, else-is_separator, then-breaks_at+in_ok-add, else-breaks_at}
 
@@ -13,14 +13,14 @@ loop-p-preserved c =
     let breaks : c.breaks_at.result ≡ is_column_break text columns p = c.breaks_at.ensures ∙ rw c.loop-p.invariant.0 refl in (
       elim c.if-is_separator.branch [
         | then-is_separator w ↦ w.start-is ∙ start_after_separator text p (sym separates ∙ w.if-is_separator.true)
-        | else-is_separator w ↦ start_kept text p _ (sym separates ∙ w.if-is_separator.false) (w.start-is ∙ c.loop-p.invariant.0)
+        | else-is_separator w ↦ start_unchanged text p _ (sym separates ∙ w.if-is_separator.false) (w.start-is ∙ c.loop-p.invariant.0)
       ],
       elim c.if-breaks_at.branch [
         | then-breaks_at+in_ok-add w ↦
             ap (λ v. v.items) w.breaks-is ∙ w.in_ok-add.ensures
             ∙ passing-added (is_column_break text columns) p _ (sym breaks ∙ w.if-breaks_at.true) c.loop-p.invariant.1
         | else-breaks_at w ↦
-            passing-kept (is_column_break text columns) p _ (sym breaks ∙ w.if-breaks_at.false)
+            passing-unchanged (is_column_break text columns) p _ (sym breaks ∙ w.if-breaks_at.false)
             (ap (λ v. v.items) w.breaks-is ∙ c.loop-p.invariant.1)
       ],
     )

@@ -2,13 +2,13 @@ use Rattle.std.proofs.Common.{◌≡◌, ◌+◌, ◌≤◌, ◌++◌, length, d
 use Rattle.std.specs.Fmt.{decimal}
 use Rattle.printing.proofs.decimals.put_decimal.Given as goal
 
-abbrev pub invariant-loop-left : goal.invariant-loop-left
-invariant-loop-left l = record {
-  room : length (decimal l.left) ≤ l.start;
+abbrev pub invariant-loop-remaining : goal.invariant-loop-remaining
+invariant-loop-remaining l = record {
+  room : length (decimal l.remaining) ≤ l.start;
   within : l.start ≤ length l.line;
-  start : l.start + length (decimal l.number) ≡ l.end + length (decimal l.left);
-  written : decimal l.left ++ drop l.start l.line ≡ decimal l.number ++ drop l.end l.fn.line;
+  start : l.start + length (decimal l.number) ≡ l.end + length (decimal l.remaining);
+  written : decimal l.remaining ++ drop l.start l.line ≡ decimal l.number ++ drop l.end l.fn.line;
 }
 
-abbrev pub decreases-loop-left : goal.decreases-loop-left
-decreases-loop-left l = l.left
+abbrev pub decreases-loop-remaining : goal.decreases-loop-remaining
+decreases-loop-remaining l = l.remaining

@@ -4,7 +4,7 @@ use Rattle.units.specs.Layout.{TextLayout, layout_of}
 use Rattle.units.specs.Limits.{standard}
 use Rattle.lines.specs.LineBreaks.{BreaksView}
 use Rattle.lines.proofs.Lengths.{length-levels}
-use Rattle.printing.specs.Behind.{one_paragraph_behind}
+use Rattle.printing.specs.Following.{one_paragraph_after}
 use Rattle.printing.proofs.Appending.{Appends-to}
 use Rattle.printing.proofs.HeadPrinted.{paragraph_printed}
 use Rattle.printing.proofs.paragraphs.print_levels_of.Goals as goal
@@ -22,5 +22,5 @@ returns g c =
     let some : 0 < length c.args.units.now = omega (arith, c.requires.units, c.requires.some) in
     let same = paragraph_printed c.args.passed c.args.chars.now c.args.units.now c.args.direction some c.requires.one c.requires.units in
     Appends-to _ _ _ _ same
-    (subst (λ (layout : TextLayout). Appends (g.W.Write.contents c.args.w.now) (g.W.Write.contents c.print_one_paragraph.new.w) (one_paragraph_behind c.args.passed (get_or layout.paras 0 0) c.args.chars.now c.args.units.now layout.levels))
+    (subst (λ (layout : TextLayout). Appends (g.W.Write.contents c.args.w.now) (g.W.Write.contents c.print_one_paragraph.new.w) (one_paragraph_after c.args.passed (get_or layout.paras 0 0) c.args.chars.now c.args.units.now layout.levels))
     (laid ∙ broken) c.in_ok-print_one_paragraph.ensures)

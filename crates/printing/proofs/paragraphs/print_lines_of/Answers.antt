@@ -4,7 +4,7 @@ use Rattle.units.specs.Layout.{TextLayout, layout_of}
 use Rattle.units.specs.Limits.{standard}
 use Rattle.lines.specs.LineBreaks.{AreBreaks, BreaksView}
 use Rattle.lines.proofs.Lengths.{length-levels}
-use Rattle.ucdfiles.specs.Tables.{glyph_by}
+use Rattle.ucdfiles.specs.Tables.{mirror_by}
 use Rattle.printing.specs.ReorderText.{reorder_text}
 use Rattle.printing.proofs.Breaks.{breaks_are_taken}
 use Rattle.printing.proofs.paragraphs.print_lines_of.Goals as goal
@@ -25,4 +25,4 @@ returns g c =
     let made = rw c.unwrap-breaks.ensures at c.new.ensures in
     let broken = ap (λ (breaks : BreaksView). layout_of standard c.args.units.now c.args.direction breaks.positions) made.0 in
     let at = ap (λ positions. layout_of standard c.args.units.now c.args.direction positions) (c.deref.ensures.value ∙ c.in_ok-positions.ensures.breaks) in
-    subst (λ (layout : TextLayout). Appends (g.W.Write.contents c.args.w.now) (g.W.Write.contents c.print_lines.new.w) (reorder_text (glyph_by c.args.mirrors.now) c.args.chars.now c.args.units.now layout)) (laid ∙ broken ∙ at) c.in_ok-print_lines.ensures
+    subst (λ (layout : TextLayout). Appends (g.W.Write.contents c.args.w.now) (g.W.Write.contents c.print_lines.new.w) (reorder_text (mirror_by c.args.mirrors.now) c.args.chars.now c.args.units.now layout)) (laid ∙ broken ∙ at) c.in_ok-print_lines.ensures

@@ -9,8 +9,8 @@ invariant-loop-n g l = record {
   long : 4 < length l.buffer;
   within : l.filled ≤ length l.buffer;
   line : l.place.line ≤ l.place.offset + 1;
-  bound : l.place.offset + l.filled + g.S.ByteSource.most_left l.source ≤ longest_text;
+  bound : l.place.offset + l.filled + g.S.ByteSource.most_remaining l.source ≤ longest_text;
 }
 
 abbrev pub decreases-loop-n : goal.decreases-loop-n
-decreases-loop-n g l = g.S.ByteSource.most_left l.source
+decreases-loop-n g l = g.S.ByteSource.most_remaining l.source

@@ -2,8 +2,8 @@ use Rattle.std.proofs.Common.{rules, [], ◌≡◌, ℕ, ◌+◌, ◌-◌, ◌�
 use Rattle.std.proofs.lemmas.List.{length-take}
 use borrow.Rule.Slice.PartMut.{put_mid}
 use Rattle.units.specs.Layout.{longest_text}
-use Rattle.printing.specs.UnderWay.{handed_in}
-use Rattle.printing.proofs.HeldLemmas.{filled_is}
+use Rattle.printing.specs.UnderWay.{chars_so_far}
+use Rattle.printing.proofs.ReadBytesLemmas.{filled_is}
 use Rattle.printing.proofs.ReadSources.{HasRead, cut_of, ended_read, last_ends, more_fits, nothing_read, read_more, stop_ends, whole_read}
 use Rattle.printing.proofs.ReadingOn.{cut_broken, cut_whole, up_to}
 use Rattle.printing.proofs.TextPlaces.{passed_is}
@@ -14,7 +14,7 @@ pub loop-n-init : goal.loop-n-init
 loop-n-init g c =
     let begun = c.requires in
     record {
-      read = subst (HasRead g.S.ByteSource.gives g.S.ByteSource.most_left c.args.form c.args.tables.now c.args.direction c.args.source.now c.args.source.now
+      read = subst (HasRead g.S.ByteSource.gives g.S.ByteSource.most_remaining c.args.form c.args.tables.now c.args.direction c.args.source.now c.args.source.now
           (g.W.Write.contents c.args.w.now) (g.W.Write.contents c.args.w.now) c.args.begun.now c.args.begun.now []) (sym c.start-place.ensures) (nothing_read _ _ _ _ _ _ _ _ (g.met.S.ByteSource.gives_nothing _) begun.bound begun.begun begun.empty begun.first);
       few = omega arith;
       long = refl;
@@ -36,11 +36,11 @@ take_front-requires-clause-small g c =
     let l = c.loop-n in
     let buf = c.read.new.buf in
     let n = c.in-Ok.n in
-    let filled = filled_is l.buffer buf l.held n (4096 - l.held) (omega (arith, l.invariant.few, l.invariant.long)) c.in-Ok.ensures.bound in
-    let falls : g.S.ByteSource.most_left c.read.new.self + length (take n buf) ≤ g.S.ByteSource.most_left l.source =
-    omega (arith, c.in-Ok.ensures.most_left, length-take n buf) in
-    subst (λ (bs : List ℕ). handed_in l.begun + length bs ≤ longest_text) (sym filled)
-    (more_fits _ _ _ _ _ _ _ _ l.source c.read.new.self (g.W.Write.contents l.w) (g.W.Write.contents l.w) l.begun l.begun (take l.held l.buffer) (take n buf) l.place l.invariant.read falls)
+    let filled = filled_is l.buffer buf l.stored n (4096 - l.stored) (omega (arith, l.invariant.few, l.invariant.long)) c.in-Ok.ensures.bound in
+    let falls : g.S.ByteSource.most_remaining c.read.new.self + length (take n buf) ≤ g.S.ByteSource.most_remaining l.source =
+    omega (arith, c.in-Ok.ensures.most_remaining, length-take n buf) in
+    subst (λ (bs : List ℕ). chars_so_far l.begun + length bs ≤ longest_text) (sym filled)
+    (more_fits _ _ _ _ _ _ _ _ l.source c.read.new.self (g.W.Write.contents l.w) (g.W.Write.contents l.w) l.begun l.begun (take l.stored l.buffer) (take n buf) l.place l.invariant.read falls)
 
 pub returns-in-Err-take_front-clause-fault : goal.returns-in-Err-take_front-clause-fault
 returns-in-Err-take_front-clause-fault g c =
@@ -50,13 +50,13 @@ returns-in-Err-take_front-clause-fault g c =
     let buf = c.read.new.buf in
     let n = c.in-Ok.n in
     let joined = g.met.S.ByteSource.gives_joined in
-    let filled = filled_is l.buffer buf l.held n (4096 - l.held) (omega (arith, l.invariant.few, l.invariant.long)) c.in-Ok.ensures.bound in
+    let filled = filled_is l.buffer buf l.stored n (4096 - l.stored) (omega (arith, l.invariant.few, l.invariant.long)) c.in-Ok.ensures.bound in
     let given = joined _ _ _ _ _ read.given c.in-Ok.ensures.given in
     let cut = cut_of _ _ _ _ _ _ _ _ _ _ _ _ _ read begun.empty begun.first in
     stop_ends _ _ _ _ _ _ _ g.S.ByteSource.gives _ c.read.new.self _ _ given c.in-Err-take_front.stop c.end_unwritten.result
     c.end_unwritten.ensures.unread c.end_unwritten.ensures.memory
     (λ is. c.end_unwritten.ensures.write is c.args.source.now
-    (up_to g.S.ByteSource.gives joined c.args.source.now l.source c.read.new.self l.place (take l.held l.buffer) (take n buf) _ cut c.in-Ok.ensures.given filled))
+    (up_to g.S.ByteSource.gives joined c.args.source.now l.source c.read.new.self l.place (take l.stored l.buffer) (take n buf) _ cut c.in-Ok.ensures.given filled))
 
 pub loop-n-preserved : goal.loop-n-preserved
 loop-n-preserved g c =
@@ -64,19 +64,19 @@ loop-n-preserved g c =
     let buf = c.read.new.buf in
     let n = c.in-Ok.n in
     let taken = c.in-Ok-take_front.ensures in
-    let filled = filled_is l.buffer buf l.held n (4096 - l.held) (omega (arith, l.invariant.few, l.invariant.long)) c.in-Ok.ensures.bound in
-    let falls : g.S.ByteSource.most_left c.read.new.self + length (take n buf) ≤ g.S.ByteSource.most_left l.source =
-    omega (arith, c.in-Ok.ensures.most_left, length-take n buf) in
+    let filled = filled_is l.buffer buf l.stored n (4096 - l.stored) (omega (arith, l.invariant.few, l.invariant.long)) c.in-Ok.ensures.bound in
+    let falls : g.S.ByteSource.most_remaining c.read.new.self + length (take n buf) ≤ g.S.ByteSource.most_remaining l.source =
+    omega (arith, c.in-Ok.ensures.most_remaining, length-take n buf) in
     let given = g.met.S.ByteSource.gives_joined _ _ _ _ _ l.invariant.read.given c.in-Ok.ensures.given in
-    let long : length c.hold-held.new.buffer ≡ 4096 = search rules in
-    let whole = put_mid l.held (4096 - l.held) l.buffer buf in
-    let within : l.held + n ≤ length whole =
+    let long : length c.hold-stored.new.buffer ≡ 4096 = search rules in
+    let whole = put_mid l.stored (4096 - l.stored) l.buffer buf in
+    let within : l.stored + n ≤ length whole =
     omega (
       arith,
       ap length filled,
-      length-take (l.held + n) whole,
-      length-append (take l.held l.buffer) (take n buf),
-      length-take l.held l.buffer,
+      length-take (l.stored + n) whole,
+      length-append (take l.stored l.buffer) (take n buf),
+      length-take l.stored l.buffer,
       length-take n buf,
       c.in-Ok.ensures.bound,
       l.invariant.few,
@@ -84,28 +84,28 @@ loop-n-preserved g c =
     ) in
     record {
       read =
-          read_more _ _ _ _ _ _ _ _ l.source c.read.new.self (g.W.Write.contents l.w) _ l.begun _ (take l.held l.buffer) (take n buf) l.place l.invariant.read falls
-          _ _ _ filled taken.taken c.hold-held.ensures.held given taken.begun taken.handed taken.printed _
-          (passed_is l.place c.after-place.result whole (l.held + n) _ within taken.taken c.after-place.ensures.line c.after-place.ensures.offset);
-      few = c.hold-held.ensures.few;
+          read_more _ _ _ _ _ _ _ _ l.source c.read.new.self (g.W.Write.contents l.w) _ l.begun _ (take l.stored l.buffer) (take n buf) l.place l.invariant.read falls
+          _ _ _ filled taken.taken c.hold-stored.ensures.stored given taken.begun taken.passed_in taken.printed _
+          (passed_is l.place c.after-place.result whole (l.stored + n) _ within taken.taken c.after-place.ensures.line c.after-place.ensures.offset);
+      few = c.hold-stored.ensures.few;
       long = long;
     }
 
-pub returns-then-held-gt0-clause-fault : goal.returns-then-held-gt0-clause-fault
-returns-then-held-gt0-clause-fault g c =
+pub returns-then-stored-gt0-clause-fault : goal.returns-then-stored-gt0-clause-fault
+returns-then-stored-gt0-clause-fault g c =
     let l = c.loop-n in
     let read = l.invariant.read in
     let begun = c.requires in
     let none : read.bytes ++ take c.in-Ok-eq0.field-0 c.read.new.buf ≡ read.bytes =
     ap (λ k. read.bytes ++ take k c.read.new.buf) c.in-Ok-eq0.field-0-test ∙ append-nil read.bytes in
     let ended : g.S.ByteSource.ended c.read.new.self = search rules in
-    let some = c.if-held-gt0.true in (
+    let some = c.if-stored-gt0.true in (
       read.bytes,
       subst (λ xs. g.S.ByteSource.gives c.args.source.now xs c.read.new.self) none
           (g.met.S.ByteSource.gives_joined _ _ _ _ _ read.given c.in-Ok-eq0.ensures.given),
       (
         ended,
-        cut_broken read.bytes read.front (take l.held l.buffer) l.place read.cut read.place_is (omega (arith, some, l.invariant.few, l.invariant.long, length-take l.held l.buffer)),
+        cut_broken read.bytes read.front (take l.stored l.buffer) l.place read.cut read.place_is (omega (arith, some, l.invariant.few, l.invariant.long, length-take l.stored l.buffer)),
         ended_read _ _ _ _ _ _ _ _ _ _ _ _ _ read begun.empty begun.first,
       ),
     )
@@ -113,7 +113,7 @@ returns-then-held-gt0-clause-fault g c =
 pub print_last-requires-clause-small : goal.print_last-requires-clause-small
 print_last-requires-clause-small g c =
     let read = c.loop-n.invariant.read in
-    omega (arith, read.handed, read.bound, chars_le read.front read.cut.utf8, ap length read.cut.joined, length-append read.front read.cut.left)
+    omega (arith, read.passed_in, read.bound, chars_le read.front read.cut.utf8, ap length read.cut.joined, length-append read.front read.cut.remaining)
 
 pub returns-in_err-print_last-clause-fault : goal.returns-in_err-print_last-clause-fault
 returns-in_err-print_last-clause-fault g c =
@@ -124,7 +124,7 @@ returns-in_err-print_last-clause-fault g c =
     let given = subst (λ xs. g.S.ByteSource.gives c.args.source.now xs c.read.new.self) none
     (g.met.S.ByteSource.gives_joined _ _ _ _ _ read.given c.in-Ok-eq0.ensures.given) in
     let ended : g.S.ByteSource.ended c.read.new.self = search rules in
-    let utf8 = cut_whole read.bytes read.front (take l.held l.buffer) read.cut (omega (arith, c.if-held-gt0.false, length-take l.held l.buffer)) in
+    let utf8 = cut_whole read.bytes read.front (take l.stored l.buffer) read.cut (omega (arith, c.if-stored-gt0.false, length-take l.stored l.buffer)) in
     last_ends _ _ _ _ _ _ _ (λ xs. g.S.ByteSource.gives c.args.source.now xs c.read.new.self) _ given ended utf8 _ _ c.from_residual.ensures.1
 
 pub returns-clause-printed : goal.returns-clause-printed
@@ -134,9 +134,9 @@ returns-clause-printed g c =
     let begun = c.requires in
     let none : read.bytes ++ take c.in-Ok-eq0.field-0 c.read.new.buf ≡ read.bytes =
     ap (λ k. read.bytes ++ take k c.read.new.buf) c.in-Ok-eq0.field-0-test ∙ append-nil read.bytes in
-    let all = c.if-held-gt0.false in (
+    let all = c.if-stored-gt0.false in (
       read.bytes,
       subst (λ xs. g.S.ByteSource.gives c.args.source.now xs c.read.new.self) none
           (g.met.S.ByteSource.gives_joined _ _ _ _ _ read.given c.in-Ok-eq0.ensures.given),
-      whole_read _ _ _ _ _ _ _ _ _ _ _ _ _ read begun.empty begun.first (omega (arith, all, length-take l.held l.buffer)) _ c.in_ok-print_last.ensures,
+      whole_read _ _ _ _ _ _ _ _ _ _ _ _ _ read begun.empty begun.first (omega (arith, all, length-take l.stored l.buffer)) _ c.in_ok-print_last.ensures,
     )

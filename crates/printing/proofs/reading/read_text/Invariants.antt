@@ -4,11 +4,11 @@ use Rattle.printing.proofs.reading.read_text.Given as goal
 
 abbrev pub invariant-loop-n : goal.invariant-loop-n
 invariant-loop-n g l = record {
-  read : HasRead g.S.ByteSource.gives g.S.ByteSource.most_left l.form l.tables l.direction l.initial.source l.source (g.W.Write.contents l.initial.w)
-      (g.W.Write.contents l.w) l.initial.begun l.begun (take l.held l.buffer) l.place;
-  few : l.held ≤ 4;
+  read : HasRead g.S.ByteSource.gives g.S.ByteSource.most_remaining l.form l.tables l.direction l.initial.source l.source (g.W.Write.contents l.initial.w)
+      (g.W.Write.contents l.w) l.initial.begun l.begun (take l.stored l.buffer) l.place;
+  few : l.stored ≤ 4;
   long : length l.buffer ≡ 4096;
 }
 
 abbrev pub decreases-loop-n : goal.decreases-loop-n
-decreases-loop-n g l = g.S.ByteSource.most_left l.source
+decreases-loop-n g l = g.S.ByteSource.most_remaining l.source

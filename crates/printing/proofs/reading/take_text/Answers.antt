@@ -9,7 +9,7 @@ use Rattle.printing.proofs.reading.take_text.Goals as goal
 pub loop-character-init : goal.loop-character-init
 loop-character-init g c = record {
   begun = c.requires.begun;
-  handed = omega arith;
+  passed_in = omega arith;
   printed = nothing_came c.args.form c.args.tables.now c.args.direction _ _;
 }
 
@@ -17,22 +17,22 @@ pub take_character-requires-clause-small : goal.take_character-requires-clause-s
 take_character-requires-clause-small g c =
     let l = c.loop-character in
     let t = YieldsList-turn (YieldsList-from_chars c.args.text.now c.utf8.text cc) l.yielded _ l.yielded_by _ _ c.in-Some.character c.in-Some.is c.next.ensures.steps in
-    omega (arith, t.0, l.invariant.handed, c.requires.small, chars_le c.args.text.now c.utf8.text)
+    omega (arith, t.0, l.invariant.passed_in, c.requires.small, chars_le c.args.text.now c.utf8.text)
 
 pub loop-character-preserved : goal.loop-character-preserved
 loop-character-preserved g c =
     let l = c.loop-character in
     record {
       begun = c.in_ok-take_character.ensures.begun;
-      handed = c.in_ok-take_character.ensures.handed ∙ ap (λ n. n + 1) l.invariant.handed ∙ omega (arith, length_push l.yielded c.in-Some.character);
+      passed_in = c.in_ok-take_character.ensures.passed_in ∙ ap (λ n. n + 1) l.invariant.passed_in ∙ omega (arith, length_push l.yielded c.in-Some.character);
       printed = more_came c.args.form c.args.tables.now c.args.direction _ _ _ _ _ _ _ _ l.invariant.printed c.in_ok-take_character.ensures.printed;
     }
 
-pub returns-clause-handed : goal.returns-clause-handed
-returns-clause-handed g c =
+pub returns-clause-passed_in : goal.returns-clause-passed_in
+returns-clause-passed_in g c =
     let l = c.loop-character in
     let t = YieldsList-end (YieldsList-from_chars c.args.text.now c.utf8.text cc) l.yielded _ l.yielded_by _ _ c.in-None.is c.next.ensures.steps in
-    omega (arith, t.1, l.invariant.handed)
+    omega (arith, t.1, l.invariant.passed_in)
 
 pub returns-clause-printed : goal.returns-clause-printed
 returns-clause-printed g c =

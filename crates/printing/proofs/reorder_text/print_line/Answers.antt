@@ -5,7 +5,7 @@ use Rattle.std.specs.Slice.Iter.{iter_rest}
 use Rattle.std.proofs.lemmas.List.{nil_from_length}
 use Rattle.units.specs.Layout.{LineLayout}
 use Rattle.lines.specs.Layouts.{view_of, no_line}
-use Rattle.lines.specs.Showing.{shown_left}
+use Rattle.lines.specs.Showing.{remaining_shown}
 use Rattle.printing.proofs.Appending.{Appends-then}
 use Rattle.printing.proofs.Showing.{nothing_shown, one_more_shown, all_shown}
 use Rattle.printing.proofs.reorder_text.print_line.Goals as goal
@@ -17,7 +17,7 @@ loop-position-init g c =
     let order : line.order ≡ c.line.result.order.now = ap (λ (l : LineLayout). l.order) c.line.ensures.line.shows in
     let rest : iter_rest (zip_first it) ≡ c.line.result.order.now =
     rw (c.into_iter-position-iterator.ensures.into_iter_gives, c.zip-position-items.ensures.first) c.iter.ensures.rest in
-    let shown : shown_left (zip_second it) ≡ shown_left c.shown.result =
+    let shown : remaining_shown (zip_second it) ≡ remaining_shown c.shown.result =
     rw (c.into_iter-position-iterator.ensures.into_iter_gives, c.zip-position-items.ensures.second) refl in
     nothing_shown _ _ _ _ _ _ _ _ (order ∙ sym rest) (shown ∙ c.shown.ensures) (rw rest c.line.ensures.places)
 
@@ -29,7 +29,7 @@ pub returns : goal.returns
 unfolding encode_utf8
 returns g c =
     let it = c.loop-position.position-iterator in
-    let none : (iter_rest (zip_first it) ≡ []) ⊎ (shown_left (zip_second it) ≡ []) =
+    let none : (iter_rest (zip_first it) ≡ []) ⊎ (remaining_shown (zip_second it) ≡ []) =
     elim c.in-None.ensures.steps [
       | inl x ↦ inl (nil_from_length _ x.1.0)
       | inr x ↦ inr x.1.0

@@ -1,6 +1,6 @@
 use Rattle.std.proofs.Common.{arith, false, ap₂, sym, ◌∙◌, ◌&&◌, not}
 use Rattle.units.specs.Positions.{same_position}
-use Rattle.report.specs.ReadClaims.{is_compared}
+use Rattle.report.specs.ReadExpected.{is_compared}
 use Rattle.report.proofs.ReadLevels.{level-passed, levels-end}
 use Rattle.report.proofs.comparing.differing_level.Goals as goal
 

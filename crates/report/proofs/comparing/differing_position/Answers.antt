@@ -1,10 +1,10 @@
 use Rattle.std.proofs.Common.{arith, get_or, ◌≡◌, ◌≢◌, Some, ◌∙◌}
-use Rattle.report.specs.Comparing.{order_left}
+use Rattle.report.specs.Comparing.{remaining_order}
 use Rattle.report.proofs.LineOrders.{agrees-on, differs-on, is-next, is-no-next, line-passed, none-passed, taken-length}
 use Rattle.report.proofs.comparing.differing_position.Goals as goal
 
 pub loop-i-init : goal.loop-i-init
-loop-i-init c = record { fits = omega arith; search = λ more at. none-passed c.args.line.now (order_left c.args.claimed.now) more at }
+loop-i-init c = record { fits = omega arith; search = λ more at. none-passed c.args.line.now (remaining_order c.args.claimed.now) more at }
 
 pub returns-then-ne : goal.returns-then-ne
 returns-then-ne c =

@@ -1,9 +1,9 @@
 use Rattle.std.proofs.Common.{rules, ◌≡◌, ◌++◌, [], take, ap, ◌∙◌, append-nil}
-use Rattle.report.proofs.Printing.{nothing-told, nothing-written, settled-written, piece-ends, told-more, written-more}
+use Rattle.report.proofs.Printing.{nothing-reported, nothing-written, decided-written, piece-ends, reported-more, written-more}
 use Rattle.report.proofs.print.print_source.Goals as goal
 
 pub loop-n-init : goal.loop-n-init
-loop-n-init g c = ([], [], g.met.S.ByteSource.gives_nothing _, nothing-told _, nothing-written _ _)
+loop-n-init g c = ([], [], g.met.S.ByteSource.gives_nothing _, nothing-reported _, nothing-written _ _)
 
 pub returns-in-Err-clause-fault : goal.returns-in-Err-clause-fault
 returns-in-Err-clause-fault g c =
@@ -11,11 +11,11 @@ returns-in-Err-clause-fault g c =
     let failed : g.S.ByteSource.failures c.read.new.self ≡ 1 = search rules in (
       inv.0 ++ [],
       g.met.S.ByteSource.gives_joined _ _ _ _ _ inv.2 c.in-Err.ensures.none_given,
-      (failed, settled-written _ _ _ _ _ _ _ _ _ (append-nil inv.0) inv.3 inv.4),
+      (failed, decided-written _ _ _ _ _ _ _ _ _ (append-nil inv.0) inv.3 inv.4),
     )
 
-pub returns-in-Ok-eq0-clause-told : goal.returns-in-Ok-eq0-clause-told
-returns-in-Ok-eq0-clause-told g c =
+pub returns-in-Ok-eq0-clause-reported : goal.returns-in-Ok-eq0-clause-reported
+returns-in-Ok-eq0-clause-reported g c =
     let inv = c.loop-n.invariant in
     let buf = c.read.new.buf in
     let n = c.in-Ok-eq0.field-0 in
@@ -36,10 +36,10 @@ returns-in-Err-print_piece-clause-fault g c =
 pub loop-n-preserved : goal.loop-n-preserved
 loop-n-preserved g c =
     let inv = c.loop-n.invariant in
-    let told = c.in-Ok-print_piece.ensures in (
+    let reported = c.in-Ok-print_piece.ensures in (
       inv.0 ++ take c.in-Ok.n c.read.new.buf,
-      inv.1 ++ told.0,
+      inv.1 ++ reported.0,
       g.met.S.ByteSource.gives_joined _ _ _ _ _ inv.2 c.in-Ok.ensures.given,
-      told-more _ _ _ _ _ _ _ inv.3 told.1,
-      written-more _ _ _ _ _ _ _ _ inv.4 told.2,
+      reported-more _ _ _ _ _ _ _ inv.3 reported.1,
+      written-more _ _ _ _ _ _ _ _ inv.4 reported.2,
     )

@@ -1,14 +1,14 @@
 use Rattle.std.proofs.Common.{ℕ, List}
 use Rattle.report.specs.declared.wrong_case.WrongCase.{WrongCase}
-use Rattle.report.specs.PrintedReports.{HasTold, HasWrittenFirst}
+use Rattle.report.specs.PrintedReports.{HasReported, HasWrittenFirst}
 use Rattle.report.proofs.print.print_source.Given as goal
 
 abbrev pub invariant-loop-n : goal.invariant-loop-n
 invariant-loop-n g l =
-    (given : List ℕ) × (told : List WrongCase)
+    (given : List ℕ) × (reported : List WrongCase)
     × g.S.ByteSource.gives l.initial.source given l.source
-    × HasTold l.initial.report told given l.report
-    × HasWrittenFirst l.most told (g.W.Write.contents l.initial.w) (g.W.Write.contents l.w) l.left
+    × HasReported l.initial.report reported given l.report
+    × HasWrittenFirst l.most reported (g.W.Write.contents l.initial.w) (g.W.Write.contents l.w) l.remaining
 
 abbrev pub decreases-loop-n : goal.decreases-loop-n
-decreases-loop-n g l = g.S.ByteSource.most_left l.source
+decreases-loop-n g l = g.S.ByteSource.most_remaining l.source

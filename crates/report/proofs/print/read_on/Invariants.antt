@@ -5,4 +5,4 @@ abbrev pub invariant-loop : goal.invariant-loop
 invariant-loop g l = (given : List ℕ) × g.S.ByteSource.gives l.initial.source given l.source
 
 abbrev pub decreases-loop : goal.decreases-loop
-decreases-loop g l = g.S.ByteSource.most_left l.source
+decreases-loop g l = g.S.ByteSource.most_remaining l.source

@@ -10,5 +10,5 @@ returns-clause-judged g c =
       read = read.1;
       verdict = c.in_ok-verdict.verdict;
       is = read.2 standard _ [] c.in_ok-judge.ensures;
-      said = record { status_is = c.status_of.ensures; line = c.in_ok-print_verdict.ensures.line };
+      noted = record { status_is = c.status_of.ensures; line = c.in_ok-print_verdict.ensures.line };
     }

@@ -3,7 +3,7 @@ use Rattle.std.specs.Borrow.{Bor}
 use Rattle.units.specs.Limits.{standard}
 use Rattle.bidtests.specs.FileKinds.{verdict_of}
 use Rattle.bidtests.specs.declared.kind.Kind.{Kind}
-use Rattle.requests.proofs.FirstFaults.{FailsIn-behind, first_of_all, handed_on, has_rows, row_tables_done}
+use Rattle.requests.proofs.FirstFaults.{FailsIn-following, first_of_all, passed_on, has_rows, row_tables_done}
 use Rattle.requests.proofs.MadeRows.{first_fails}
 use Rattle.requests.specs.FileRows.{IsKindOfFile}
 use Rattle.requests.specs.JudgedFiles.{HasJudged, IsVerdictOn}
@@ -26,14 +26,14 @@ judged files Classes source file before after rows status is h = record {
   read = h.read;
   verdict = h.verdict;
   is = h.is ∙ ap (λ (r : Kind). verdict_of standard r h.bytes) is;
-  said = h.said;
+  noted = h.noted;
 }
 judged files Characters (Some source) file before after rows status is h = record {
   bytes = h.bytes;
   read = h.read;
   verdict = h.verdict;
   is = (is.0.now, is.1, h.is ∙ ap (λ (r : Kind). verdict_of standard r h.bytes) is.2);
-  said = h.said;
+  noted = h.noted;
 }
 judged files Characters None file before after rows status is h = absurd is
 
@@ -48,8 +48,8 @@ pub returns-in_err-status-clause-fault : goal.returns-in_err-status-clause-fault
 returns-in_err-status-clause-fault g c =
     let files = g.F.Files.facts c.args.files.now in
     let is = has_rows files c.args.kind c.args.tables _ _ c.in_ok-tables.ensures.tables c.rows_by.ensures in
-    handed_on (FailsIn (parts_of files (Judge c.args.kind c.args.tables c.args.file)) _ _) c.from_residual-in_err-status.result _ c.from_residual-in_err-status.ensures.1
-    (FailsIn-behind (row_table_parts files c.args.kind c.args.tables) (file_part files most_file_bytes c.args.file.now ∷ []) _ _ _
+    passed_on (FailsIn (parts_of files (Judge c.args.kind c.args.tables c.args.file)) _ _) c.from_residual-in_err-status.result _ c.from_residual-in_err-status.ensures.1
+    (FailsIn-following (row_table_parts files c.args.kind c.args.tables) (file_part files most_file_bytes c.args.file.now ∷ []) _ _ _
     (row_tables_done files c.args.kind c.args.tables _ is) c.in_err-status.ensures.fault)
 
 pub returns-clause-done : goal.returns-clause-done

@@ -13,11 +13,11 @@ returns-in_err-print_explained_classes-clause-fault g c =
 
 pub returns-clause-printed : goal.returns-clause-printed
 returns-clause-printed g c =
-    let said : Appends (g.W.Write.contents c.args.out.now) (g.W.Write.contents c.print_explained_classes.new.w)
+    let noted : Appends (g.W.Write.contents c.args.out.now) (g.W.Write.contents c.print_explained_classes.new.w)
     (explained_classes c.in_ok-classes.classes.items c.args.direction) = search rules in
     record {
       short = c.in_ok-classes.ensures.short;
       classes = c.in_ok-classes.classes.items;
       named = c.in_ok-classes.ensures.classes;
-      said = said;
+      noted = noted;
     }

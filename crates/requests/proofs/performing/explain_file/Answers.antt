@@ -1,7 +1,7 @@
 use Rattle.std.proofs.Common.{rules}
 use Rattle.std.specs.Io.KnownBytes.{Appends}
 use Rattle.explain.specs.Explained.{explained}
-use Rattle.requests.proofs.FirstFaults.{first_behind, first_of_all, printing_fails, source_done, whole_done}
+use Rattle.requests.proofs.FirstFaults.{first_fault_after, first_of_all, printing_fails, source_done, whole_done}
 use Rattle.requests.proofs.MadeRows.{first_fails}
 use Rattle.requests.specs.Parts.{source_parts, text_parts, whole_parts}
 use Rattle.requests.proofs.performing.explain_file.Goals as goal
@@ -18,7 +18,7 @@ unfolding whole_parts
 returns-in_err-text-clause-fault g c =
     let files = g.F.Files.facts c.args.files.now in
     first_fails (whole_parts files c.args.source c.args.file.now) _ c.from_residual-in_err-text.result _ c.from_residual-in_err-text.ensures.1
-    (first_behind (source_parts files c.args.source) (text_parts files c.args.file.now) _
+    (first_fault_after (source_parts files c.args.source) (text_parts files c.args.file.now) _
     (source_done files c.args.source _ c.in_ok-tables.ensures.tables) c.in_err-text.ensures.fault)
 
 pub returns-in_err-print_explained-clause-fault : goal.returns-in_err-print_explained-clause-fault
@@ -29,12 +29,12 @@ returns-in_err-print_explained-clause-fault g c =
 
 pub returns-clause-printed : goal.returns-clause-printed
 returns-clause-printed g c =
-    let said : Appends (g.W.Write.contents c.args.out.now) (g.W.Write.contents c.print_explained.new.w)
+    let noted : Appends (g.W.Write.contents c.args.out.now) (g.W.Write.contents c.print_explained.new.w)
     (explained c.in_ok-tables.tables c.in_ok-text.text.items c.args.direction) = search rules in
     record {
       tables = c.in_ok-tables.tables;
       stated = c.in_ok-tables.ensures.tables;
       text = c.in_ok-text.text.items;
       read = c.in_ok-text.ensures.text;
-      said = said;
+      noted = noted;
     }

@@ -1,20 +1,20 @@
 use Rattle.std.proofs.Common.{ap}
-use Rattle.requests.proofs.FirstFaults.{handed_on}
-use Rattle.requests.proofs.Refused.{leaves_all, leaves_on, leaves_open}
-use Rattle.requests.proofs.Reported.{handed_fail, steps_fail}
+use Rattle.requests.proofs.FirstFaults.{passed_on}
+use Rattle.requests.proofs.Rejected.{leaves_all, leaves_on, leaves_open}
+use Rattle.requests.proofs.Reported.{passed_fail, steps_fail}
 use Rattle.requests.specs.Outcomes.{Fails, takes_memory_first}
 use Rattle.requests.specs.declared.request.Request.TheVariants as requested
 use Rattle.requests.proofs.performing.perform.Goals as goal
 
 pub returns-in_err-print_file-in-Text-clause-fault : goal.returns-in_err-print_file-in-Text-clause-fault
 returns-in_err-print_file-in-Text-clause-fault g c =
-    rw c.in-Text.is (handed_on (Fails (g.F.Files.facts c.args.files.now) (g.W.Write.contents c.args.out.now) (g.W.Write.contents c.print_file.new.out)
+    rw c.in-Text.is (passed_on (Fails (g.F.Files.facts c.args.files.now) (g.W.Write.contents c.args.out.now) (g.W.Write.contents c.print_file.new.out)
     (requested.Text c.in-Text.tables c.in-Text.direction c.in-Text.file c.in-Text.print)) _ _ c.from_residual.ensures.1
     c.in_err-print_file-in-Text.ensures.fault)
 
 pub returns-in_err-explain_classes-in-ExplainClasses-clause-fault : goal.returns-in_err-explain_classes-in-ExplainClasses-clause-fault
 returns-in_err-explain_classes-in-ExplainClasses-clause-fault g c =
-    rw c.in-ExplainClasses.is (handed_fail (g.F.Files.facts c.args.files.now) (g.W.Write.contents c.args.out.now) (g.W.Write.contents c.explain_classes.new.out)
+    rw c.in-ExplainClasses.is (passed_fail (g.F.Files.facts c.args.files.now) (g.W.Write.contents c.args.out.now) (g.W.Write.contents c.explain_classes.new.out)
     (requested.ExplainClasses c.in-ExplainClasses.classes c.in-ExplainClasses.direction) _ _
     c.from_residual-in_err-explain_classes-in-ExplainClasses.ensures.1 c.in_err-explain_classes-in-ExplainClasses.ensures.fault)
 
@@ -25,13 +25,13 @@ returns-in-Judge-clause-fault g c =
 
 pub returns-in_err-print_rows-in-Rows-clause-fault : goal.returns-in_err-print_rows-in-Rows-clause-fault
 returns-in_err-print_rows-in-Rows-clause-fault g c =
-    rw c.in-Rows.is (handed_fail (g.F.Files.facts c.args.files.now) (g.W.Write.contents c.args.out.now) (g.W.Write.contents c.print_rows.new.out)
+    rw c.in-Rows.is (passed_fail (g.F.Files.facts c.args.files.now) (g.W.Write.contents c.args.out.now) (g.W.Write.contents c.print_rows.new.out)
     (requested.Rows c.in-Rows.asked) _ _
     c.from_residual-in_err-print_rows-in-Rows.ensures.1 c.in_err-print_rows-in-Rows.ensures.fault)
 
 pub returns-in_err-print_text_rows-in-RowsOf-clause-fault : goal.returns-in_err-print_text_rows-in-RowsOf-clause-fault
 returns-in_err-print_text_rows-in-RowsOf-clause-fault g c =
-    rw c.in-RowsOf.is (handed_fail (g.F.Files.facts c.args.files.now) (g.W.Write.contents c.args.out.now) (g.W.Write.contents c.print_text_rows.new.out)
+    rw c.in-RowsOf.is (passed_fail (g.F.Files.facts c.args.files.now) (g.W.Write.contents c.args.out.now) (g.W.Write.contents c.print_text_rows.new.out)
     (requested.RowsOf c.in-RowsOf.asked) _ _
     c.from_residual-in_err-print_text_rows-in-RowsOf.ensures.1 c.in_err-print_text_rows-in-RowsOf.ensures.fault)
 

@@ -8,6 +8,6 @@ returns g c =
     let words = unread_words c.args.unread c.args.most in
     let place = folder_words c.args.folder in
     let begun = Appends-joined _ _ _ _ _ c.in_ok-write_all.ensures.bytes c.in_ok-print_unread_words.ensures in
-    let told = Appends-joined _ _ _ _ _ begun c.in_ok-print_folder.ensures in
-    let whole = Appends-to _ _ _ _ (append_assoc (codes "bidi: reason: ") words place) told in
+    let reported = Appends-joined _ _ _ _ _ begun c.in_ok-print_folder.ensures in
+    let whole = Appends-to _ _ _ _ (append_assoc (codes "bidi: reason: ") words place) reported in
     Appends-then _ _ _ _ _ _ whole c.write_all-2.ensures.bytes

@@ -12,14 +12,14 @@ returns-in-Ok-clause-reported g c =
     let printed = c.in-Ok.ensures.printed in
     let opened = c.in_ok-source.ensures.opened in
     let leniency = c.args.options.leniency in
-    let begun = subst (λ (limits : LimitsOf). Reports (record { limits = limits; leniency = leniency }) c.args.rows c.in_ok-report.report [] []) c.standard.ensures c.in_ok-report.ensures.stands in
+    let begun = subst (λ (limits : LimitsOf). Reports (record { limits = limits; leniency = leniency }) c.args.rows c.in_ok-report.report [] []) c.standard.ensures c.in_ok-report.ensures.represents in
     let is = printed.2 (terms_by leniency) c.args.rows begun in
-    let status = c.status_of.ensures ∙ ap report_status is.answer in
+    let status = c.status_of.ensures ∙ ap report_status is.outcome in
     record {
       bytes = printed.0;
       begins = g.met.F.Files.gave _ _ _ _ _ _ opened printed.1;
       read = g.met.F.Files.gave_all _ _ _ _ _ _ opened printed.1 c.in-Ok.ensures.whole;
-      said = is.text;
+      noted = is.text;
       status_is = status;
       as_judged = λ strict_is.
           status ∙ ap (λ (l : Leniency). report_status (is_right (report_of (terms_by l) c.args.rows printed.0))) strict_is ∙ status_of_report c.args.rows printed.0;
@@ -40,12 +40,12 @@ returns-clause-fault g c =
     let given = rw c.in-Err-Read.field-0-is at c.in-Err-Read.ensures.fault in
     let opened = c.in_ok-source.ensures.opened in
     let leniency = c.args.options.leniency in
-    let begun = subst (λ (limits : LimitsOf). Reports (record { limits = limits; leniency = leniency }) c.args.rows c.in_ok-report.report [] []) c.standard.ensures c.in_ok-report.ensures.stands in
+    let begun = subst (λ (limits : LimitsOf). Reports (record { limits = limits; leniency = leniency }) c.args.rows c.in_ok-report.report [] []) c.standard.ensures c.in_ok-report.ensures.represents in
     rw c.unread-unread.ensures (inr (
       refl,
       record {
         bytes = given.0;
         failed = g.met.F.Files.gave_up _ _ _ _ _ _ opened given.1 given.2.0;
-        said = given.2.1 (terms_by leniency) c.args.rows begun;
+        noted = given.2.1 (terms_by leniency) c.args.rows begun;
       },
     ))

@@ -1,6 +1,6 @@
 use Rattle.std.proofs.Common.{[], ◌∷◌, inl, refl}
 use Rattle.requests.proofs.FirstFaults.{first_of_all, has_rows}
-use Rattle.requests.proofs.Reported.{handed_fail, rows_fail}
+use Rattle.requests.proofs.Reported.{passed_fail, rows_fail}
 use Rattle.requests.specs.Parts.{opening_part, row_table_parts}
 use Rattle.requests.specs.ReadFiles.{most_file_bytes}
 use Rattle.requests.specs.declared.request.Request.TheVariants.{Report}
@@ -9,7 +9,7 @@ use Rattle.requests.proofs.reporting.report_file.Goals as goal
 pub returns-in_err-tables-clause-fault : goal.returns-in_err-tables-clause-fault
 returns-in_err-tables-clause-fault g c =
     let files = g.F.Files.facts c.args.files.now in
-    handed_fail files _ _ (Report c.args.kind c.args.tables c.args.file c.args.options) c.from_residual.result _ c.from_residual.ensures.1
+    passed_fail files _ _ (Report c.args.kind c.args.tables c.args.file c.args.options) c.from_residual.result _ c.from_residual.ensures.1
     (inl (first_of_all (row_table_parts files c.args.kind c.args.tables) (opening_part files most_file_bytes c.args.file.now ∷ []) _ c.in_err-tables.ensures.fault, refl))
 
 pub returns-in_err-status-clause-fault : goal.returns-in_err-status-clause-fault

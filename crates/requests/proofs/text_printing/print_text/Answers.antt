@@ -28,7 +28,7 @@ returns-in-Ok-clause-printed g c =
         utf8 = printed.2.utf8;
         text_is = refl;
       };
-      said = printed.2.said;
+      noted = printed.2.noted;
     }
 
 pub returns-in-Err-Write-clause-fault : goal.returns-in-Err-Write-clause-fault
@@ -58,7 +58,7 @@ returns-in-Err-NotUtf8-clause-fault g c =
         stated = c.in_ok-tables.ensures.tables;
         bytes = given.0;
         read = (g.met.F.Files.gave_all _ _ _ _ _ _ c.in_ok-opened.ensures.opened given.1 given.2.0, given.2.1);
-        said = given.2.2;
+        noted = given.2.2;
       },
     )
 
@@ -72,6 +72,6 @@ returns-clause-fault g c =
         stated = c.in_ok-tables.ensures.tables;
         bytes = given.0;
         read = g.met.F.Files.gave_up _ _ _ _ _ _ c.in_ok-opened.ensures.opened given.1 given.2.0;
-        said = given.2.1;
+        noted = given.2.1;
       },
     ))

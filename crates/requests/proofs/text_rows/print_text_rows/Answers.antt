@@ -1,7 +1,7 @@
 use Rattle.std.proofs.Common.{inl, inr}
-use Rattle.requests.proofs.FirstFaults.{first_behind, first_of_all, lines_done, printing_fails, source_done}
+use Rattle.requests.proofs.FirstFaults.{first_fault_after, first_of_all, lines_done, printing_fails, source_done}
 use Rattle.requests.proofs.MadeRows.{first_fails}
-use Rattle.requests.proofs.Refused.{rows_leave}
+use Rattle.requests.proofs.Rejected.{rows_leave}
 use Rattle.requests.specs.Parts.{lines_parts, row_text_parts, source_parts}
 use Rattle.requests.proofs.text_rows.print_text_rows.Goals as goal
 
@@ -26,7 +26,7 @@ returns-in_err-text-clause-fault g c =
     first_fails (lines_parts files asked) _ c.from_residual-in_err-text.result _ c.from_residual-in_err-text.ensures.1
     (inr (
       (_, c.in_ok-directions.ensures.directions),
-      first_behind (source_parts files asked.tables) (row_text_parts files asked.file.now) _
+      first_fault_after (source_parts files asked.tables) (row_text_parts files asked.file.now) _
           (source_done files asked.tables _ c.in_ok-tables.ensures.tables) c.in_err-text.ensures.fault,
     ))
 

@@ -1,6 +1,6 @@
 use Rattle.std.proofs.Common.{◌≡◌, [], ◌∷◌, Some, inl, refl, rules}
 use Rattle.rows.specs.TextLines.{first_long_line}
-use Rattle.requests.proofs.FirstFaults.{first_behind, first_of_all, text_done}
+use Rattle.requests.proofs.FirstFaults.{first_fault_after, first_of_all, text_done}
 use Rattle.requests.specs.Parts.{EndsLines, lines_part, text_parts}
 use Rattle.requests.specs.declared.fault.Fault.{Fault}
 use Rattle.requests.specs.declared.fault.Fault.TheVariants.{LongLine}
@@ -20,4 +20,4 @@ returns-in-Some-clause-fault g c =
     let long : first_long_line c.in_ok-text.text.items ≡ Some c.in-Some.line = search rules in
     let fault : Fault = LongLine c.args.file c.in-Some.line in
     let ends : EndsLines files c.args.file.now fault = (refl, c.in_ok-text.text.items, read, long) in
-    first_behind (text_parts files c.args.file.now) (lines_part files c.args.file.now ∷ []) fault done (inl ends)
+    first_fault_after (text_parts files c.args.file.now) (lines_part files c.args.file.now ∷ []) fault done (inl ends)

@@ -4,7 +4,7 @@ use Rattle.resolve.proofs.runs.give_direction.Goals as goal
 
 pub loop-k-init : goal.loop-k-init
 loop-k-init g c = record {
-  leaning = all_of_none c.requires.start;
+  neutral_or = all_of_none c.requires.start;
   classes = along_none c.args.positions.now c.args.start c.args.direction c.args.classes.now;
   levels = along_none c.args.positions.now c.args.start (Some c.args.resolved) c.args.levels.now;
   steps = omega arith;
@@ -14,8 +14,8 @@ pub loop-k-preserved : goal.loop-k-preserved
 loop-k-preserved g c =
     let l = c.loop-k in
     record {
-      leaning = all_more_written _ c.requires.positions l.invariant.classes l.invariant.leaning (omega arith) (sym (c.leaning-leaning.ensures _) ∙ sym c.holds.ensures ∙ c.if-holds.true);
-      classes = along_next _ _ _ l.invariant.leaning.from_start l.invariant.classes;
-      levels = along_next _ _ _ l.invariant.leaning.from_start l.invariant.levels;
+      neutral_or = all_more_written _ c.requires.positions l.invariant.classes l.invariant.neutral_or (omega arith) (sym (c.neutral_or-neutral_or.ensures _) ∙ sym c.holds.ensures ∙ c.if-holds.true);
+      classes = along_next _ _ _ l.invariant.neutral_or.from_start l.invariant.classes;
+      levels = along_next _ _ _ l.invariant.neutral_or.from_start l.invariant.levels;
       steps = omega (arith, c.tick.ensures, l.invariant.steps);
     }

@@ -1,10 +1,10 @@
 use Rattle.std.proofs.Common.{◌≡◌, ◌+◌, ◌-◌, Some, length}
-use Rattle.resolve.specs.Repeats.{with_along, AreLeaning}
+use Rattle.resolve.specs.Repeats.{with_along, AreNeutralOr}
 use Rattle.resolve.proofs.runs.give_direction.Given as goal
 
 abbrev pub invariant-loop-k : goal.invariant-loop-k
 invariant-loop-k g l = record {
-  leaning : AreLeaning l.direction l.positions l.start l.k l.initial.classes;
+  neutral_or : AreNeutralOr l.direction l.positions l.start l.k l.initial.classes;
   classes : l.classes ≡ with_along l.positions l.start (l.k - l.start) l.direction l.initial.classes;
   levels : l.levels ≡ with_along l.positions l.start (l.k - l.start) (Some l.resolved) l.initial.levels;
   steps : l.steps + l.start ≡ l.initial.steps + l.k;

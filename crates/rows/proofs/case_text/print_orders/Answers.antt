@@ -6,7 +6,7 @@ use Rattle.units.specs.Layout.{LineLayout}
 use Rattle.lines.specs.Layouts.{view_of, no_line}
 use Rattle.printing.proofs.Appending.{Appends-to}
 use Rattle.printing.proofs.Passing.{nothing_passed, one_more_passed, all_passed}
-use Rattle.rows.specs.RowTexts.{behind_blanks}
+use Rattle.rows.specs.RowTexts.{after_blanks}
 use Rattle.rows.proofs.JoinedTexts.{flat_map-twice}
 use Rattle.rows.proofs.case_text.print_orders.Goals as goal
 
@@ -16,7 +16,7 @@ loop-k-init g c = nothing_passed _ _ _
 pub loop-k-preserved : goal.loop-k-preserved
 loop-k-preserved g c =
     let lines = (view_of c.args.layout.now).lines in
-    let order = ap (λ (l : LineLayout). behind_blanks decimal l.order) c.line.ensures.line.shows in
+    let order = ap (λ (l : LineLayout). after_blanks decimal l.order) c.line.ensures.line.shows in
     one_more_passed _ _ _ _ _ _ _ _ (drop_more lines c.loop-k.k no_line (omega arith)) c.loop-k.invariant (Appends-to _ _ _ _ (sym order) c.in_ok-print_positions.ensures)
 
 pub returns : goal.returns

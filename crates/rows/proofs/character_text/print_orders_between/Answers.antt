@@ -5,7 +5,7 @@ use Rattle.std.proofs.lemmas.List.{drop_more, length-drop, nil_from_length}
 use Rattle.units.specs.Layout.{LineLayout}
 use Rattle.lines.specs.Layouts.{no_line, view_of}
 use Rattle.printing.proofs.Appending.{Appends-to}
-use Rattle.rows.specs.Placing.{behind_or_between, has_some}
+use Rattle.rows.specs.Placing.{after_or_between, has_some}
 use Rattle.rows.proofs.Placed.{all-begun, none-begun, part-begun}
 use Rattle.rows.proofs.character_text.print_orders_between.Goals as goal
 
@@ -17,7 +17,7 @@ loop-k-preserved g c =
     let lines = (view_of c.args.layout.now).lines in
     let begun = c.loop-k.begun in
     let shows = c.line.ensures.line.shows in
-    let text = ap (λ (l : LineLayout). behind_or_between begun decimal l.order) shows in
+    let text = ap (λ (l : LineLayout). after_or_between begun decimal l.order) shows in
     let some = ap (λ (l : LineLayout). begun || has_some l.order) shows in
     part-begun _ _ _ _ _ _ _ _ _ _ (ap (flat_map (λ (l : LineLayout). l.order)) (drop_more lines c.loop-k.k no_line (omega arith)))
     (c.has_begun-begun.ensures ∙ sym some) c.loop-k.invariant (Appends-to _ _ _ _ (sym text) c.in_ok-print_line_positions.ensures)

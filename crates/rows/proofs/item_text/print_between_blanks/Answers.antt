@@ -2,8 +2,8 @@ use Rattle.std.proofs.Common.{◌∙◌, ◌++◌, ◌<◌, ℕ, List, rules, su
 use Rattle.std.specs.Io.KnownBytes.{Appends}
 use Rattle.std.specs.Prelude.{OnOk}
 use Rattle.printing.proofs.Appending.{Appends-then, Appends-to}
-use Rattle.rows.specs.RowTexts.{behind_blanks, between_blanks}
-use Rattle.rows.proofs.Gathered.{behind-first, between-parts, sliced-behind}
+use Rattle.rows.specs.RowTexts.{after_blanks, between_blanks}
+use Rattle.rows.proofs.Gathered.{following-first, between-parts, sliced-following}
 use Rattle.rows.proofs.item_text.print_between_blanks.Goals as goal
 
 pub returns : goal.returns
@@ -13,8 +13,8 @@ returns g c =
     let n = c.add_items-count.result in
     let there : 0 < length items = search (rules, arith) in
     let some : 0 < n = c.add_items-count.ensures.some there (omega (arith, ap (λ (bs : List ℕ). length bs) c.new-text.ensures)) in
-    let first = c.as_slice.ensures.value ∙ c.add_items-count.ensures.text ∙ ap (λ bs. bs ++ behind_blanks text (take n items)) c.new-text.ensures ∙ behind-first text items n some there in
-    let written = Appends-to _ _ _ _ (sliced-behind 32 _ _ first) c.in_ok-hand_over.ensures in
-    let whole = ap (λ xs. between_blanks text (take n items) ++ behind_blanks text xs) c.split_at.ensures.back ∙ between-parts text items n some there in
-    subst (λ bs. OnOk c.print_behind_blanks.result (Appends (g.W.Write.contents c.args.w.now) (g.W.Write.contents c.print_behind_blanks.new.w) bs)) whole
-    (Appends-then c.print_behind_blanks.result _ _ _ _ _ written c.print_behind_blanks.ensures)
+    let first = c.as_slice.ensures.value ∙ c.add_items-count.ensures.text ∙ ap (λ bs. bs ++ after_blanks text (take n items)) c.new-text.ensures ∙ following-first text items n some there in
+    let written = Appends-to _ _ _ _ (sliced-following 32 _ _ first) c.in_ok-hand_over.ensures in
+    let whole = ap (λ xs. between_blanks text (take n items) ++ after_blanks text xs) c.split_at.ensures.back ∙ between-parts text items n some there in
+    subst (λ bs. OnOk c.print_after_blanks.result (Appends (g.W.Write.contents c.args.w.now) (g.W.Write.contents c.print_after_blanks.new.w) bs)) whole
+    (Appends-then c.print_after_blanks.result _ _ _ _ _ written c.print_after_blanks.ensures)

@@ -6,11 +6,11 @@ use Rattle.printing.specs.LevelsText.{printed}
 use Rattle.rows.specs.RowTexts.{cases_text}
 use Rattle.rows.specs.Exhaustive.{cases_of_number}
 use Rattle.rows.proofs.JoinedTexts.{text-between}
-use Rattle.rows.proofs.RoomsKept.{room-kept, room-still}
+use Rattle.rows.proofs.RoomsUnchanged.{room-unchanged, room-still}
 use Rattle.rows.proofs.print.print_length.Goals as goal
 
 pub loop-number-init : goal.loop-number-init
-loop-number-init g c = record { printed = nothing_printed _ _ _; room = room-kept _; size = refl }
+loop-number-init g c = record { printed = nothing_printed _ _ _; room = room-unchanged _; size = refl }
 
 pub loop-number-preserved : goal.loop-number-preserved
 loop-number-preserved g c =

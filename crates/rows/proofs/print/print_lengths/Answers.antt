@@ -9,12 +9,12 @@ use Rattle.rows.specs.RowTexts.{cases_text}
 use Rattle.rows.specs.declared.letter.Letter.{Letter}
 use Rattle.rows.specs.Exhaustive.{cases_between, cases_of_length}
 use Rattle.rows.proofs.JoinedTexts.{text-between}
-use Rattle.rows.proofs.RoomsKept.{room-kept, room-still}
+use Rattle.rows.proofs.RoomsUnchanged.{room-unchanged, room-still}
 use Rattle.rows.proofs.RowTextsOf.{few-of-length}
 use Rattle.rows.proofs.print.print_lengths.Goals as goal
 
 pub loop-len-init : goal.loop-len-init
-loop-len-init g c = record { printed = rw c.least-len.ensures (nothing_printed _ _ _); stays = omega (arith, c.least-len.ensures); room = room-kept _ }
+loop-len-init g c = record { printed = rw c.least-len.ensures (nothing_printed _ _ _); stays = omega (arith, c.least-len.ensures); room = room-unchanged _ }
 
 pub print_length-requires-clause-few : goal.print_length-requires-clause-few
 print_length-requires-clause-few g c =

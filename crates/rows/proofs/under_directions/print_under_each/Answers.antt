@@ -13,8 +13,8 @@ loop-direction-init g c = record { passed = nothing_passed _ _ _; laid_out = tt;
 pub loop-direction-preserved : goal.loop-direction-preserved
 loop-direction-preserved g c = record {
   passed = one_more_passed _ _ _ _ _ _ _ _ (drop_more c.args.directions.now c.loop-direction.direction-index Auto c.loop-direction-test.true) c.loop-direction.invariant.passed c.in_ok-print_laid_out.ensures;
-  laid_out = rw c.standard-limits.ensures at c.lay_out_anew-laid_out.ensures.same;
-  room = c.lay_out_anew-laid_out.ensures.room ∙ c.loop-direction.invariant.room;
+  laid_out = rw c.standard-limits.ensures at c.lay_out_again-laid_out.ensures.same;
+  room = c.lay_out_again-laid_out.ensures.room ∙ c.loop-direction.invariant.room;
 }
 
 pub returns-clause-printed : goal.returns-clause-printed

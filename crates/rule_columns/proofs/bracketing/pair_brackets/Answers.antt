@@ -5,10 +5,10 @@ use Rattle.units.specs.Limits.{LimitsOf, standard}
 use Rattle.units.specs.declared.class.Class.{Class}
 use Rattle.resolve.specs.Pairs.{HoldsPairsOf}
 use Rattle.resolve.proofs.OwnClasses.{mark-own}
-use Rattle.paragraph.proofs.Covering.{copied, stands_in_all}
+use Rattle.paragraph.proofs.Covering.{copied, is_in_all}
 use Rattle.rule_columns.specs.Passes.{by_n0}
 use Rattle.rule_columns.proofs.EachPair.{paired_next, paired_end}
-use Rattle.rule_columns.proofs.EachSequence.{rewritten_next, rewritten_end, kept_outside}
+use Rattle.rule_columns.proofs.EachSequence.{rewritten_next, rewritten_end, unchanged_outside}
 use Rattle.rule_columns.proofs.bracketing.pair_brackets.Goals as goal
 
 pub loop-k-init : goal.loop-k-init
@@ -21,7 +21,7 @@ paired-requires-clause-filled g c = record {
   enough = search rules;
   pairs = search rules;
   marks = λ p h.
-      mark-own (class_at c.args.before.now p) (class_at (classes_of c.args.para.now) p) (c.requires.own p (stands_in_all c.requires.apart c.get-s.ensures.value (omega arith) p h));
+      mark-own (class_at c.args.before.now p) (class_at (classes_of c.args.para.now) p) (c.requires.own p (is_in_all c.requires.apart c.get-s.ensures.value (omega arith) p h));
 }
 
 pub loop-k-preserved : goal.loop-k-preserved
@@ -33,7 +33,7 @@ loop-k-preserved g c = record {
       let s = c.get-s.result in
       let us = c.args.para.now in
       let same : classes_at c.loop-k.classes s.positions ≡ classes_at c.args.classes.now s.positions =
-      copied c.requires.apart c.get-s.ensures.value (omega arith) c.loop-k.classes c.args.classes.now (kept_outside (by_n0 us c.args.before.now) (take c.loop-k.k c.args.sequences.now.all) c.args.classes.now c.loop-k.classes c.loop-k.invariant.classes) in
+      copied c.requires.apart c.get-s.ensures.value (omega arith) c.loop-k.classes c.args.classes.now (unchanged_outside (by_n0 us c.args.before.now) (take c.loop-k.k c.args.sequences.now.all) c.args.classes.now c.loop-k.classes c.loop-k.invariant.classes) in
       let P : List Class → Type 0 = λ cs. HoldsPairsOf standard.brackets s.positions (brackets_of s us cs) c.bracket_pairs.new.out in
       let Q : LimitsOf → Type 0 = λ limits. HoldsPairsOf limits.brackets s.positions (brackets_of s us (classes_at c.loop-k.classes s.positions)) c.bracket_pairs.new.out in
       paired_next us c.args.classes.now c.requires.apart c.get-s.ensures.value (omega arith) c.loop-k.pairs c.bracket_pairs.new.out

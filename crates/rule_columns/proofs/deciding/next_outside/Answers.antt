@@ -42,4 +42,4 @@ returns-in-None-clause-next c =
     ap is_isolate_initiator (class_read c.args.para.now c.args.p no_unit c.requires.inside) ∙ sym c.is_isolate_initiator.ensures ∙ c.if-not-is_isolate_initiator.false in
     let found : partner_of cs c.args.p ≡ matching_pdi cs c.args.p = partner_of_other cs c.args.p (opener_is_no_pdi (class_at cs c.args.p) opener) in
     let match : matching_pdi cs c.args.p ≡ None = sym found ∙ sym (c.partner.ensures.matched cs c.requires.isolates (omega arith)) ∙ c.in-None.is in
-    λ q behind l. inside_unmatched cs c.args.p c.requires.outside opener match q behind
+    λ q following l. inside_unmatched cs c.args.p c.requires.outside opener match q following

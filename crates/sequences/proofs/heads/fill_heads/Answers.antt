@@ -5,7 +5,7 @@ use Rattle.sequences.specs.Heads.{column_of}
 use Rattle.sequences.specs.Links.{IsLinkedStretch}
 use Rattle.sequences.specs.declared.heads.Head.{Head}
 use Rattle.sequences.proofs.Filled.{links_are, links_lead_on, linked_is}
-use Rattle.sequences.proofs.HeadWalks.{IsRun, Stored, stored_past, last_remains, stored_room, stored_push, stored_same, stored_count, stored_few, stored_end, head_walk_at, head_walk_next}
+use Rattle.sequences.proofs.HeadPasses.{IsRun, Stored, stored_past, last_remains, stored_room, stored_push, stored_same, stored_count, stored_few, stored_end, head_pass_at, head_pass_next}
 use Rattle.sequences.proofs.Once.{begins_remains}
 use Rattle.sequences.proofs.heads.fill_heads.Goals as goal
 use Rattle.sequences.proofs.heads.fill_heads.Goals.{then-begins, else-begins, then-is_some, else-is_some}
@@ -16,27 +16,27 @@ write_linked-written-requires-clause-linked g c =
 
 pub write_linked-written-requires-clause-room : goal.write_linked-written-requires-clause-room
 write_linked-written-requires-clause-room g c =
-    let walk = linked_is c.args.t.now c.args.links.now c.requires.links_fit c.requires.links c.loop-p.p in
+    let follow = linked_is c.args.t.now c.args.links.now c.requires.links_fit c.requires.links c.loop-p.p in
     omega (
       arith,
-      ap length walk,
+      ap length follow,
       length-take-le c.loop-p.end c.loop-p.column c.loop-p.invariant.column_fit,
-      stored_room c.loop-p.invariant.walk.stored c.len.ensures.leveled c.len.ensures.nested (omega arith) (search rules),
+      stored_room c.loop-p.invariant.follow.stored c.len.ensures.leveled c.len.ensures.nested (omega arith) (search rules),
     )
 
 pub make_head-requires-clause-small : goal.make_head-requires-clause-small
 make_head-requires-clause-small g c =
-    let walk = linked_is c.args.t.now c.args.links.now c.requires.links_fit c.requires.links c.loop-p.p in
+    let follow = linked_is c.args.t.now c.args.links.now c.requires.links_fit c.requires.links c.loop-p.p in
     omega (
       arith,
-      ap length walk,
+      ap length follow,
       length-take-le c.loop-p.end c.loop-p.column c.loop-p.invariant.column_fit,
-      stored_room c.loop-p.invariant.walk.stored c.len.ensures.leveled c.len.ensures.nested (omega arith) (search rules),
+      stored_room c.loop-p.invariant.follow.stored c.len.ensures.leveled c.len.ensures.nested (omega arith) (search rules),
     )
 
 pub make_head-requires-clause-positions : goal.make_head-requires-clause-positions
 make_head-requires-clause-positions g c =
-    let walk = linked_is c.args.t.now c.args.links.now c.requires.links_fit c.requires.links c.loop-p.p in omega (arith, ap length walk)
+    let follow = linked_is c.args.t.now c.args.links.now c.requires.links_fit c.requires.links c.loop-p.p in omega (arith, ap length follow)
 
 pub loop-p-preserved : goal.loop-p-preserved
 loop-p-preserved g c =
@@ -47,11 +47,11 @@ loop-p-preserved g c =
     let column : List ℕ = take c.loop-p.end c.loop-p.column in
     let heads : List Head = take c.if-begins.count c.if-begins.heads in
     let more : List ℕ = take c.if-begins.end c.if-begins.column in
-    let w0 = c.loop-p.invariant.walk in
+    let w0 = c.loop-p.invariant.follow in
     let h = c.len.ensures.leveled in
     let n = c.len.ensures.nested in
     let few : c.loop-p.count ≤ p = stored_few t p c.loop-p.count c.loop-p.end c.loop-p.heads c.loop-p.column w0.stored c.loop-p.invariant.heads_fit c.loop-p.invariant.column_fit in
-    let walk = linked_is t links c.requires.links_fit c.requires.links p in
+    let follow = linked_is t links c.requires.links_fit c.requires.links p in
     let run : (last : ℕ) → IsLinkedStretch links p last → IsRun t p last = λ last s k low high. sym (links_are t links c.requires.links_fit c.requires.links k) ∙ s.each k low high in
     let stored : Stored t (next + 1) heads more =
     elim c.if-begins.branch [
@@ -59,10 +59,10 @@ loop-p-preserved g c =
           (stored_past t h n p w.write_linked-written.result.last (run _ w.write_linked-written.ensures.stretch) w.write_linked-written.ensures.stretch.later _ _
           (stored_push w0.stored _ w.make_head.result _ c.loop-p.end (search rules) w.make_head.ensures (sym (length-take-le c.loop-p.end c.loop-p.column c.loop-p.invariant.column_fit))
           (take_more_set c.loop-p.heads c.loop-p.count w.make_head.result (omega arith))
-          (w.write_linked-written.ensures.column ∙ ap (λ (ps : List ℕ). column ++ ps) walk)))
+          (w.write_linked-written.ensures.column ∙ ap (λ (ps : List ℕ). column ++ ps) follow)))
       | else-begins w ↦ rw (w.heads-is, w.column-is, w.count-is, w.end-is, w.p-is) (stored_same w0.stored _ _ (search rules) refl refl)
     ] in
-    let kept : (next ≡ p) ⊎ (remains t next ≡ true) =
+    let unchanged : (next ≡ p) ⊎ (remains t next ≡ true) =
     elim c.if-begins.branch [
       | then-begins w ↦
           let begins : begins_sequence t p ≡ true = sym c.begins.ensures ∙ w.if-begins.true in
@@ -76,7 +76,7 @@ loop-p-preserved g c =
         rw w.end-is (omega (
           arith,
           w.write_linked-written.ensures.end,
-          ap length walk,
+          ap length follow,
           length-take-le c.loop-p.end c.loop-p.column c.loop-p.invariant.column_fit,
           stored_room w0.stored h n (omega arith) (search rules),
         )),
@@ -87,9 +87,9 @@ loop-p-preserved g c =
     ] in
     record {
       within = omega (arith, sizes.3);
-      walk = elim c.if-is_some.branch [
-        | then-is_some w ↦ rw w.last-is (head_walk_at t next heads more stored (search rules))
-        | else-is_some w ↦ rw w.last-is (head_walk_next w0 kept heads more stored (search rules))
+      follow = elim c.if-is_some.branch [
+        | then-is_some w ↦ rw w.last-is (head_pass_at t next heads more stored (search rules))
+        | else-is_some w ↦ rw w.last-is (head_pass_next w0 unchanged heads more stored (search rules))
       ];
       heads_fit = sizes.0;
       column_fit = sizes.1;
@@ -101,7 +101,7 @@ returns g c =
     let t = c.args.t.now in
     let all : c.loop-p.p ≡ size_of t = omega arith in
     let P : ℕ → Type 0 = λ k. Stored t k (take c.loop-p.count c.loop-p.heads) (take c.loop-p.end c.loop-p.column) in
-    let w : P (size_of t) = subst P all c.loop-p.invariant.walk.stored in
+    let w : P (size_of t) = subst P all c.loop-p.invariant.follow.stored in
     let end : c.loop-p.end ≡ length (column_of t) = stored_end t (size_of t) c.loop-p.count c.loop-p.end c.loop-p.heads c.loop-p.column w c.loop-p.invariant.heads_fit c.loop-p.invariant.column_fit in
     record {
       count = stored_count t (size_of t) c.loop-p.count c.loop-p.end c.loop-p.heads c.loop-p.column w c.loop-p.invariant.heads_fit c.loop-p.invariant.column_fit;

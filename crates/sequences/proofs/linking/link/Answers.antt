@@ -2,14 +2,14 @@ use Rattle.std.specs.Prelude.{Option, Some, None, is_some, unwrap_or}
 use Rattle.std.proofs.Common.{arith, ap, ◌-◌, ◌≡◌, ◌∙◌, ℕ, sym, subst}
 use Rattle.std.proofs.lemmas.Bool.{cond-true, cond-false}
 use Rattle.units.specs.Runs.{level_of, remains, size_of, successor}
-use Rattle.sequences.specs.BackWalks.{AreMarked}
+use Rattle.sequences.specs.BackwardPasses.{AreMarked}
 use Rattle.sequences.proofs.Backward.{back_known, back_step, end_is}
 use Rattle.sequences.proofs.Marks.{marked_all}
 use Rattle.sequences.proofs.linking.link.Goals as goal
 
 pub go_on-link-requires-clause-known : goal.go_on-link-requires-clause-known
 go_on-link-requires-clause-known g c =
-    back_known c.args.t.now c.loop-p.p c.loop-p.behind c.loop-p.links c.loop-p.ends c.loop-p.joined c.loop-p.invariant.0 c.loop-p.invariant.1 (c.loop-p.p - 1) (omega arith)
+    back_known c.args.t.now c.loop-p.p c.loop-p.following c.loop-p.links c.loop-p.ends c.loop-p.joined c.loop-p.invariant.0 c.loop-p.invariant.1 (c.loop-p.p - 1) (omega arith)
 
 pub link_level-p-requires-clause-level : goal.link_level-p-requires-clause-level
 link_level-p-requires-clause-level g c = sym c.level-level.ensures.value ∙ c.in-Some.is
@@ -18,8 +18,8 @@ pub link_level-p-requires-clause-end : goal.link_level-p-requires-clause-end
 link_level-p-requires-clause-end g c =
     end_is c.loop-p.invariant.0 (c.loop-p.p - 1) (omega arith) c.len-p.ensures.leveled c.go_on-link.result.link c.go_on-link.ensures.link c.go_on-link.result.end c.go_on-link.ensures.end
 
-pub link_level-p-requires-clause-walk : goal.link_level-p-requires-clause-walk
-link_level-p-requires-clause-walk g c =
+pub link_level-p-requires-clause-follow : goal.link_level-p-requires-clause-follow
+link_level-p-requires-clause-follow g c =
     let t = c.args.t.now in
     let p = c.loop-p.p - 1 in
     let here : level_of t p ≡ Some c.in-Some.level = sym c.level-level.ensures.value ∙ c.in-Some.is in
@@ -29,7 +29,7 @@ link_level-p-requires-clause-walk g c =
 pub loop-p-preserved-in-Some : goal.loop-p-preserved-in-Some
 loop-p-preserved-in-Some g c =
     let t = c.args.t.now in (
-      c.link_level-p.ensures.walk,
+      c.link_level-p.ensures.follow,
       (sym (ap (λ (o : Option ℕ). unwrap_or o t.base) c.link_level-p.ensures.level), c.link_level-p.ensures.end),
       omega (arith, c.link_level-p.ensures.steps),
     )

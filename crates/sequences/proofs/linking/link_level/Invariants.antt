@@ -1,7 +1,7 @@
 use Rattle.std.proofs.Common.{◌≡◌, ◌≤◌, ◌+◌}
 use Rattle.std.specs.Prelude.{Some}
 use Rattle.units.specs.Runs.{eos_at, last_in, level_of, sequence_from}
-use Rattle.sequences.specs.BackWalks.{BackWalk}
+use Rattle.sequences.specs.BackwardPasses.{BackwardPass}
 use Rattle.sequences.proofs.linking.link_level.Given as goal
 
 abbrev pub invariant-loop-p : goal.invariant-loop-p
@@ -9,7 +9,7 @@ invariant-loop-p g l = record {
   before : l.p ≤ l.from;
   here : level_of l.t l.p ≡ Some l.level;
   end : l.end ≡ eos_at l.t (last_in (sequence_from l.t l.p) l.p);
-  walk : BackWalk l.t l.p (Some l.p) l.links l.ends l.joined;
+  follow : BackwardPass l.t l.p (Some l.p) l.links l.ends l.joined;
   steps : l.steps + l.p ≡ l.fn.steps + l.from;
 }
 

@@ -10,7 +10,7 @@ loop-at-preserved c =
     let l = c.loop-at in
     let count = l.invariant.0 in
     let found = c.char_at.result in
-    let next = at_next text count l.at found.0 found.1 c.char_at.ensures.first c.char_at.ensures.behind c.char_at.ensures.forward c.char_at.ensures.inside l.invariant.1 in (
+    let next = at_next text count l.at found.0 found.1 c.char_at.ensures.first c.char_at.ensures.following c.char_at.ensures.forward c.char_at.ensures.inside l.invariant.1 in (
       count + 1,
       next.later,
       λ k lt. elim (cases_eq k count) [

@@ -19,7 +19,7 @@ loop-span-preserved c =
     let span : Span SidedBracket = get_or spans i d in
     let key : c.with_key.result ≡ bracket_with span.value.side (record { 0 = c.in_ok-number.number }) = c.with_key.ensures ∙ ap (λ n. bracket_with span.value.side (record { 0 = n })) c.new.ensures in
     rw (take_more spans i d c.loop-span-test.true, c.in_ok-push.ensures.items, key)
-    (keyed-more c.loop-span.numbering c.number.new.self (take i spans) span c.loop-span.brackets.items c.in_ok-number.number c.loop-span.invariant c.in_ok-number.ensures.numbering c.in_ok-number.ensures.kept c.in_ok-number.ensures.number)
+    (keyed-more c.loop-span.numbering c.number.new.self (take i spans) span c.loop-span.brackets.items c.in_ok-number.number c.loop-span.invariant c.in_ok-number.ensures.numbering c.in_ok-number.ensures.unchanged c.in_ok-number.ensures.number)
 
 pub returns-clause-keyed : goal.returns-clause-keyed
 returns-clause-keyed c =

@@ -1,5 +1,5 @@
 use Rattle.std.proofs.Common.{◌++◌, ◌∷◌, [], arith}
-use Rattle.visual.proofs.Walked.{all_given, given_more, length_more}
+use Rattle.visual.proofs.Passed.{all_given, given_more, length_more}
 use Rattle.visual.proofs.line_runs.run_count.Goals as goal
 
 pub loop-run-preserved : goal.loop-run-preserved

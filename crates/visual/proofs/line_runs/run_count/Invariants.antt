@@ -1,6 +1,6 @@
 use Rattle.std.proofs.Common.{◌≡◌, List, length}
 use Rattle.visual.specs.declared.runs.VisualRun.{VisualRun}
-use Rattle.visual.proofs.Walked.{AreGiven}
+use Rattle.visual.proofs.Passed.{AreGiven}
 use Rattle.visual.proofs.line_runs.run_count.Given as goal
 
 -- the number is that of the runs returned so far

@@ -1,6 +1,6 @@
 use Rattle.std.proofs.Common.{◌∙◌, arith}
 use Rattle.std.proofs.lemmas.Grind.{common_steps}
-use Rattle.visual.proofs.Kept.{next-removed}
+use Rattle.visual.proofs.EffectiveLevels.{next-removed}
 use Rattle.visual.proofs.runs.next_remaining.Goals as goal
 
 pub loop-next-preserved : goal.loop-next-preserved

@@ -1,5 +1,5 @@
 use Rattle.std.proofs.Common.{◌≡◌}
-use Rattle.visual.specs.KeptLevels.{next_remaining}
+use Rattle.visual.specs.EffectiveLevelRanges.{next_remaining}
 use Rattle.visual.proofs.runs.next_remaining.Given as goal
 
 -- none remains before this one

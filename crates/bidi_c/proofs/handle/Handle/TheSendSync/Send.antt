@@ -10,16 +10,16 @@ use Rattle.std.specs.declared.alloc.Global.{Global}
 use Rattle.std.proofs.Crossing.{crosses, frees}
 use Rattle.std_alloc.proofs.SendSync.{lies}
 use Rattle.bidi_c.specs.Kept.{kept}
-use Rattle.bidi_c.specs.contracts.held.Held as held
-use Rattle.bidi_c.proofs.held.Held.TheSendSync.{the_send as held_send}
+use Rattle.bidi_c.specs.contracts.contents.Contents as contents
+use Rattle.bidi_c.proofs.contents.Contents.TheSendSync.{the_send as contents_send}
 use Rattle.bidi_c.specs.contracts.handle.Handle.{the_row, the_type}
 
 fields_sent : AllSend (fields the_type)
 fields_sent = search (sendable, crosses) depth 20
 
-kept_keyless : (a : Global) (p : Ptr) (v : Option held.the_row.Denot) → Keyless (kept held.the_row a p v)
-kept_keyless a p None = tt
-kept_keyless a p (Some x) = (lies held.the_row held_send p x, frees.frees a (raw (lone held.the_row.mir)) p)
+owned_keyless : (a : Global) (p : Ptr) (v : Option contents.the_row.Denot) → Keyless (kept contents.the_row a p v)
+owned_keyless a p None = tt
+owned_keyless a p (Some x) = (lies contents.the_row contents_send p x, frees.frees a (raw (lone contents.the_row.mir)) p)
 
 pub send : IsSend the_row
-send = owning_send the_type fields_sent (λ h. kept_keyless h.alloc h.at h.value) (λ k d w. tt)
+send = owning_send the_type fields_sent (λ h. owned_keyless h.alloc h.at h.value) (λ k d w. tt)

@@ -1,4 +1,4 @@
-use Rattle.bidtests.proofs.CutterSteps.{judges-none}
+use Rattle.bidtests.proofs.SplitterSteps.{judges-none}
 use Rattle.bidtests.proofs.state.JudgeState.new.Goals as goal
 
 pub returns : goal.returns

@@ -26,9 +26,9 @@ returns-in-Some-clause-opened c =
     ap (option_map stored) (ap (option_map (λ (b : Bor MemoryFile). b.now)) (sym is) ∙ first)
     ∙ find-map (λ (file : StoredFile). bytes_eq file.name name) stored files
     ∙ ap (λ (all : List StoredFile). find (λ (file : StoredFile). bytes_eq file.name name) all) shown in
-    let stands : IsOpenedOver (Some (stored c.in-Some.file.now)) c.args.most c.new.result =
-    (c.new.ensures.reader, c.new.ensures.left ∙ c.min.ensures, c.new.ensures.state) in
-    subst (λ (file : Option StoredFile). IsOpenedOver file c.args.most c.new.result) found stands
+    let represents : IsOpenedOver (Some (stored c.in-Some.file.now)) c.args.most c.new.result =
+    (c.new.ensures.reader, c.new.ensures.allowed ∙ c.min.ensures, c.new.ensures.state) in
+    subst (λ (file : Option StoredFile). IsOpenedOver file c.args.most c.new.result) found represents
 
 pub returns-in-None-clause-cannot : goal.returns-in-None-clause-cannot
 unfolding stored

@@ -1,7 +1,7 @@
 use Rattle.std.proofs.Common.{◌≡◌, ◌∷◌, suc, length, sym, ap, ◌∙◌, arith}
 use Rattle.std.proofs.lemmas.Bool.{eqb-false}
 use Rattle.units.specs.Paragraphs.{paragraphs_of}
-use Rattle.explicit.proofs.LevelsFound.OneCutting.{paragraphs_of_split}
+use Rattle.explicit.proofs.LevelsComputed.OneCutting.{paragraphs_of_split}
 use Rattle.explicit.proofs.cutting.ParagraphsIterator.next.Goals as goal
 
 pub returns-clause-steps : goal.returns-clause-steps

@@ -1,6 +1,6 @@
 use Rattle.std.proofs.Common.{refl, arith, sym, ap, ◌∙◌, inl, inr}
 use Rattle.std.proofs.lemmas.Bool.{not-false, not-true}
-use Rattle.explicit.proofs.Holders.Represented.{pdf-within_overflow, pdf-overflow, pdf-kept, pdf-popped}
+use Rattle.explicit.proofs.Holders.Represented.{pdf-within_overflow, pdf-overflow, pdf-retained, pdf-popped}
 use Rattle.explicit.proofs.status.StatusStack.close_embedding.Goals as goal
 use Rattle.explicit.proofs.status.StatusStack.close_embedding.Goals.{else-len-ge2-via-then-len-ge2+else-not-current, else-len-ge2-via-else-len-ge2}
 
@@ -11,7 +11,7 @@ pub returns-then-self-gt0-2-clause-closed : goal.returns-then-self-gt0-2-clause-
 returns-then-self-gt0-2-clause-closed c = λ depth cs para qs r. pdf-overflow depth cs para qs c.args.self.now r (omega arith) (omega arith)
 
 pub returns-else-len-ge2-clause-closed : goal.returns-else-len-ge2-clause-closed
-returns-else-len-ge2-clause-closed c = λ depth cs para qs r. pdf-kept depth cs para qs c.args.self.now r (omega arith) (omega arith)
+returns-else-len-ge2-clause-closed c = λ depth cs para qs r. pdf-retained depth cs para qs c.args.self.now r (omega arith) (omega arith)
     (elim c.else-len-ge2.branch [
       | else-len-ge2-via-then-len-ge2+else-not-current w ↦ inr (w.current.result, ap (λ e. e.is_isolate) (sym w.current.ensures) ∙ not-false _ w.if-not-current.false)
       | else-len-ge2-via-else-len-ge2 w ↦ inl (omega arith)

@@ -8,7 +8,7 @@ use Rattle.units.specs.Reordering.{after_resets}
 use Rattle.lines.specs.Columns.{levels_filled, lines_filled, paras_filled}
 use Rattle.lines.specs.LineEnds.{AreAllParagraphEnds}
 use Rattle.lines.proofs.AtParas.{all_stay, text_at_paras}
-use Rattle.lines.proofs.KeptResolved.{resolved_stay}
+use Rattle.lines.proofs.ResolvedUnchanged.{resolved_stay}
 use Rattle.lines.proofs.TextLevels.{laid_out}
 use Rattle.lines.proofs.scratch.Scratch.fill.Goals as goal
 
@@ -16,38 +16,38 @@ pub returns-clause-layout : goal.returns-clause-layout
 returns-clause-layout g c =
     let n : ℕ = length c.args.text.now in
     let found = c.resolve_text-resolved in
-    let kept = c.keep_resolved in
+    let unchanged = c.keep_resolved in
     let filled = c.arrange-filled in
-    let column = kept.new.self.levels.items in
+    let column = unchanged.new.self.levels.items in
     let as_levels : length filled.new.levels ≡ column.len = search rules in
     let levels_are = with_items_is column filled.new.levels as_levels in
-    let paras : List ℕ = map level_of_para (paras_filled found.result.paragraphs kept.new.self) in
-    let reset : take n filled.new.levels ≡ after_resets (classes_of c.args.text.now) c.args.breaks.now.positions paras (levels_filled n kept.new.self) =
+    let paras : List ℕ = map level_of_para (paras_filled found.result.paragraphs unchanged.new.self) in
+    let reset : take n filled.new.levels ≡ after_resets (classes_of c.args.text.now) c.args.breaks.now.positions paras (levels_filled n unchanged.new.self) =
     rw (← c.deref_mut-2.ensures.value, ← c.deref-2.ensures.value) filled.ensures.levels in
     rw levels_are
-    (laid_out c.args.limits c.args.text.now c.args.direction c.args.breaks.now.positions paras (levels_filled n kept.new.self) (take n filled.new.levels) (take n filled.new.levels)
+    (laid_out c.args.limits c.args.text.now c.args.direction c.args.breaks.now.positions paras (levels_filled n unchanged.new.self) (take n filled.new.levels) (take n filled.new.levels)
     (lines_filled filled.result filled.new.columns) refl
-    (ap (λ ps. map level_of_para (take found.result.paragraphs (boxed_slice_items ps))) kept.ensures.paras ∙ found.ensures.resolved.paras)
-    (ap (λ column. take n (boxed_slice_items column)) kept.ensures.levels ∙ found.ensures.resolved.levels)
+    (ap (λ ps. map level_of_para (take found.result.paragraphs (boxed_slice_items ps))) unchanged.ensures.paras ∙ found.ensures.resolved.paras)
+    (ap (λ column. take n (boxed_slice_items column)) unchanged.ensures.levels ∙ found.ensures.resolved.levels)
     reset filled.ensures.lines)
 
 pub returns-clause-holds : goal.returns-clause-holds
 returns-clause-holds g c =
     let n : ℕ = length c.args.text.now in
     let found = c.resolve_text-resolved in
-    let kept = c.keep_resolved in
+    let unchanged = c.keep_resolved in
     let filled = c.arrange-filled in
-    let column = kept.new.self.levels.items in
+    let column = unchanged.new.self.levels.items in
     let as_levels : length filled.new.levels ≡ column.len = search rules in
     let levels_are = with_items_is column filled.new.levels as_levels in
     record {
       units = refl;
-      ends = subst (λ column. AreAllParagraphEnds c.args.text.now (take found.result.paragraphs (boxed_slice_items column))) (sym kept.ensures.para_ends) found.ensures.resolved.para_ends;
-      paras = ap (λ ps. map level_of_para (take found.result.paragraphs (boxed_slice_items ps))) kept.ensures.paras ∙ found.ensures.resolved.paras;
+      ends = subst (λ column. AreAllParagraphEnds c.args.text.now (take found.result.paragraphs (boxed_slice_items column))) (sym unchanged.ensures.para_ends) found.ensures.resolved.para_ends;
+      paras = ap (λ ps. map level_of_para (take found.result.paragraphs (boxed_slice_items ps))) unchanged.ensures.paras ∙ found.ensures.resolved.paras;
       levels =
           rw levels_are
-          (resolved_stay found.result.uniform n (boxed_slice_items kept.new.self.resolved) (boxed_slice_items kept.new.self.levels) filled.new.levels (λ known. filled.ensures.same known ∙ ap (take n) c.deref_mut-2.ensures.value)
-          ∙ kept.ensures.resolved
+          (resolved_stay found.result.uniform n (boxed_slice_items unchanged.new.self.resolved) (boxed_slice_items unchanged.new.self.levels) filled.new.levels (λ known. filled.ensures.same known ∙ ap (take n) c.deref_mut-2.ensures.value)
+          ∙ unchanged.ensures.resolved
           ∙ found.ensures.resolved.levels);
       known = found.ensures.resolved.known;
     }

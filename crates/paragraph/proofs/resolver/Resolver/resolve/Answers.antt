@@ -21,5 +21,5 @@ returns g c =
       room = c.resolve_known.ensures.room;
       at_least = omega (arith, all);
       at_most = omega (arith, all);
-      light = λ known. omega (arith, all, c.resolve_known.ensures.light known);
+      if_uniform = λ known. omega (arith, all, c.resolve_known.ensures.if_uniform known);
     }

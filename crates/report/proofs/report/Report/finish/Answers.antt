@@ -6,8 +6,8 @@ use Rattle.report.proofs.SameReports.{state-of}
 use Rattle.report.proofs.report.Report.finish.Goals as goal
 
 pub returns : goal.returns
-returns c = λ terms kind told b reports.
+returns c = λ terms kind reported b reports.
     let inside = c.self.inside in
-    let P : Reporting → Type 0 = λ r. Reports terms kind r told b in
-    let before : Reports terms kind (reporting inside.kind inside.state) told b = subst P (sym c.self.view_is) reports in
-    ap (λ k. report_of terms k b) (sym before.of) ∙ c.finish.ensures terms told b (state-of terms kind inside.kind inside.state told b before)
+    let P : Reporting → Type 0 = λ r. Reports terms kind r reported b in
+    let before : Reports terms kind (reporting inside.kind inside.state) reported b = subst P (sym c.self.view_is) reports in
+    ap (λ k. report_of terms k b) (sym before.of) ∙ c.finish.ensures terms reported b (state-of terms kind inside.kind inside.state reported b before)

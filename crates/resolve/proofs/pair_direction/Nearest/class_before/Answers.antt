@@ -16,8 +16,8 @@ module _ (cs : List Class) (qs ps : List ℕ) (sos : Class) (k : ℕ) (same : qs
   one : suc (k - 1) ≡ k
   one = omega arith
 
-  found_back : is_some (strong_as (class_at cs (slice_index qs (k - 1)))) ≡ true → class_at cs (slice_index qs (k - 1)) ≡ context_before (classes_at cs ps) sos k
-  found_back is =
+  nearest_is_previous : is_some (strong_as (class_at cs (slice_index qs (k - 1)))) ≡ true → class_at cs (slice_index qs (k - 1)) ≡ context_before (classes_at cs ps) sos k
+  nearest_is_previous is =
       read_is
       ∙ sym (context_before-found (classes_at cs ps) sos (k - 1) (ap (λ d. is_some (strong_as d)) (sym read_is) ∙ is))
       ∙ ap (context_before (classes_at cs ps) sos) one
@@ -34,7 +34,7 @@ returns-then-is_some-clause-value g c =
     let inside : c.loop-k.k - 1 < length c.args.s.now.positions = omega (arith, c.loop-k-test.true, c.requires.within, c.loop-k.auto.k) in
     let is = ap is_some (sym c.strong.ensures) ∙ sym c.is_some.ensures ∙ c.if-is_some.true in
     let some : 0 < c.loop-k.k = omega (arith, c.loop-k-test.true) in
-    found_back cs c.as_slice-positions.result.now ps c.args.s.now.sos c.loop-k.k c.as_slice-positions.ensures.value some inside is ∙ c.loop-k.invariant.0
+    nearest_is_previous cs c.as_slice-positions.result.now ps c.args.s.now.sos c.loop-k.k c.as_slice-positions.ensures.value some inside is ∙ c.loop-k.invariant.0
 
 pub loop-k-preserved : goal.loop-k-preserved
 loop-k-preserved g c =

@@ -1,7 +1,7 @@
 use Rattle.std.proofs.Common.{◌≡◌, sym, ◌∙◌}
 use Rattle.units.specs.declared.class.Class.TheVariants.{R}
 use Rattle.resolve.specs.declared.weak.Context.{Context}
-use Rattle.resolve.proofs.Keeping.{through_w3-letter, settled-letter, by_context-letter}
+use Rattle.resolve.proofs.Keeping.{through_w3-letter, decided-letter, by_context-letter}
 use Rattle.resolve.proofs.weak.Context.take_arabic_letter.Goals as goal
 
 pub returns : goal.returns
@@ -10,5 +10,5 @@ returns c =
     let made : c.take-made.result ≡ R = c.take-made.ensures.value ∙ through_w3-letter x.preceding in
     record {
       value = λ rest. made ∙ sym (by_context-letter x rest);
-      past = λ rest. cc (made, through_w3-letter x.preceding, settled-letter x rest, c.take-made.ensures.past);
+      past = λ rest. cc (made, through_w3-letter x.preceding, decided-letter x rest, c.take-made.ensures.past);
     }

@@ -5,7 +5,7 @@ use Rattle.std.proofs.lemmas.List.{get_or_default, get_or-set_other, get_or-set_
 use Rattle.units.specs.Layout.{TextLayout}
 use Rattle.room.specs.Looking.{IsAt, size_in}
 use Rattle.room.specs.Rooms.{offset_by}
-use Rattle.room.proofs.LevelWalk.{at_inside, at_position, one_character}
+use Rattle.room.proofs.LevelPass.{at_inside, at_position, one_character}
 use Rattle.room.proofs.room.Room.fill_levels.Goals as goal
 
 pub loop-at-preserved : goal.loop-at-preserved

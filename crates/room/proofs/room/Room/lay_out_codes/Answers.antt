@@ -30,7 +30,7 @@ returns c =
     record {
       capacity = c.lay_out_units.ensures.room ∙ capacity;
       encodes = ap (λ (r : RoomOf). r.encodes) c.self.view_is;
-      kept = tt;
+      unchanged = tt;
       rejected = tt;
       taken = record {
         fits = record { kind = λ e. absurd e; size = omega (arith, c.if-room-codes.false, c.room.ensures, capacity) };

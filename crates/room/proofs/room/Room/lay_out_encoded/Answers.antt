@@ -15,7 +15,7 @@ use Rattle.room.specs.Rooms.{RoomOf}
 use Rattle.sources.specs.Seen.{source_seen}
 use Rattle.sources.specs.Sources.{size_of, source_offset}
 use Rattle.room.proofs.Columns.{fronts_of}
-use Rattle.room.proofs.Refused.{IsAsLong, is_room_still}
+use Rattle.room.proofs.Rejected.{IsAsLong, is_room_still}
 use Rattle.room.proofs.Rejecting.{rejects_alike, rejects_text}
 use Rattle.room.proofs.Showing.{shows_spelled, starts_shown}
 use Rattle.room.proofs.room.Room.lay_out_encoded.Goals as goal
@@ -108,7 +108,7 @@ returns-in-Err-find_indices c =
     record {
       capacity = capacity;
       encodes = ap (λ (r : RoomOf). r.encodes) c.self.view_is;
-      kept = c.self.view_is;
+      unchanged = c.self.view_is;
       rejected = rejects_text ask c.args.self.now fault fits c.in-Ok.ensures.well_formed
           (subst (λ (k : ℕ). RejectsBreaks (source_offset source) k (size_of source) breaks fault) f.count why);
       taken = tt;
@@ -251,7 +251,7 @@ returns c =
     record {
       capacity = c.lay_out_units.ensures.room ∙ capacity;
       encodes = ap (λ (r : RoomOf). r.encodes) c.self.view_is;
-      kept = tt;
+      unchanged = tt;
       rejected = tt;
       taken = record {
         fits = record {

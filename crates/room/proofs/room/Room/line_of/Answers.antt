@@ -4,7 +4,7 @@ use Rattle.std.proofs.lemmas.List.{length-take-le}
 use Rattle.room.specs.LineOf.{RejectsLineIn}
 use Rattle.room.specs.Rooms.{RoomOf, offset_in}
 use Rattle.room.specs.declared.line_of.LineFault.{LineFault}
-use Rattle.room.proofs.Spans.{narrow, refused, whole, written}
+use Rattle.room.proofs.Spans.{narrow, rejected, whole, written}
 use Rattle.room.proofs.room.Room.line_of.Goals as goal
 
 pub line_of_characters-requires-clause-levels : goal.line_of_characters-requires-clause-levels
@@ -51,5 +51,5 @@ pub returns-in-Err-clause-line : goal.returns-in-Err-clause-line
 returns-in-Err-clause-line c =
     let places = min (length c.args.levels.now) (length c.args.order.now) in
     subst (λ (f : LineFault). RejectsLineIn c.args.self.now c.args.start c.args.end places f) (sym c.fault_of_span.ensures)
-    (refused c.args.self.now c.offsets_rise.ensures.rising c.args.start c.args.end c.in_ok-first.first c.in_ok-first.last c.in_ok-first.ensures
+    (rejected c.args.self.now c.offsets_rise.ensures.rising c.args.start c.args.end c.in_ok-first.first c.in_ok-first.last c.in_ok-first.ensures
     places c.in-Err.fault c.units_are_characters.ensures (omega (arith, c.if-min-count.false, c.min.ensures, c.saturating_sub-count.ensures)) c.in-Err.ensures.line)

@@ -6,9 +6,9 @@ use Rattle.std.proofs.lemmas.List.{length-map, length-take}
 use Rattle.units.specs.Layout.{layout_of}
 use Rattle.units.specs.Reordering.{line_order}
 use Rattle.units.specs.declared.bracket.Unit.{Unit as BidiUnit}
-use Rattle.lines.proofs.Law.{line_order-places}
+use Rattle.lines.proofs.Theorem.{line_order-places}
 use Rattle.lines.proofs.Lengths.{length-levels}
-use Rattle.lines.specs.LinesAlone.{RefusesSpan, breaks_around}
+use Rattle.lines.specs.LinesAlone.{RejectsSpan, breaks_around}
 use Rattle.lines.specs.Scratches.{layout_in, HoldsText}
 use Rattle.lines.specs.declared.alone.SpanFault.{SpanFault}
 use Rattle.room.specs.Rooms.{characters_in}
@@ -28,13 +28,13 @@ returns-clause-inside c =
     let text : List BidiUnit = take c.characters-count.result c.deref.result.now in
     let same : take (length (layout_in self.scratch).levels) (boxed_slice_items self.units) ≡ text =
     ap (λ (k : ℕ). take k (boxed_slice_items self.units)) (sym count) ∙ ap (take c.characters-count.result) (sym c.deref.ensures.value) in
-    let held = subst (λ (us : List BidiUnit). HoldsText self.limits us self.direction self.scratch) same c.self.invariant.holds in
+    let stored = subst (λ (us : List BidiUnit). HoldsText self.limits us self.direction self.scratch) same c.self.invariant.holds in
     let levels : List (Option ℕ) = (layout_of self.limits text self.direction (breaks_around first last)).levels in
     let long : length levels ≡ length text = length-levels self.limits text self.direction (breaks_around first last) in
     let few : length text ≤ characters_in c.args.self.now = omega (arith, length-take c.characters-count.result c.deref.result.now, c.characters-count.ensures) in
-    of_written (RefusesSpan text first last) c.line_alone_into.result c.line_alone_into.ensures.line
+    of_written (RejectsSpan text first last) c.line_alone_into.result c.line_alone_into.ensures.line
     (λ shown w.
-    let laid = w.line self.limits self.direction (breaks_around first last) held w.taken in
+    let laid = w.line self.limits self.direction (breaks_around first last) stored w.taken in
     let within : last ≤ length levels = omega (arith, w.taken.within, length-map text (λ (u : BidiUnit). u.class), long) in
     let places : All (λ p. p < length levels) (line_order levels first last) = line_order-places levels first last (omega (arith, w.taken.above)) within in
     subst (λ (xs : List ℕ). All (λ k. k < characters_in c.args.self.now) xs) (sym laid.ordered)

@@ -1,6 +1,6 @@
 use Rattle.std.proofs.Common.{◌++◌, ◌∷◌, [], arith, ◌∙◌}
-use Rattle.visual.proofs.Told.{told-behind, told-len, told-rest}
-use Rattle.visual.proofs.Walked.{all_given, given_more, length_more}
+use Rattle.visual.proofs.Converted.{converted-following, converted-len, converted-rest}
+use Rattle.visual.proofs.Passed.{all_given, given_more, length_more}
 use Rattle.room.proofs.RunLists.{run_within}
 use Rattle.room.proofs.RunLists.{written_run}
 use Rattle.room.proofs.room.Room.put_runs.Goals as goal
@@ -11,8 +11,8 @@ loop-run-preserved c =
     let runs = i.3.0 in
     let run = c.in-Some.run' in
     let n = length_more runs run in
-    let len = told-len c.loop-run.out c.put.new.out c.loop-run.count c.in_units.result c.put.ensures in
-    let put = told-behind c.loop-run.out c.put.new.out c.loop-run.count c.in_units.result c.put.ensures in (
+    let len = converted-len c.loop-run.out c.put.new.out c.loop-run.count c.in_units.result c.put.ensures in
+    let put = converted-following c.loop-run.out c.put.new.out c.loop-run.count c.in_units.result c.put.ensures in (
       tt,
       tt,
       len ∙ i.2,
@@ -21,7 +21,7 @@ loop-run-preserved c =
         given_more c.args.line.now runs c.loop-run.run-iterator run c.next.new.self i.3.1 c.in-Some.ensures.steps,
         omega (arith, n, i.3.2),
         written_run c.args.self.now runs run c.loop-run.out c.put.new.out c.loop-run.count c.in_units.result len c.in_units.ensures put i.3.3,
-        told-rest c.args.out.now c.loop-run.out c.put.new.out c.loop-run.count c.in_units.result c.put.ensures i.3.4,
+        converted-rest c.args.out.now c.loop-run.out c.put.new.out c.loop-run.count c.in_units.result c.put.ensures i.3.4,
       ),
     )
 
@@ -45,5 +45,5 @@ returns-clause-runs c =
       are = all_given c.args.line.now i.3.0 c.loop-run.run-iterator i.3.1 c.in-None.ensures.steps c.requires.order;
       counted = i.3.2;
       written = i.3.3;
-      behind = i.3.4;
+      following = i.3.4;
     }

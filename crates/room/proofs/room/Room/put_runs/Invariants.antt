@@ -1,6 +1,6 @@
 use Rattle.std.proofs.Common.{◌≡◌, ◌≤◌, List, drop, length, map, take}
 use Rattle.visual.specs.declared.runs.VisualRun.{VisualRun}
-use Rattle.visual.proofs.Walked.{AreGiven}
+use Rattle.visual.proofs.Passed.{AreGiven}
 use Rattle.room.specs.RunsIn.{run_in}
 use Rattle.room.proofs.room.Room.put_runs.Given as goal
 

@@ -14,7 +14,7 @@ use Rattle.room.specs.Insides.{offsets_if, seen}
 use Rattle.room.specs.Rooms.{RoomOf, TextOf, characters_in, offset_by, offset_in}
 use Rattle.room.specs.Looking.{size_in}
 use Rattle.room.specs.declared.room.Room.TheInside.{Inside}
-use Rattle.room.proofs.Refused.{IsAsLong, is_room_still}
+use Rattle.room.proofs.Rejected.{IsAsLong, is_room_still}
 use Rattle.room.proofs.Rejecting.{rejects_alike}
 use Rattle.room.proofs.room.Room.set_lines.Goals as goal
 
@@ -59,7 +59,7 @@ returns-in-Err c =
     record {
       capacity = ap (λ (r : RoomOf). r.capacity) c.self.view_is;
       encodes = ap (λ (r : RoomOf). r.encodes) c.self.view_is;
-      kept = c.self.view_is;
+      unchanged = c.self.view_is;
       rejected = subst (λ (r : RoomOf). RejectsLines r breaks fault) c.self.view_is why;
       taken = tt;
       text = tt;
@@ -110,7 +110,7 @@ returns-then-self c =
     record {
       capacity = c.set_lines_of_units.ensures.room ∙ ap (λ (r : RoomOf). r.capacity) c.self.view_is;
       encodes = ap (λ (r : RoomOf). r.encodes) c.self.view_is;
-      kept = tt;
+      unchanged = tt;
       rejected = tt;
       taken = subst (λ (r : RoomOf). AreBreaks c.args.breaks.now (size_in r)) c.self.view_is (subst (AreBreaks c.args.breaks.now) last c.in_default.ensures.rising);
       text = ap (text_of self) count_new ∙ ap (λ (r : RoomOf). r.text) c.self.view_is;
@@ -145,7 +145,7 @@ returns c =
     record {
       capacity = c.set_lines_of_units-2.ensures.room ∙ ap (λ (r : RoomOf). r.capacity) c.self.view_is;
       encodes = ap (λ (r : RoomOf). r.encodes) c.self.view_is;
-      kept = tt;
+      unchanged = tt;
       rejected = tt;
       taken = subst (λ (r : RoomOf). AreBreaks breaks (size_in r)) c.self.view_is (subst (AreBreaks breaks) size c.in-Ok.ensures.1);
       text = ap (text_of self) count_new ∙ ap (λ (r : RoomOf). r.text) c.self.view_is;

@@ -17,7 +17,7 @@ pub returns : goal.returns
 returns c =
     let self = c.self.inside in
     let n : ℕ = length (layout_in self.scratch).levels in
-    let held = c.self.invariant.holds.units in
+    let stored = c.self.invariant.holds.units in
     let used : n ≤ text_len_of self.scratch = omega (arith, length-take (text_len_of self.scratch) (boxed_slice_items self.scratch.text.levels)) in
-    let fits : n ≤ room_of self.scratch = omega (arith, used, held, length-take n (boxed_slice_items self.units), c.self.invariant.fits) in
+    let fits : n ≤ room_of self.scratch = omega (arith, used, stored, length-take n (boxed_slice_items self.units), c.self.invariant.fits) in
     subst (λ (r : RoomOf). size_in r ≤ r.capacity) c.self.view_is (ends self.spelled (boxed_slice_items self.starts) n (room_of self.scratch) c.self.invariant.ends fits)

@@ -7,5 +7,5 @@ abbrev pub invariant-loop-i : goal.invariant-loop-i
 invariant-loop-i l = record {
   len : length l.order ≡ length l.fn.order;
   turned : take l.i l.order ≡ map (offset_in l.self) (take l.i l.fn.order);
-  kept : (j : ℕ) → l.i ≤ j → slice_index l.order j ≡ slice_index l.fn.order j;
+  unchanged : (j : ℕ) → l.i ≤ j → slice_index l.order j ≡ slice_index l.fn.order j;
 }

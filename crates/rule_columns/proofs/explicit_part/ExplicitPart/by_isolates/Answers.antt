@@ -9,7 +9,7 @@ use Rattle.units.specs.declared.bracket.Unit.{Unit as BidiUnit}
 use Rattle.units.specs.declared.class.Class.{Class}
 use Rattle.paragraph.specs.Covering.{AreDisjoint}
 use Rattle.paragraph.proofs.AllSequences.{sequences_are_apart}
-use Rattle.sequences.proofs.FilledFrom.{found_front, level_of_para-low}
+use Rattle.sequences.proofs.FilledFrom.{computed_front, level_of_para-low}
 use Rattle.rule_columns.proofs.ExplicitParts.{explicit_from}
 use Rattle.rule_columns.proofs.explicit_part.ExplicitPart.by_isolates.Goals as goal
 
@@ -31,7 +31,7 @@ returns g c =
     let long : length c.explicit_levels.new.out ≡ length us = search rules in
     let leveled : c.explicit_levels.new.out ≡ explicit_of c.standard-limits.result.depth cs para_level =
     sym (take_all (length cs) c.explicit_levels.new.out (omega arith))
-    ∙ found_front c.standard-limits.result.depth c.explicit_levels.new.out cs para_level c.explicit_levels.ensures.found in
+    ∙ computed_front c.standard-limits.result.depth c.explicit_levels.new.out cs para_level c.explicit_levels.ensures.found in
     let P : List SequenceView → Type 0 = λ all. AreDisjoint (length us) all in
     record {
       value =

@@ -21,8 +21,8 @@ seen c =
       extent = ap (λ (s : SequenceView). s.extent) c.self.view_is;
     }
 
-answered : (c : After-get) → c.get.result ≡ link_at c.self.inside.links.now c.args.p
-answered c =
+result_is_link : (c : After-get) → c.get.result ≡ link_at c.self.inside.links.now c.args.p
+result_is_link c =
     let s = seen c in
     c.get.ensures
     ∙ c.index-links-p.is
@@ -31,9 +31,9 @@ answered c =
 pub returns-clause-successor : goal.returns-clause-successor
 returns-clause-successor c = λ t j leveled found.
     let s = seen c in
-    answered c ∙ link_is_successor c.args.self.now c.self.inside.links.now s.are s.chain c.args.p c.requires t j leveled found
+    result_is_link c ∙ link_is_successor c.args.self.now c.self.inside.links.now s.are s.chain c.args.p c.requires t j leveled found
 
 pub returns-clause-later : goal.returns-clause-later
 returns-clause-later c =
     let s = seen c in
-    rw (answered c, ← s.extent) (link_later c.args.self.now c.self.inside.links.now s.are s.chain c.args.p c.requires)
+    rw (result_is_link c, ← s.extent) (link_later c.args.self.now c.self.inside.links.now s.are s.chain c.args.p c.requires)

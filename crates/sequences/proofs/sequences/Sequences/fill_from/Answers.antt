@@ -26,7 +26,7 @@ invariant_of-self g c =
     let j' : length (boxed_slice_items old.joined) ≡ boxed_slice_len old.joined = sym (ap length c.deref_mut-3.ensures.value) ∙ c.deref_mut-3.ensures.len in
     let d' : length (boxed_slice_items old.heads) ≡ boxed_slice_len old.heads = sym (ap length c.deref_mut-4.ensures.value) ∙ c.deref_mut-4.ensures.len in
     let n' : length (boxed_slice_items old.column) ≡ boxed_slice_len old.column = sym (ap length c.deref_mut-5.ensures.value) ∙ c.deref_mut-5.ensures.len in
-    let kept : HaveLength (boxed_slice_len old.links) f.new.links f.new.ends f.new.joined f.new.heads f.new.column = record {
+    let unchanged : HaveLength (boxed_slice_len old.links) f.new.links f.new.ends f.new.joined f.new.heads f.new.column = record {
       small = omega (arith, c.self.invariant.small);
       links_fit = l;
       ends_fit = omega (arith, c.self.invariant.ends_fit);
@@ -41,7 +41,7 @@ invariant_of-self g c =
       put_back _ f.new.heads (boxed_slice_items old.heads) d,
       put_back _ f.new.column (boxed_slice_items old.column) n,
       c.len-self-inside.ensures.value,
-    ) (filled_room f.ensures.filled c.len-self-inside.ensures.leveled (boxed_slice_len old.links) f.new.ends f.new.joined kept (omega (arith, c.requires, ap (λ (s : SequencesView). s.room) c.self.view_is)))
+    ) (filled_room f.ensures.filled c.len-self-inside.ensures.leveled (boxed_slice_len old.links) f.new.ends f.new.joined unchanged (omega (arith, c.requires, ap (λ (s : SequencesView). s.room) c.self.view_is)))
 
 pub returns-clause-all : goal.returns-clause-all
 returns-clause-all g c =

@@ -45,8 +45,8 @@ invariant_of-self-2 c = numbering c
 pub returns-clause-numbering : goal.returns-clause-numbering
 returns-clause-numbering c = numbering c
 
-pub returns-clause-kept : goal.returns-clause-kept
-returns-clause-kept c =
+pub returns-clause-unchanged : goal.returns-clause-unchanged
+returns-clause-unchanged c =
     let items = λ (v : Vec ℕ Global). v.items in
     rw (← c.self.view_is) (keeps-new (read items c.self.inside.numbers.entries) (read items c.insert.new.self.entries) c.in_ok-decomposition.decomposition.items (absent c) (looks c))
 

@@ -5,8 +5,8 @@ use Rattle.ucdfiles.proofs.two_stage.TwoStage.new.Goals as goal
 pub loop-n-preserved : goal.loop-n-preserved
 loop-n-preserved g c = (
   rw c.in_ok-push.ensures.items
-      (one_more c.loop-n.n c.args.spans.now c.args.defaults.now c.args.none c.loop-n.numbers.items c.loop-n.values.items c.in_ok-number.ensures.kept.0 c.number_of.new.values.items c.fill_block.new.block c.in_ok-number.number
-      c.loop-n.invariant.0 c.in_ok-number.ensures.kept.1 c.in_ok-number.ensures.whole c.in_ok-number.ensures.most c.in_ok-number.ensures.within c.in_ok-number.ensures.block c.fill_block.ensures.values),
+      (one_more c.loop-n.n c.args.spans.now c.args.defaults.now c.args.none c.loop-n.numbers.items c.loop-n.values.items c.in_ok-number.ensures.unchanged.0 c.number_of.new.values.items c.fill_block.new.block c.in_ok-number.number
+      c.loop-n.invariant.0 c.in_ok-number.ensures.unchanged.1 c.in_ok-number.ensures.whole c.in_ok-number.ensures.most c.in_ok-number.ensures.within c.in_ok-number.ensures.block c.fill_block.ensures.values),
   c.fill_block.ensures.len,
 )
 

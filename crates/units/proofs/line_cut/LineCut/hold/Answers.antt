@@ -2,11 +2,11 @@ use Rattle.std.proofs.Common.{arith, ◌+◌, ◌<◌, ◌≤◌, length, take, 
 use Rattle.std.proofs.lemmas.List.{length-take-le}
 use Rattle.units.specs.Text.{longest_line}
 use Rattle.units.specs.LineCutting.{Cutting}
-use Rattle.units.proofs.LineStanding.{holds_over}
+use Rattle.units.proofs.LineCuttingSteps.{holds_over}
 use Rattle.units.proofs.line_cut.LineCut.hold.Goals as goal
 
-pub returns-then-text-self-clause-stands : goal.returns-then-text-self-clause-stands
-returns-then-text-self-clause-stands c =
+pub returns-then-text-self-clause-represents : goal.returns-then-text-self-clause-represents
+returns-then-text-self-clause-represents c =
     let n = c.self.inside.len in
     let fits : n ≤ length c.self.inside.buffer = omega (arith, c.self.invariant, c.self.told) in
     let over : longest_line < length (take n c.self.inside.buffer) + length c.args.text.now =

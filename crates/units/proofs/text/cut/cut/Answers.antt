@@ -8,8 +8,8 @@ returns-in-None-clause-pieces c = pieces-none (λ b. b == c.args.separator) c.ar
 pub returns-in-None-clause-before : goal.returns-in-None-clause-before
 returns-in-None-clause-before c = before_first-none (λ b. b == c.args.separator) c.args.bytes.now c.in-None.ensures
 
-pub returns-in-None-clause-behind : goal.returns-in-None-clause-behind
-returns-in-None-clause-behind c = sym (before_first-none (λ b. b == c.args.separator) c.args.bytes.now c.in-None.ensures)
+pub returns-in-None-clause-following : goal.returns-in-None-clause-following
+returns-in-None-clause-following c = sym (before_first-none (λ b. b == c.args.separator) c.args.bytes.now c.in-None.ensures)
 
 pub returns-in-Some-clause-pieces : goal.returns-in-Some-clause-pieces
 returns-in-Some-clause-pieces c = pieces-some (λ b. b == c.args.separator) c.args.bytes.now c.in-Some.at c.in-Some.ensures
@@ -17,5 +17,5 @@ returns-in-Some-clause-pieces c = pieces-some (λ b. b == c.args.separator) c.ar
 pub returns-in-Some-clause-before : goal.returns-in-Some-clause-before
 returns-in-Some-clause-before c = before_first-some (λ b. b == c.args.separator) c.args.bytes.now c.in-Some.at c.in-Some.ensures
 
-pub returns-in-Some-clause-behind : goal.returns-in-Some-clause-behind
-returns-in-Some-clause-behind c = after_first-some (λ b. b == c.args.separator) c.args.bytes.now c.in-Some.at c.in-Some.ensures
+pub returns-in-Some-clause-following : goal.returns-in-Some-clause-following
+returns-in-Some-clause-following c = after_first-some (λ b. b == c.args.separator) c.args.bytes.now c.in-Some.at c.in-Some.ensures

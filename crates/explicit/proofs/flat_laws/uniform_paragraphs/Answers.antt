@@ -1,5 +1,0 @@
-use Rattle.explicit.proofs.Staying.{resolved_levels-uniform}
-use Rattle.explicit.proofs.flat_laws.uniform_paragraphs.Goals as goal
-
-pub returns : goal.returns
-returns c = λ limits us para is. resolved_levels-uniform limits us para is.0 is.1

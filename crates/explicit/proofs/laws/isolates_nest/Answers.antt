@@ -1,5 +1,0 @@
-use Rattle.explicit.proofs.Matched.Nesting.{nest_or_apart}
-use Rattle.explicit.proofs.laws.isolates_nest.Goals as goal
-
-pub returns : goal.returns
-returns c = nest_or_apart

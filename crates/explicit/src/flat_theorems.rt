@@ -1,0 +1,39 @@
+//! Theorems about paragraphs in which most rules have nothing to do: without initiators (flat), without opening
+//! brackets, and at one level (uniform).
+ghost use Rattle.std.specs.Prelude.{◌≡◌, ℕ, List};
+ghost use Rattle.units.specs.Classes.{classes_of};
+ghost use Rattle.units.specs.Isolates.{para_level_of};
+ghost use Rattle.units.specs.Limits.{LimitsOf};
+ghost use Rattle.units.specs.declared.bracket.Unit.{Unit as BidiUnit};
+ghost use Rattle.units.specs.declared.class.Class.{Class};
+ghost use Rattle.units.specs.declared.level.Direction.{Direction};
+ghost use Rattle.explicit.specs.Flat.{IsFlat, flat_para_level};
+ghost use Rattle.explicit.specs.FlatTheorems.{HasOneSequence, ResolvesAsOne, HasIdleBrackets, IsUniform, KeepsItsLevel};
+ghost use Rattle.units.specs.Runs.{SequenceView};
+ghost use Rattle.explicit.specs.IdleRules.{HasNoOpening};
+
+/// For a paragraph without initiators, under all limits:
+/// - the first strong class gives its level (P2, P3);
+/// - the positions that remain (X9) are one sequence at that level (X1 to X10);
+/// - the levels of that sequence, computed from the own classes, are those of the paragraph (W1 to I2).
+pub fn flat_paragraphs()
+    ensures para_level { (cs : List Class) (direction : Direction) → IsFlat cs
+        → para_level_of cs direction ≡ flat_para_level cs direction }
+    ensures one_sequence { (depth : ℕ) (cs : List Class) (para_level : ℕ) → IsFlat cs
+        → HasOneSequence depth cs para_level }
+    ensures levels { (limits : LimitsOf) (us : List BidiUnit) (para_level : ℕ) → IsFlat (classes_of us)
+        → ResolvesAsOne limits us para_level }
+{}
+
+/// N0 changes nothing in a paragraph without an opening bracket, however many brackets can be open.
+pub fn idle_brackets()
+    ensures { (most_open : ℕ) (s : SequenceView) (us : List BidiUnit) → HasNoOpening us
+        → HasIdleBrackets most_open s us }
+{}
+
+/// A paragraph without initiators keeps its level at every position that remains (X9), under all limits, if its level
+/// is even and it has no R, AL and AN, or if its level is odd and it has no L, EN and AN (W1 to I2).
+pub fn uniform_paragraphs()
+    ensures { (limits : LimitsOf) (us : List BidiUnit) (para_level : ℕ) → IsUniform us para_level
+        → KeepsItsLevel limits us para_level }
+{}

@@ -1,0 +1,36 @@
+use Rattle.std.proofs.Common.{arith, sym, ◌∙◌}
+use Rattle.std.proofs.lemmas.Bool.{both_ways}
+use Rattle.units.specs.Classes.{classes_of, is_removed}
+use Rattle.paragraph.proofs.FlatLevels.{flat_from, none_from, remaining_few}
+use Rattle.paragraph.proofs.fast_paths.find_sequences.Goals as goal
+
+pub fill_flat-requires-clause-flat : goal.fill_flat-requires-clause-flat
+fill_flat-requires-clause-flat g c =
+    flat_from (classes_of c.args.para.now) (sym (c.is_flat.ensures (classes_of c.args.para.now) c.requires.contents) ∙ c.if-is_flat.true)
+
+pub fill_flat-requires-clause-all_remain : goal.fill_flat-requires-clause-all_remain
+fill_flat-requires-clause-all_remain g c = λ e.
+    none_from is_removed (classes_of c.args.para.now) (sym (c.all_remain.ensures (classes_of c.args.para.now) c.requires.contents) ∙ e)
+
+pub returns-then-is_flat-clause-levels : goal.returns-then-is_flat-clause-levels
+returns-then-is_flat-clause-levels g c = λ deep.
+    absurd (both_ways c.is_flat.result (c.is_flat.ensures (classes_of c.args.para.now) c.requires.contents ∙ deep) c.if-is_flat.true)
+
+pub returns-then-is_flat-clause-all : goal.returns-then-is_flat-clause-all
+returns-then-is_flat-clause-all g c = c.fill_flat.ensures.all c.args.limits.depth
+
+pub returns-then-is_flat-clause-at_most : goal.returns-then-is_flat-clause-at_most
+returns-then-is_flat-clause-at_most g c = omega (arith, remaining_few c.args.para.now)
+
+pub returns-clause-levels : goal.returns-clause-levels
+returns-clause-levels g c = λ deep. c.explicit_levels.ensures.found
+
+pub fill-requires-clause-levels : goal.fill-requires-clause-levels
+fill-requires-clause-levels g c = record {
+  depth = c.args.limits.depth;
+  within = omega arith;
+  found = c.explicit_levels.ensures.found;
+}
+
+pub returns-clause-all : goal.returns-clause-all
+returns-clause-all g c = c.fill.ensures.all c.args.limits.depth c.explicit_levels.ensures.found

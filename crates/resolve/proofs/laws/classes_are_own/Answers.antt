@@ -1,5 +1,0 @@
-use Rattle.resolve.proofs.OwnClasses.{current-own}
-use Rattle.resolve.proofs.laws.classes_are_own.Goals as goal
-
-pub returns : goal.returns
-returns c = current-own

@@ -1,5 +1,0 @@
-use Rattle.resolve.proofs.Depth.{pairs_are_shallow as lemma}
-use Rattle.resolve.proofs.laws.pairs_are_shallow.Goals as goal
-
-pub returns : goal.returns
-returns c = lemma

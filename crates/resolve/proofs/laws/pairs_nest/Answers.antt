@@ -1,5 +1,0 @@
-use Rattle.resolve.proofs.Nesting.{pairs_nest as lemma}
-use Rattle.resolve.proofs.laws.pairs_nest.Goals as goal
-
-pub returns : goal.returns
-returns c = lemma

@@ -1,5 +1,0 @@
-use Rattle.resolve.proofs.InOrder.{resolved-in-order}
-use Rattle.resolve.proofs.laws.rules_in_order.Goals as goal
-
-pub returns : goal.returns
-returns c = resolved-in-order

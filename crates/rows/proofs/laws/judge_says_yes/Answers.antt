@@ -1,5 +1,0 @@
-use Rattle.rows.proofs.Judged.{judged-yes}
-use Rattle.rows.proofs.laws.judge_says_yes.Goals as goal
-
-pub returns : goal.returns
-returns c = λ limits kind cases deep rows. judged-yes limits kind cases deep rows

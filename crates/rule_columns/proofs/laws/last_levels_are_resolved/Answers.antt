@@ -1,5 +1,0 @@
-use Rattle.rule_columns.proofs.LastLevels.{last_levels}
-use Rattle.rule_columns.proofs.laws.last_levels_are_resolved.Goals as goal
-
-pub returns : goal.returns
-returns c = last_levels

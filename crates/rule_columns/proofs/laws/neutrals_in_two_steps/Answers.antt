@@ -1,5 +1,0 @@
-use Rattle.rule_columns.proofs.NeutralSteps.{in_two_steps}
-use Rattle.rule_columns.proofs.laws.neutrals_in_two_steps.Goals as goal
-
-pub returns : goal.returns
-returns c = in_two_steps
