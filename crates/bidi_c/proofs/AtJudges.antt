@@ -9,10 +9,12 @@ use Rattle.bidi_c.specs.JudgesAt.{AtJudge, EndsJudge, Finishes, IsItsVerdict}
 use Rattle.bidi_c.specs.declared.contents.Contents.{Contents}
 
 module _ {IsSo : TableJudge → TableJudge → Type 0} where
-  pub no_judge : {old new : Option Contents} {status : ℕ} → judge_in old ≡ None → new ≡ old → status ≡ 16 → ReturnsStatus (AtJudge IsSo old new) status
+  pub no_judge : {old new : Option Contents} {status : ℕ} → judge_in old ≡ None → new ≡ old → status ≡ 16 →
+      ReturnsStatus (AtJudge IsSo old new) status
   no_judge none same coded = record { outcome = Err NoJudge; coded = coded; so = record { at = rw none (refl, same) } }
 
 module _ {old new : Option Contents} {before after : BidiVerdict} {status : ℕ} where
-  pub none_to_end : judge_in old ≡ None → new ≡ old → after ≡ before → status ≡ 16 → ReturnsStatus (EndsJudge old new before after) status
+  pub none_to_end : judge_in old ≡ None → new ≡ old → after ≡ before → status ≡ 16 →
+      ReturnsStatus (EndsJudge old new before after) status
   none_to_end none same kept coded =
       record { outcome = Err NoJudge; coded = coded; so = record { at = rw none (refl, same, kept) } }

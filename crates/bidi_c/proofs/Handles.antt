@@ -75,7 +75,18 @@ contents_drops = impl ("bidi_c::bidi_c++contents++Contents+Destruct::drop" ∷ [
 
 -- the box of the contents
 abbrev pub E : Bx
-E = record { row = R; laws = inner_lemmas.the_row_laws; al = record { row = Z; laws = heap_laws.the_row_laws; g = ghosts; d = dict; drops = none_drops } }
+E = record {
+  row = R;
+  laws = inner_lemmas.the_row_laws;
+  al = record {
+    row = Z;
+    laws = heap_laws.the_row_laws;
+    g =
+        ghosts;
+    d = dict;
+    drops = none_drops;
+  };
+}
 
 pub by_some : {X : Type 0} {Y : Type 1} (o : Option X) → IsSome o → ((x : X) → o ≡ Some x → Y) → Y
 by_some None i k = absurd (true≢false (sym i))
@@ -98,49 +109,79 @@ some_good b o h fits = (and_tt (has_ty (layout Z) h) fits.0, (tt, (fits.1, tt)))
 
 module _ {M : Type 1} {𝓤 : Ura M} {𝓛 : Logic 𝓤} {K : Type 0} {Γ : List (Item 𝓤)} {G : Goal 𝓤 𝓛.H} where
   pub handle_out : K → (d : Hd.Denot) (x : R.Denot) → d.value ≡ Some x → (vs : List Val)
-      → ((b o : ℕ) (h : Val) → d.at ≡ block_ptr b o → vs ≡ both (vptr b o) h ∷ [] → Good (layout Z) h → Seq K 𝓛 (‵ (box_owns (ghosts.dealloc_token d.alloc) R (block_ptr b o) x) ∷ ‵ (Z.own_val d.alloc (h ∷ [])) ∷ Γ) G)
+      → ((b o : ℕ) (h : Val) → d.at ≡ block_ptr b o → vs ≡ both (vptr b o) h ∷ [] → Good (layout Z) h →
+      Seq K 𝓛 (‵ (box_owns (ghosts.dealloc_token d.alloc) R (block_ptr b o) x) ∷ ‵ (Z.own_val d.alloc (h ∷ [])) ∷
+      Γ) G)
       → Seq K 𝓛 (‵ (Hd.own_val d vs) ∷ Γ) G
   handle_out t d x is vs k =
-      fsplit t $ fpick t (λ vss. fsplit t $ feq_l t (λ ev. fsplit t $ feq_l t (λ ep. fsplit t $ handle_tells E.al t d.alloc vss.1.0 (λ h ea fits. move t (1 ∷ []) $ drop t $ move t (1 ∷ []) $
+      fsplit t $ fpick t (λ vss. fsplit t $
+      feq_l t (λ ev. fsplit t $
+      feq_l t (λ ep. fsplit t $ handle_tells E.al t d.alloc vss.1.0 (λ h ea fits. move t (1 ∷ []) $ drop t $
+      move t (1 ∷ []) $
       rewrite t 0 (λ (v : Option R.Denot). ‵ (kept R d.alloc d.at v)) is refl $
-      in_a_block t d.at (λ p. box_owns (ghosts.dealloc_token d.alloc) R p x) (fst∗ 𝓤 (never 𝓤) (sem 𝓛 (ghosts.dealloc_token d.alloc (bare (lone R.mir)) null_ptr))) (λ b o e. k b o h e
+      in_a_block t d.at (λ p. box_owns (ghosts.dealloc_token d.alloc) R p x)
+      (fst∗ 𝓤 (never 𝓤) (sem 𝓛 (ghosts.dealloc_token d.alloc (bare (lone R.mir)) null_ptr))) (λ b o e. k b o h e
       (subst (λ (p : Ptr). vs ≡ vstruct (of_list (ptr_val p ∷ h ∷ [])) ∷ []) e
-      (subst (λ (ws : List Val). vs ≡ vstruct (of_list (ptr_val d.at ∷ (ws ++ []))) ∷ []) ea (subst (λ (ps : List Val). vs ≡ vstruct (of_list (ps ++ (vss.1.0 ++ []))) ∷ []) ep ev))) fits)))))
+      (subst (λ (ws : List Val). vs ≡ vstruct (of_list (ptr_val d.at ∷ (ws ++ []))) ∷ []) ea (subst (λ (ps : List Val).
+      vs ≡ vstruct (of_list (ps ++ (vss.1.0 ++ []))) ∷ []) ep ev))) fits)))))
 
   pub handle_in : K → (b o : ℕ) (h : Val) (a : Global) (x : R.Denot)
-      → Step K 𝓛 (‵ (Hd.own_val (record { at = block_ptr b o; alloc = a; value = Some x }) (both (vptr b o) h ∷ [])) ∷ Γ) G (‵ (box_owns (ghosts.dealloc_token a) R (block_ptr b o) x) ∷ ‵ (Z.own_val a (h ∷ [])) ∷ Γ) G
+      → Step K 𝓛 (‵ (Hd.own_val (record { at = block_ptr b o; alloc = a; value = Some x }) (both (vptr b o) h ∷ [])) ∷
+      Γ) G (‵ (box_owns (ghosts.dealloc_token a) R (block_ptr b o) x) ∷ ‵ (Z.own_val a (h ∷ [])) ∷ Γ) G
   handle_in t b o h a x = step (λ s. let v : Val = both (vptr b o) h in
-      nothing t $ move t (2 ∷ 0 ∷ []) $ fjoin t $ feq_i t (List Val) (vptr b o ∷ []) (vptr b o ∷ []) refl $ fjoin t $ feq_i t (List Val) (v ∷ []) (v ∷ []) refl $ fjoin t $
-      fpack t (Valss (fields outer.the_type)) (within (shape outer.the_type) (to outer.the_type (record { at = block_ptr b o; alloc = a; value = Some x })) (v ∷ [])) (vptr b o ∷ [], (h ∷ [], tt)) $ fjoin t $ s)
+      nothing t $ move t (2 ∷ 0 ∷ []) $ fjoin t $ feq_i t (List Val) (vptr b o ∷ []) (vptr b o ∷ []) refl $ fjoin t $
+      feq_i t (List Val) (v ∷ []) (v ∷ []) refl $ fjoin t $
+      fpack t (Valss (fields outer.the_type)) (within (shape outer.the_type) (to outer.the_type (record {
+        at =
+            block_ptr b o;
+        alloc = a;
+        value = Some x;
+      })) (v ∷ [])) (vptr b o ∷ [], (h ∷ [], tt)) $ fjoin t $ s)
 
   pub handle_none : K → (h : Val) (a : Global)
-      → Step K 𝓛 (‵ (Hd.own_val (record { at = null_ptr; alloc = a; value = None }) (both vnull h ∷ [])) ∷ Γ) G (‵ (Z.own_val a (h ∷ [])) ∷ Γ) G
+      → Step K 𝓛 (‵ (Hd.own_val (record { at = null_ptr; alloc = a; value = None }) (both vnull h ∷ [])) ∷ Γ) G
+      (‵ (Z.own_val a (h ∷ [])) ∷ Γ) G
   handle_none t h a = step (λ s. let v : Val = both vnull h in
-      nothing t $ nothing t $ move t (2 ∷ 0 ∷ []) $ fjoin t $ feq_i t (List Val) (vnull ∷ []) (vnull ∷ []) refl $ fjoin t $ feq_i t (List Val) (v ∷ []) (v ∷ []) refl $ fjoin t $
-      fpack t (Valss (fields outer.the_type)) (within (shape outer.the_type) (to outer.the_type (record { at = null_ptr; alloc = a; value = None })) (v ∷ [])) (vnull ∷ [], (h ∷ [], tt)) $ fjoin t $ s)
+      nothing t $ nothing t $ move t (2 ∷ 0 ∷ []) $ fjoin t $ feq_i t (List Val) (vnull ∷ []) (vnull ∷ []) refl $
+      fjoin t $ feq_i t (List Val) (v ∷ []) (v ∷ []) refl $ fjoin t $
+      fpack t (Valss (fields outer.the_type)) (within (shape outer.the_type) (to outer.the_type (record {
+        at = null_ptr;
+        alloc = a;
+        value = None;
+      })) (v ∷ [])) (vnull ∷ [], (h ∷ [], tt)) $ fjoin t $ s)
 
 module _ {M : Type 1} {𝓤 : Ura M} {𝓛 : Logic 𝓤} {K : Type 0} {Γ : List (Item 𝓤)} {G : Goal 𝓤 𝓛.H} where
   -- the words of the pointer's owner are one value
-  handle_word : K → (d : Hd.Denot) (vs : List Val) → ((v : Val) → vs ≡ v ∷ [] → Seq K 𝓛 (‵ (Hd.own_val d vs) ∷ Γ) G) → Seq K 𝓛 (‵ (Hd.own_val d vs) ∷ Γ) G
+  handle_word : K → (d : Hd.Denot) (vs : List Val) → ((v : Val) → vs ≡ v ∷ [] → Seq K 𝓛 (‵ (Hd.own_val d vs) ∷ Γ) G) →
+      Seq K 𝓛 (‵ (Hd.own_val d vs) ∷ Γ) G
   handle_word t d vs k =
-      fsplit t $ fpick t (λ vss. fsplit t $ feq_l t (λ ev. let v : Val = vstruct (of_list (flat (fields outer.the_type) vss)) in
-      feq_i t (List Val) vs (v ∷ []) ev $ fjoin t $ fpack t (Valss (fields outer.the_type)) (within (shape outer.the_type) (to outer.the_type d) vs) vss $ fjoin t $ k v ev))
+      fsplit t $ fpick t (λ vss. fsplit t $
+      feq_l t (λ ev. let v : Val = vstruct (of_list (flat (fields outer.the_type) vss)) in
+      feq_i t (List Val) vs (v ∷ []) ev $ fjoin t $
+      fpack t (Valss (fields outer.the_type)) (within (shape outer.the_type) (to outer.the_type d) vs) vss $
+      fjoin t $ k v ev))
 
   -- a handle is made of its pointer's owner and its flag
   pub bidi_in : K → (d : Bh.Denot) (v : Val)
       → Step K 𝓛 (‵ (Bh.own_val d (both v (vbool d.made) ∷ [])) ∷ Γ) G (‵ (Hd.own_val d.handle (v ∷ [])) ∷ Γ) G
   bidi_in t d v = step (λ s. let w : Val = both v (vbool d.made) in
-      nothing t $ feq_i t (List Val) (vbool d.made ∷ []) (vbool d.made ∷ []) refl $ fjoin t $ move t (1 ∷ 0 ∷ []) $ fjoin t $ feq_i t (List Val) (w ∷ []) (w ∷ []) refl $ fjoin t $
-      fpack t (Valss (declared.fields bidi.the_type)) (within (declared.shape bidi.the_type) (bidi.the_type.to d) (w ∷ [])) (v ∷ [], (vbool d.made ∷ [], tt)) $ s)
+      nothing t $ feq_i t (List Val) (vbool d.made ∷ []) (vbool d.made ∷ []) refl $ fjoin t $ move t (1 ∷ 0 ∷ []) $
+      fjoin t $ feq_i t (List Val) (w ∷ []) (w ∷ []) refl $ fjoin t $
+      fpack t (Valss (declared.fields bidi.the_type)) (within (declared.shape bidi.the_type) (bidi.the_type.to d)
+      (w ∷ [])) (v ∷ [], (vbool d.made ∷ [], tt)) $ s)
 
 module _ {M : Type 1} {𝓤 : Ura M} {𝓛 : Logic 𝓤} {K : Type 0} {Γ : List (Item 𝓤)} {G : Goal 𝓤 𝓛.H} where
   -- opens a handle: gives the pointer's owner, the handle's words, the open borrow, and what is observed of it, twice
   pub bidi_opens : K → Soaks G → {κ : Lft} {q : Share} {γ : GName} (d : Bh.Denot) (rb ro : ℕ)
-      → ((v : Val) → Seq K 𝓛 (‵ (Hd.own_val d.handle (v ∷ [])) ∷ ‵ (cell_at full_share Bh.mir (both v (vbool d.made) ∷ []) rb ro)
+      → ((v : Val) → Seq K 𝓛 (‵ (Hd.own_val d.handle (v ∷ [])) ∷
+      ‵ (cell_at full_share Bh.mir (both v (vbool d.made) ∷ []) rb ro)
       ∷ ‵ (fobor κ q (Borrowed (mem Bh) rb ro γ)) ∷ ‵ (fobs γ (Bh.coded.code d)) ∷ ‵ (fauth γ (Bh.coded.code d)) ∷ Γ) G)
       → Seq K 𝓛 (‵ (fobs γ (Bh.coded.code d)) ∷ ‵ (fbor κ (Borrowed (mem Bh) rb ro γ)) ∷ ‵ (flft κ q) ∷ Γ) G
   bidi_opens t z d rb ro k =
-      opens t z Bh {h = d} rb ro (λ vs. move t (1 ∷ []) $ fpick t (λ vss. fsplit t $ feq_l t (λ ev. fsplit t $ handle_word t d.handle vss.0 (λ v ew.
-      move t (1 ∷ []) $ fsplit t $ feq_l t (λ em. drop t $ rewrite t 0 (λ (us : List Val). ‵ (Hd.own_val d.handle us)) ew refl $
+      opens t z Bh {h = d} rb ro (λ vs. move t (1 ∷ []) $
+      fpick t (λ vss. fsplit t $ feq_l t (λ ev. fsplit t $ handle_word t d.handle vss.0 (λ v ew.
+      move t (1 ∷ []) $ fsplit t $
+      feq_l t (λ em. drop t $ rewrite t 0 (λ (us : List Val). ‵ (Hd.own_val d.handle us)) ew refl $
       rewrite t 1 (λ (us : List Val). ‵ (cell_at full_share Bh.mir us rb ro))
-      (subst (λ (ws : List Val). vs ≡ vstruct (of_list (ws ++ (vbool d.made ∷ []))) ∷ []) ew (subst (λ (ms : List Val). vs ≡ vstruct (of_list (vss.0 ++ (ms ++ []))) ∷ []) em ev)) refl $ k v)))))
+      (subst (λ (ws : List Val). vs ≡ vstruct (of_list (ws ++ (vbool d.made ∷ []))) ∷ []) ew (subst (λ (ms : List Val).
+      vs ≡ vstruct (of_list (vss.0 ++ (ms ++ []))) ∷ []) em ev)) refl $ k v)))))

@@ -16,7 +16,8 @@ abbrev pub Fails : {A : Type 0} → CallError → A → A → Outcome → Type 0
 Fails error old new outcome = (new ≡ old) × (outcome ≡ Err error)
 
 -- a call that needs a value fails without it; with the value `IsSo` holds
-pub record Needs {V A : Type 0} (error : CallError) (value : Option V) (IsSo : V → A → A → Outcome → Type 0) (old new : A) (outcome : Outcome) : Type 0 where
+pub record Needs {V A : Type 0} (error : CallError) (value : Option V) (IsSo : V → A → A → Outcome →
+    Type 0) (old new : A) (outcome : Outcome) : Type 0 where
   pub so : MatchOption value (Fails error old new outcome) (λ v. IsSo v old new outcome)
 
 -- a call that needs tables
@@ -32,13 +33,15 @@ abbrev pub UnderDirection : {A : Type 0} → ℕ → (Direction → A → A → 
 UnderDirection number IsSo old new outcome = Needs NoDirection (direction_numbered number) IsSo old new outcome
 
 -- a call that needs a room of a kind, and changes it
-pub record AtRoom (encodes : Bool) (IsSo : RoomOf → RoomOf → Outcome → Type 0) (old new : Option Contents) (outcome : Outcome) : Type 0 where
+pub record AtRoom (encodes : Bool) (IsSo : RoomOf → RoomOf → Outcome →
+    Type 0) (old new : Option Contents) (outcome : Outcome) : Type 0 where
   pub so : MatchOption (room_for encodes old) (Fails NoRoom old new outcome)
       (λ room. (last : RoomOf) × (new ≡ Some (Room last)) × IsSo room last outcome)
 
 -- a call that needs a room of a kind, which it changes, and tables: if one of the handles is empty, it fails for that
 -- first
-abbrev pub AtBoth : Bool → Option Contents → (TablesOf → RoomOf → RoomOf → Outcome → Type 0) → Option Contents → Option Contents → Outcome → Type 0
+abbrev pub AtBoth : Bool → Option Contents → (TablesOf → RoomOf → RoomOf → Outcome → Type 0) → Option Contents →
+    Option Contents → Outcome → Type 0
 AtBoth encodes tables IsSo None new outcome = Fails NoRoom None new outcome
 AtBoth encodes None IsSo (Some contents) new outcome = Fails NoTables (Some contents) new outcome
 AtBoth encodes (Some tables) IsSo (Some contents) new outcome =

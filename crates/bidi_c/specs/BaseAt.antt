@@ -8,7 +8,8 @@ use Rattle.for_c.specs.declared.call_error.CallError.TheVariants.{NoTables}
 use Rattle.bidi_c.specs.AtHandles.{AtTables, Fails}
 
 -- they are written and counted, if there are tables; else the call fails, and nothing is written
-pub record PutsBaseLevelsAt (tables : Option TablesOf) (source : SourceOf) (number : ℕ) (levels levels2 : List ℕ) (count count2 : ℕ) (outcome : Outcome) : Type 0 where
+pub record PutsBaseLevelsAt (tables : Option TablesOf) (source : SourceOf) (number : ℕ) (levels levels2 : List ℕ)
+    (count count2 : ℕ) (outcome : Outcome) : Type 0 where
   pub so : MatchOption tables (Fails {A = List ℕ × ℕ} NoTables (levels, count) (levels2, count2) outcome)
       (λ by. PutsBaseLevels by source number levels levels2 count count2 outcome)
 

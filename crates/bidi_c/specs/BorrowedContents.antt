@@ -14,7 +14,12 @@ with_contents owner last = record { at = owner.at; alloc = owner.alloc; value = 
 
 -- the handle with these contents in place of its own
 abbrev pub holding : BidiHandle → Contents → BidiHandle
-holding kept last = record { handle = with_contents kept.handle last; made = true; made_iff_some = (λ _. refl, λ _. refl) }
+holding kept last = record {
+  handle = with_contents kept.handle last;
+  made = true;
+  made_iff_some =
+      (λ _. refl, λ _. refl);
+}
 
 -- the handle ends with the last contents that the borrower wrote, or unchanged if nothing was borrowed
 abbrev pub BorrowsContentsIf : MutBor BidiHandle → Option (MutBor Contents) → Fml
@@ -22,4 +27,5 @@ BorrowsContentsIf kept borrowed = LendsIf bidi_handle.the_row contents.the_row k
 
 -- the handle ends unchanged
 abbrev pub EndsUnchanged : MutBor BidiHandle → Fml
-EndsUnchanged kept = follows_so bidi_handle.the_row bidi_handle.the_row kept.ghost_name none (λ _ _. ⊤) (λ last. last ≡ kept.now)
+EndsUnchanged kept = follows_so bidi_handle.the_row bidi_handle.the_row kept.ghost_name none (λ _ _. ⊤) (λ last.
+    last ≡ kept.now)

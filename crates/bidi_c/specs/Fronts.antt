@@ -17,7 +17,8 @@ use Rattle.bidi_c.specs.LayingOut.{LaysOutUnder}
 use Rattle.bidi_c.specs.declared.contents.Contents.{Contents}
 
 -- the classes and brackets of code points are written, if there are tables; else the call fails, and nothing is written
-pub record PutsPropertiesAt (tables : Option TablesOf) (codes classes classes2 brackets brackets2 : List ℕ) (outcome : Outcome) : Type 0 where
+pub record PutsPropertiesAt (tables : Option TablesOf) (codes classes classes2 brackets brackets2 : List ℕ)
+    (outcome : Outcome) : Type 0 where
   pub so : MatchOption tables (Fails {A = List ℕ × List ℕ} NoTables (classes, brackets) (classes2, brackets2) outcome)
       (λ by. PutsProperties by codes classes classes2 brackets brackets2 outcome)
 
@@ -37,7 +38,9 @@ WritesWholeLevelsAt (Some room) counted old new = WritesWholeLevels room counted
 WritesWholeLevelsAt None counted old new = WritesNothing counted old new
 
 -- P1 to L2: of a call that lays out a text of units, given as numbers; it needs no tables
-abbrev pub LaysOutUnits : List NumberedUnit → LimitsOf → ℕ → List ℕ → Option Contents → Option Contents → Outcome → Type 0
+abbrev pub LaysOutUnits : List NumberedUnit → LimitsOf → ℕ → List ℕ → Option Contents → Option Contents → Outcome →
+    Type 0
 LaysOutUnits numbered limits number breaks old new outcome =
-    AtRoom false (λ room last outcome. (tables : TablesOf) → LaysOutUnder (Units numbered) limits number breaks tables room last outcome)
+    AtRoom false (λ room last outcome. (tables : TablesOf) →
+    LaysOutUnder (Units numbered) limits number breaks tables room last outcome)
     old new outcome

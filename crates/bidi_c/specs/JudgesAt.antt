@@ -19,19 +19,24 @@ OfJudge contents IsSo = MatchOption (judge_in contents) ⊥ IsSo
 
 -- the contents of a handle after a call that makes a judge with these tables, or without tables, and limits
 abbrev pub MakesJudge : Option TablesOf → LimitsOf → Option Contents → Option Contents → Outcome → Type 0
-MakesJudge tables limits old new outcome = Puts (λ contents. OfJudge contents (λ judge. HasTaken limits judge tables [])) (λ error. error ≡ Memory) old new outcome
+MakesJudge tables limits old new outcome =
+    Puts (λ contents. OfJudge contents (λ judge. HasTaken limits judge tables [])) (λ error.
+    error ≡ Memory) old new outcome
 
 -- the contents of a handle after a call that makes a judge of a BidiCharacterTest.txt with these limits and the tables
 -- of another handle, if that has tables
 abbrev pub MakesTableJudge : Option Contents → LimitsOf → Option Contents → Option Contents → Outcome → Type 0
 MakesTableJudge tables limits old new outcome =
-    Puts (λ contents. IsSome (tables_in tables) × OfJudge contents (λ judge. HasTaken limits judge (tables_in tables) [])) (RejectsSharing tables) old new outcome
+    Puts (λ contents. IsSome (tables_in tables) ×
+    OfJudge contents (λ judge. HasTaken limits judge (tables_in tables) [])) (RejectsSharing tables) old new outcome
 
 -- a call on the judge of a handle: it succeeds, `IsSo` holds of the judge before and after, and only the judge changes;
 -- without a judge it fails, and the handle is unchanged
-pub record AtJudge (IsSo : TableJudge → TableJudge → Type 0) (old new : Option Contents) (outcome : Outcome) : Type 0 where
+pub record AtJudge (IsSo : TableJudge → TableJudge →
+    Type 0) (old new : Option Contents) (outcome : Outcome) : Type 0 where
   pub at : MatchOption (judge_in old) ((outcome ≡ Err NoJudge) × (new ≡ old))
-      (λ judge. (outcome ≡ Ok tt) × ((last : TableJudge) × (new ≡ option_map (λ contents. with_judge contents last) old) × IsSo judge last))
+      (λ judge. (outcome ≡ Ok tt) ×
+      ((last : TableJudge) × (new ≡ option_map (λ contents. with_judge contents last) old) × IsSo judge last))
 
 -- the numbers encode the verdict on all bytes that the judge has taken
 abbrev pub IsItsVerdict : TableJudge → BidiVerdict → Type 0

@@ -21,20 +21,32 @@ needs_offsets (Utf16 units faults) = true
 -- P1 to L2: a room lays out a text with tables, under the direction with this number
 abbrev pub LaysOutUnder : SourceOf → LimitsOf → ℕ → List ℕ → TablesOf → RoomOf → RoomOf → Outcome → Type 0
 LaysOutUnder source limits number breaks tables =
-    UnderDirection number (λ direction. LaysOut (record { source = source; direction = direction; breaks = breaks; limits = limits }) tables)
+    UnderDirection number (λ direction. LaysOut (record {
+      source = source;
+      direction = direction;
+      breaks = breaks;
+      limits = limits;
+    }) tables)
 
 -- P1 to L2: the contents of the handle of a room before and after a call that lays out a text
-abbrev pub LaysOutText : SourceOf → LimitsOf → ℕ → List ℕ → Option Contents → Option Contents → Option Contents → Outcome → Type 0
+abbrev pub LaysOutText : SourceOf → LimitsOf → ℕ → List ℕ → Option Contents → Option Contents → Option Contents →
+    Outcome → Type 0
 LaysOutText source limits number breaks tables old new outcome =
     AtBoth (needs_offsets source) tables (LaysOutUnder source limits number breaks) old new outcome
 
 -- P1 to L2: of a call that lays out a text of classes, given as numbers; it needs no tables
 abbrev pub LaysOutClasses : List ℕ → LimitsOf → ℕ → List ℕ → Option Contents → Option Contents → Outcome → Type 0
 LaysOutClasses numbers limits number breaks old new outcome =
-    AtRoom false (λ room last outcome. (tables : TablesOf) → LaysOutUnder (Classes numbers) limits number breaks tables room last outcome)
+    AtRoom false (λ room last outcome. (tables : TablesOf) →
+    LaysOutUnder (Classes numbers) limits number breaks tables room last outcome)
     old new outcome
 
 -- L1, L2: one line alone of the text of a room is written; without a room the call fails, and nothing is written
-pub record AtLineOf (room : Option RoomOf) (start end : ℕ) (levels levels2 order order2 : List ℕ) (shown shown2 : ℕ) (outcome : Outcome) : Type 0 where
-  pub so : MatchOption room (Fails {A = List ℕ × List ℕ × ℕ} NoRoom (levels, order, shown) (levels2, order2, shown2) outcome)
+pub record AtLineOf (room : Option RoomOf) (start end : ℕ) (levels levels2 order order2 : List ℕ) (shown shown2 : ℕ)
+    (outcome : Outcome) : Type 0 where
+  pub so : MatchOption room (Fails {A = List ℕ × List ℕ × ℕ} NoRoom (levels, order, shown) (
+    levels2,
+    order2,
+    shown2,
+  ) outcome)
       (λ room. PutsLineOf room start end levels levels2 order order2 shown shown2 outcome)

@@ -15,7 +15,8 @@ HaveTables contents classes brackets mirrors = MatchOption (tables_in contents) 
 -- the contents of a handle after a call that makes tables from files with these bytes
 abbrev pub MakesTables : List ℕ → List ℕ → List ℕ → Option Contents → Option Contents → Outcome → Type 0
 MakesTables classes brackets mirrors old new outcome =
-    Puts (λ contents. HaveTables contents classes brackets mirrors) (RejectsTables classes brackets mirrors) old new outcome
+    Puts (λ contents. HaveTables contents classes brackets mirrors) (RejectsTables classes brackets mirrors) old new
+    outcome
 
 -- the mirrored character of a character, or the character itself if it has none
 abbrev pub image_by : Option TablesOf → ℕ → ℕ

@@ -14,4 +14,5 @@ RejectsSharing contents error =
 -- the contents of a handle after a call that gives it the tables of another one
 abbrev pub SharesTables : Option Contents → Option Contents → Option Contents → Outcome → Type 0
 SharesTables tables old new outcome =
-    Puts (λ contents. IsSome (tables_in tables) × (tables_in contents ≡ tables_in tables)) (RejectsSharing tables) old new outcome
+    Puts (λ contents. IsSome (tables_in tables) ×
+    (tables_in contents ≡ tables_in tables)) (RejectsSharing tables) old new outcome

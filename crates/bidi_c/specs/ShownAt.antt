@@ -10,6 +10,8 @@ WritesShownAt (Some room) (Some tables) codes k counted old new = WritesShownIf 
 WritesShownAt _ _ codes k counted old new = WritesNothing counted old new
 
 -- L4: the same in the code units of the text
-abbrev pub WritesUnitsAt : (TablesOf → RoomOf → List ℕ → ℕ → List ℕ) → Option RoomOf → Option TablesOf → List ℕ → ℕ → ℕ → List ℕ → List ℕ → Type 0
-WritesUnitsAt shown_units (Some room) (Some tables) text k counted old new = WritesUnitsIf shown_units tables room text k counted old new
+abbrev pub WritesUnitsAt : (TablesOf → RoomOf → List ℕ → ℕ → List ℕ) → Option RoomOf → Option TablesOf → List ℕ → ℕ →
+    ℕ → List ℕ → List ℕ → Type 0
+WritesUnitsAt shown_units (Some room) (Some tables) text k counted old new =
+    WritesUnitsIf shown_units tables room text k counted old new
 WritesUnitsAt _ _ _ _ _ counted old new = WritesNothing counted old new

@@ -95,7 +95,8 @@ pub extern "C" fn bidi_base_levels(
     place: &mut u64,
 ) -> u32
     ensures tables { contents_at tables.new ≡ contents_at tables.old }
-    ensures levels { ReturnsStatusNaming place_named (PutsBaseLevelsAt (tables_at tables.old) (Codes codes.now) direction
+    ensures levels { ReturnsStatusNaming place_named
+        (PutsBaseLevelsAt (tables_at tables.old) (Codes codes.now) direction
         levels.old levels.new count.old count.new) result place.old place.new }
 {
     let source = Source::Codes(codes);
@@ -131,7 +132,8 @@ pub extern "C" fn bidi_base_level_utf8(
     place: &mut u64,
 ) -> u32
     ensures tables { contents_at tables.new ≡ contents_at tables.old }
-    ensures level { ReturnsStatusNaming place_named (PutsBaseLevelAt (tables_at tables.old) (Utf8 text.now Rejected) direction
+    ensures level { ReturnsStatusNaming place_named
+        (PutsBaseLevelAt (tables_at tables.old) (Utf8 text.now Rejected) direction
         level.old level.new) result place.old place.new }
 {
     let source = Source::Utf8(text, Faults::Rejected);
@@ -187,7 +189,8 @@ pub extern "C" fn bidi_base_level_utf16(
     place: &mut u64,
 ) -> u32
     ensures tables { contents_at tables.new ≡ contents_at tables.old }
-    ensures level { ReturnsStatusNaming place_named (PutsBaseLevelAt (tables_at tables.old) (Utf16 text.now Rejected) direction
+    ensures level { ReturnsStatusNaming place_named
+        (PutsBaseLevelAt (tables_at tables.old) (Utf16 text.now Rejected) direction
         level.old level.new) result place.old place.new }
 {
     let source = Source::Utf16(text, Faults::Rejected);

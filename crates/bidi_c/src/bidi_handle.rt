@@ -4,8 +4,8 @@ ghost use Rattle.std.specs.Borrow.{sem};
 ghost use Rattle.for_c.specs.Statuses.{Puts};
 ghost use Rattle.for_c.specs.declared.call_error.CallError.TheVariants.{Memory};
 
-use crate::handle::Handle;
 use crate::contents::Contents;
+use crate::handle::Handle;
 use for_c::call_error::CallError;
 use std::alloc::Global;
 use ucdfiles::tables::Tables;
@@ -72,7 +72,8 @@ impl BidiHandle {
         *self = BidiHandle::none(alloc);
     }
 
-    /// Replaces its contents by `contents`, and frees what it contained before. Fails with `Memory`; then it is unchanged.
+    /// Replaces its contents by `contents`, and frees what it contained before. Fails with `Memory`; then it is
+    /// unchanged.
     pub(crate) fn hold(&mut self, alloc: Global, contents: Contents) -> Result<(), CallError>
         ensures { Puts (λ new. new ≡ Some contents) (λ error. error ≡ Memory) self.old.handle.value
             self.new.handle.value result }

@@ -224,7 +224,8 @@ pub extern "C" fn bidi_encoded_set_lines(
     breaks: &[usize],
     place: &mut u64,
 ) -> u32
-    ensures { ReturnsStatusNaming place_named (AtRoom true (SetsLines breaks.now) (contents_at room.old) (contents_at room.new))
+    ensures { ReturnsStatusNaming place_named (AtRoom true (SetsLines breaks.now) (contents_at room.old)
+        (contents_at room.new))
         result place.old place.new }
 {
     status_and_place(set_lines(room, true, breaks), place)

@@ -66,7 +66,8 @@ pub extern "C" fn bidi_base_level_classes(
     level: &mut u8,
     place: &mut u64,
 ) -> u32
-    ensures { (tables : TablesOf) → ReturnsStatusNaming place_named (Puts (IsBaseLevel tables (Classes classes.now) direction)
+    ensures { (tables : TablesOf) →
+        ReturnsStatusNaming place_named (Puts (IsBaseLevel tables (Classes classes.now) direction)
         (RejectsBase (Classes classes.now) direction) level.old level.new) result place.old place.new }
 {
     let unused = standard::tables();
@@ -142,7 +143,8 @@ fn lay_out_units(
     direction: u32,
     breaks: &[usize],
 ) -> Result<(), CallError>
-    ensures { LaysOutUnits units.now standard direction breaks.now (contents_at room.old) (contents_at room.new) result }
+    ensures { LaysOutUnits units.now standard direction breaks.now (contents_at room.old)
+        (contents_at room.new) result }
 {
     match room.contents() {
         Some(contents) => contents.lay_out_numbered(units, direction, breaks, Limits::standard()),

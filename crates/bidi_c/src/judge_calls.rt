@@ -66,7 +66,8 @@ fn make_characters_judge(
     limits: Limits,
 ) -> Result<(), CallError>
     ensures tables { contents_at tables.new ≡ contents_at tables.old }
-    ensures judge { MakesTableJudge (contents_at tables.old) limits (contents_at judge.old) (contents_at judge.new) result }
+    ensures judge { MakesTableJudge (contents_at tables.old) limits (contents_at judge.old)
+        (contents_at judge.new) result }
 {
     let Some(contents) = tables.contents() else {
         return Err(CallError::NoTables);
@@ -149,7 +150,8 @@ fn finish_judge(contents: &mut Contents, verdict: &mut BidiVerdict) -> Result<()
 #[unsafe(no_mangle)]
 #[tactic(auto, using(crate::proofs::AtJudges::no_judge))]
 pub extern "C" fn bidi_judge_feed(judge: &mut BidiHandle, piece: &[u8]) -> u32
-    ensures { ReturnsStatus (AtJudge (λ old new. TakesPiece old new piece.now) (contents_at judge.old) (contents_at judge.new))
+    ensures { ReturnsStatus (AtJudge (λ old new. TakesPiece old new piece.now) (contents_at judge.old)
+        (contents_at judge.new))
         result }
 {
     match judge.contents() {

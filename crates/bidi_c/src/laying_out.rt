@@ -165,7 +165,8 @@ pub(crate) fn set_lines(
 /// unchanged. If it fails, the room is unchanged, and `place` names the break.
 #[unsafe(no_mangle)]
 pub extern "C" fn bidi_set_lines(room: &mut BidiHandle, breaks: &[usize], place: &mut u64) -> u32
-    ensures { ReturnsStatusNaming place_named (AtRoom false (SetsLines breaks.now) (contents_at room.old) (contents_at room.new))
+    ensures { ReturnsStatusNaming place_named (AtRoom false (SetsLines breaks.now) (contents_at room.old)
+        (contents_at room.new))
         result place.old place.new }
 {
     status_and_place(set_lines(room, false, breaks), place)
@@ -203,7 +204,8 @@ pub extern "C" fn bidi_line_of(
     shown: &mut usize,
 ) -> u32
     ensures room { contents_at room.new ≡ contents_at room.old }
-    ensures line { ReturnsStatus (AtLineOf (room_for false (contents_at room.old)) start end levels.old levels.new order.old
+    ensures line { ReturnsStatus
+        (AtLineOf (room_for false (contents_at room.old)) start end levels.old levels.new order.old
         order.new shown.old shown.new) result }
 {
     status(line_of(room, false, start..end, levels, order, shown))

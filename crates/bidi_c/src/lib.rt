@@ -6,11 +6,11 @@
 
 pub mod base;
 pub mod bidi_handle;
+pub mod contents;
 pub mod encoded_calls;
 pub mod encoded_layouts;
 pub mod front_calls;
 pub mod handle;
-pub mod contents;
 pub mod judge_calls;
 pub mod laying_out;
 pub mod looking_up;

@@ -31,7 +31,8 @@ pub extern "C" fn bidi_class(tables: &mut BidiHandle, code: u32, class: &mut u8)
 #[tactic(auto, using(crate::proofs::Needed::no_tables, crate::proofs::Needed::not_contained))]
 pub extern "C" fn bidi_bracket(tables: &mut BidiHandle, code: u32, bracket: &mut u8) -> u32
     ensures tables { contents_at tables.new ≡ contents_at tables.old }
-    ensures bracket { ReturnsStatus (AtTables (tables_at tables.old) (λ by. Puts (IsBracketOf by code) (RejectsCode code))
+    ensures bracket { ReturnsStatus (AtTables (tables_at tables.old) (λ by.
+        Puts (IsBracketOf by code) (RejectsCode code))
         bracket.old bracket.new) result }
 {
     match tables.tables() {

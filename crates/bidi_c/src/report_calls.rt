@@ -29,7 +29,8 @@ fn make_report(
     tables: Option<Arc<Tables, Global>>,
     limits: Limits,
 ) -> Result<(), CallError>
-    ensures { MakesReport (option_map arc_value tables) limits (contents_at report.old) (contents_at report.new) result }
+    ensures { MakesReport (option_map arc_value tables) limits (contents_at report.old)
+        (contents_at report.new) result }
 {
     let made = TableReport::new(alloc, tables, limits)?;
     report.hold(alloc, Contents::Report(made))
@@ -52,7 +53,8 @@ pub extern "C" fn bidi_report_new_classes_with(
     report: &mut BidiHandle,
     limits: BidiLimits,
 ) -> u32
-    ensures { ReturnsStatus (ByLimits limits (MakesReport None) (contents_at report.old) (contents_at report.new)) result }
+    ensures { ReturnsStatus (ByLimits limits (MakesReport None) (contents_at report.old) (contents_at report.new))
+        result }
 {
     match limits.allowed() {
         Ok(limits) => status(make_report(alloc, report, None, limits)),
@@ -68,7 +70,8 @@ fn make_characters_report(
     limits: Limits,
 ) -> Result<(), CallError>
     ensures tables { contents_at tables.new ≡ contents_at tables.old }
-    ensures report { MakesTableReport (contents_at tables.old) limits (contents_at report.old) (contents_at report.new) result }
+    ensures report { MakesTableReport (contents_at tables.old) limits (contents_at report.old)
+        (contents_at report.new) result }
 {
     let Some(contents) = tables.contents() else {
         return Err(CallError::NoTables);
@@ -157,7 +160,8 @@ fn finish_report(contents: &mut Contents, counts: &mut BidiCounts) -> Result<(),
 #[unsafe(no_mangle)]
 #[tactic(auto, using(crate::proofs::AtReports::no_report))]
 pub extern "C" fn bidi_report_feed(report: &mut BidiHandle, piece: &[u8], used: &mut usize) -> u32
-    ensures { ReturnsStatus (AtReport (TakesBytes piece.now) (contents_at report.old) (contents_at report.new) used.old used.new)
+    ensures { ReturnsStatus (AtReport (TakesBytes piece.now) (contents_at report.old)
+        (contents_at report.new) used.old used.new)
         result }
 {
     match report.contents() {
@@ -171,7 +175,8 @@ pub extern "C" fn bidi_report_feed(report: &mut BidiHandle, piece: &[u8], used: 
 #[unsafe(no_mangle)]
 #[tactic(auto, using(crate::proofs::AtReports::no_report))]
 pub extern "C" fn bidi_report_next(report: &mut BidiHandle, case: &mut BidiWrongCase) -> u32
-    ensures { ReturnsStatus (AtReport ReturnsNext (contents_at report.old) (contents_at report.new) case.old case.new) result }
+    ensures { ReturnsStatus (AtReport ReturnsNext (contents_at report.old) (contents_at report.new) case.old case.new)
+        result }
 {
     match report.contents() {
         Some(contents) => status(next_of_report(contents, case)),
@@ -185,7 +190,8 @@ pub extern "C" fn bidi_report_next(report: &mut BidiHandle, case: &mut BidiWrong
 #[unsafe(no_mangle)]
 #[tactic(auto, using(crate::proofs::AtReports::no_report))]
 pub extern "C" fn bidi_report_finish(report: &mut BidiHandle, counts: &mut BidiCounts) -> u32
-    ensures { ReturnsStatus (AtReport EndsReport (contents_at report.old) (contents_at report.new) counts.old counts.new) result }
+    ensures { ReturnsStatus (AtReport EndsReport (contents_at report.old)
+        (contents_at report.new) counts.old counts.new) result }
 {
     match report.contents() {
         Some(contents) => status(finish_report(contents, counts)),

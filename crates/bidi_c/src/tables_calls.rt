@@ -77,7 +77,8 @@ pub extern "C" fn bidi_tables_new(
 /// the handle is unchanged.
 #[unsafe(no_mangle)]
 pub extern "C" fn bidi_tables_standard(alloc: Global, tables: &mut BidiHandle) -> u32
-    ensures { ReturnsStatus (Puts (λ contents. HaveTables contents CLASSES BRACKETS MIRRORS) (λ error. error ≡ CallError.Memory)
+    ensures { ReturnsStatus (Puts (λ contents. HaveTables contents CLASSES BRACKETS MIRRORS) (λ error.
+        error ≡ CallError.Memory)
         (contents_at tables.old) (contents_at tables.new)) result }
 {
     status(hold_tables(alloc, standard::tables(), tables))

@@ -58,16 +58,20 @@ direction_fields field = grind arith
 abbrev IsLineAlike : ClassesLine → ClassesLine → Type 0
 IsLineAlike few all = (few ≡ Broken BitSet) ⊎ (few ≡ all)
 
-classes_row_as_read-alike : (text : Option (List BidiUnit)) (few all : Option (List Direction)) → IsSameOrNone few all → IsLineAlike (classes_row_as_read text few) (classes_row_as_read text all)
+classes_row_as_read-alike : (text : Option (List BidiUnit)) (few all : Option (List Direction)) → IsSameOrNone few all →
+    IsLineAlike (classes_row_as_read text few) (classes_row_as_read text all)
 classes_row_as_read-alike None few all h = inr refl
 classes_row_as_read-alike (Some text) few all (inl none) = inl (rw none refl)
 classes_row_as_read-alike (Some text) few all (inr same) = inr (rw same refl)
 
-classes_row_of_items-alike : (names : List (List ℕ)) (bits : List ℕ) → IsLineAlike (classes_row_of_items one_digit names bits) (classes_row_of_items bit_set names bits)
+classes_row_of_items-alike : (names : List (List ℕ)) (bits : List ℕ) →
+    IsLineAlike (classes_row_of_items one_digit names bits) (classes_row_of_items bit_set names bits)
 classes_row_of_items-alike [] bits = inr refl
-classes_row_of_items-alike (name ∷ names) bits = classes_row_as_read-alike (each_read unit_item (name ∷ names)) (one_digit bits) (bit_set bits) (bit_sets bits)
+classes_row_of_items-alike (name ∷ names) bits =
+    classes_row_as_read-alike (each_read unit_item (name ∷ names)) (one_digit bits) (bit_set bits) (bit_sets bits)
 
-classes_row_by-alike : (fields : List (List ℕ)) → IsLineAlike (classes_row_by one_digit fields) (classes_row_by bit_set fields)
+classes_row_by-alike : (fields : List (List ℕ)) →
+    IsLineAlike (classes_row_by one_digit fields) (classes_row_by bit_set fields)
 classes_row_by-alike [] = inr refl
 classes_row_by-alike (names ∷ []) = inr refl
 classes_row_by-alike (names ∷ bits ∷ []) = classes_row_of_items-alike (items_of names) bits
@@ -81,7 +85,9 @@ line-alike : (line : List ℕ) → IsLineAlike (three_classes_line line) (classe
 unfolding three_classes_line classes_line
 line-alike line = grind (arith, content-alike)
 
-lines-alike : (earlier : List ClassesLine) (lines : List (List ℕ)) → AreSameUpTo BitSet (findings_after earlier (map three_classes_line lines)) (findings_after earlier (map classes_line lines))
+lines-alike : (earlier : List ClassesLine) (lines : List (List ℕ)) →
+    AreSameUpTo BitSet (findings_after earlier (map three_classes_line lines))
+    (findings_after earlier (map classes_line lines))
 lines-alike earlier [] = tt
 lines-alike earlier (line ∷ lines) = grind (arith, line-alike, lines-alike (three_classes_line line ∷ earlier) lines)
 
@@ -90,28 +96,34 @@ lines-alike earlier (line ∷ lines) = grind (arith, line-alike, lines-alike (th
 abbrev IsRowAlike : Finding → Finding → Type 0
 IsRowAlike few all = (few ≡ Faulty DirectionField) ⊎ (few ≡ all)
 
-expected-alike : (text : Option (List BidiUnit)) (few all : Option Direction) (para_level : Option ParaLevel) (levels : Option (List (Option ℕ))) (order : Option (List ℕ)) → IsSameOrNone few all
-    → IsRowAlike (characters_row_as_read text few para_level levels order) (characters_row_as_read text all para_level levels order)
+expected-alike : (text : Option (List BidiUnit)) (few all : Option Direction) (para_level : Option ParaLevel)
+    (levels : Option (List (Option ℕ))) (order : Option (List ℕ)) → IsSameOrNone few all
+    → IsRowAlike (characters_row_as_read text few para_level levels order)
+    (characters_row_as_read text all para_level levels order)
 expected-alike None few all para_level levels order h = inr refl
 expected-alike (Some text) few all para_level levels order (inl none) = inl (rw none refl)
 expected-alike (Some text) few all para_level levels order (inr same) = inr (rw same refl)
 
 module _ (unit_of : ℕ → BidiUnit) where
   characters-alike : (items : List (List ℕ)) (direction para_level levels order : List ℕ)
-      → IsRowAlike (characters_row_of_items zero_to_two unit_of items direction para_level levels order) (characters_row_of_items direction_field unit_of items direction para_level levels order)
+      → IsRowAlike (characters_row_of_items zero_to_two unit_of items direction para_level levels order)
+      (characters_row_of_items direction_field unit_of items direction para_level levels order)
   characters-alike [] direction para_level levels order = inr refl
   characters-alike (item ∷ items) direction para_level levels order = grind (arith, expected-alike, direction_fields)
 
-  fields-alike : (fields : List (List ℕ)) → IsRowAlike (characters_row_by zero_to_two unit_of fields) (characters_row_by direction_field unit_of fields)
+  fields-alike : (fields : List (List ℕ)) →
+      IsRowAlike (characters_row_by zero_to_two unit_of fields) (characters_row_by direction_field unit_of fields)
   fields-alike [] = inr refl
   fields-alike (a ∷ []) = inr refl
   fields-alike (a ∷ b ∷ []) = inr refl
   fields-alike (a ∷ b ∷ c ∷ []) = inr refl
   fields-alike (a ∷ b ∷ c ∷ d ∷ []) = inr refl
-  fields-alike (characters ∷ direction ∷ para_level ∷ levels ∷ order ∷ []) = characters-alike (items_of characters) direction para_level levels order
+  fields-alike (characters ∷ direction ∷ para_level ∷ levels ∷ order ∷ []) =
+      characters-alike (items_of characters) direction para_level levels order
   fields-alike (a ∷ b ∷ c ∷ d ∷ e ∷ f ∷ fields) = inr refl
 
-  written-alike : (content : List ℕ) → IsRowAlike (characters_content zero_to_two unit_of content) (characters_content direction_field unit_of content)
+  written-alike : (content : List ℕ) →
+      IsRowAlike (characters_content zero_to_two unit_of content) (characters_content direction_field unit_of content)
   written-alike [] = inr refl
   written-alike (b ∷ bs) = fields-alike (fields_of (b ∷ bs))
 
@@ -119,14 +131,22 @@ module _ (unit_of : ℕ → BidiUnit) where
   unfolding three_characters_line characters_line
   row-alike line = grind (arith, written-alike)
 
-  rows-alike : (lines : List (List ℕ)) → AreSameUpTo DirectionField (map (three_characters_line unit_of) lines) (map (characters_line unit_of) lines)
+  rows-alike : (lines : List (List ℕ)) →
+      AreSameUpTo DirectionField (map (three_characters_line unit_of) lines) (map (characters_line unit_of) lines)
   rows-alike [] = tt
-  rows-alike (line ∷ lines) = elim (row-alike line) [ inl broken ↦ inl broken | inr same ↦ inr (same, rows-alike lines) ]
+  rows-alike (line ∷ lines) = elim (row-alike line) [
+    | inl broken ↦ inl broken
+    | inr same ↦
+        inr (same, rows-alike lines)
+  ]
 
 -- allowing a fourth direction doesn't change the verdict on a file, unless the verdict without it is that a bit set or
 -- a direction field is malformed
-pub verdict-alike : (limits : LimitsOf) (kind : Kind) (bytes : List ℕ) → ((line : ℕ) → three_verdict_of limits kind bytes ≡ Malformed line BitSet → ⊥) → ((line : ℕ) → three_verdict_of limits kind bytes ≡ Malformed line DirectionField → ⊥)
+pub verdict-alike : (limits : LimitsOf) (kind : Kind) (bytes : List ℕ) →
+    ((line : ℕ) → three_verdict_of limits kind bytes ≡ Malformed line BitSet → ⊥) →
+    ((line : ℕ) → three_verdict_of limits kind bytes ≡ Malformed line DirectionField → ⊥)
     → verdict_of limits kind bytes ≡ three_verdict_of limits kind bytes
 unfolding classes_verdict characters_verdict
 verdict-alike limits Classes bytes bits fields = verdict-same limits BitSet _ _ (lines-alike [] (lines_of bytes)) bits
-verdict-alike limits (Characters tables) bytes bits fields = verdict-same limits DirectionField _ _ (rows-alike (unit_by tables.now) (lines_of bytes)) fields
+verdict-alike limits (Characters tables) bytes bits fields =
+    verdict-same limits DirectionField _ _ (rows-alike (unit_by tables.now) (lines_of bytes)) fields

@@ -8,7 +8,13 @@ use Rattle.bidtests.specs.LineReadings.{LineReading, levels_in, order_in, findin
 
 -- the state with these contents of the reader
 abbrev pub carried_by : LimitsOf → ℕ → ℕ → LineReading → Carried
-carried_by limits rows cases reading = record { limits = limits; levels = levels_in reading; order = order_in reading; rows = rows; cases = cases }
+carried_by limits rows cases reading = record {
+  limits = limits;
+  levels = levels_in reading;
+  order = order_in reading;
+  rows = rows;
+  cases = cases;
+}
 
 pub comes-alike : (kind : Kind) (limits : LimitsOf) (rows cases : ℕ) (reading : LineReading) (line : List ℕ)
     → comes_to_after kind (carried_by limits rows cases reading) line ≡ finding_after kind reading line

@@ -29,13 +29,21 @@ turn-at (suc (suc (suc (suc i)))) d e = absurd (cc)
 
 -- no direction comes before itself, and no two come before each other
 pub never-after : (d e : Direction) → ComesBefore d e → ComesBefore e d → ⊥
-never-after d e b c = absurd (omega (arith, b.2, c.2, turn-at b.0 d b.3, turn-at b.1 e b.4, turn-at c.0 e c.3, turn-at c.1 d c.4))
+never-after d e b c =
+    absurd (omega (arith, b.2, c.2, turn-at b.0 d b.3, turn-at b.1 e b.4, turn-at c.0 e c.3, turn-at c.1 d c.4))
 
 in_order : AllPairs ComesBefore directions_in_order
-in_order i j d lt within = (i, j, lt, slice_get-get_or directions_in_order i d (omega arith), slice_get-get_or directions_in_order j d within)
+in_order i j d lt within = (
+  i,
+  j,
+  lt,
+  slice_get-get_or directions_in_order i d (omega arith),
+  slice_get-get_or directions_in_order j d within,
+)
 
 -- in a list of directions in order, the earlier one comes before the later one
-pub earlier-before : (ds : List Direction) → AllPairs ComesBefore ds → (i j : ℕ) (d e : Direction) → i < j → slice_get ds i ≡ Some d → slice_get ds j ≡ Some e → ComesBefore d e
+pub earlier-before : (ds : List Direction) → AllPairs ComesBefore ds → (i j : ℕ) (d e : Direction) → i < j →
+    slice_get ds i ≡ Some d → slice_get ds j ≡ Some e → ComesBefore d e
 earlier-before ds ordered i j d e lt at also =
     let pair = ordered i j d lt (slice_get_within ds j e also) in
     let first : get_or ds i d ≡ d = get_or_from_slice_get ds i d d at in
@@ -71,16 +79,19 @@ bits-ordered : (bits : Option ℕ) → IfSome (directions_by bits) (AllPairs Com
 bits-ordered None = tt
 bits-ordered (Some bits) =
     let P : Option (List Direction) → Type 0 = λ o. IfSome o (AllPairs ComesBefore) in
-    if-either P (bits == 0) None (Some (directions_of bits)) tt (AllPairs-filter ComesBefore (names_direction bits) directions_in_order in_order)
+    if-either P (bits == 0) None (Some (directions_of bits)) tt
+    (AllPairs-filter ComesBefore (names_direction bits) directions_in_order in_order)
 
-row-ordered : (text : Option (List BidiUnit)) (directions : Option (List Direction)) → IfSome directions (AllPairs ComesBefore) → RowOrdered (classes_row_as_read text directions)
+row-ordered : (text : Option (List BidiUnit)) (directions : Option (List Direction)) →
+    IfSome directions (AllPairs ComesBefore) → RowOrdered (classes_row_as_read text directions)
 row-ordered None directions h = tt
 row-ordered (Some text) None h = tt
 row-ordered (Some text) (Some directions) h = h
 
 items-ordered : (names : List (List ℕ)) (bits : List ℕ) → RowOrdered (classes_row_of_items bit_set names bits)
 items-ordered [] bits = tt
-items-ordered (name ∷ names) bits = row-ordered (each_read unit_item (name ∷ names)) (bit_set bits) (bits-ordered (number_up_to 15 bits))
+items-ordered (name ∷ names) bits =
+    row-ordered (each_read unit_item (name ∷ names)) (bit_set bits) (bits-ordered (number_up_to 15 bits))
 
 data-ordered : (fields : List (List ℕ)) → RowOrdered (classes_row fields)
 data-ordered [] = tt
@@ -103,29 +114,37 @@ directive-ordered content =
     let third = if starts_with nat_eq content (codes "@Reorder:") then order else Broken Directive in
     let second = if starts_with nat_eq content (codes "@Levels:") then levels else third in
     if-either RowOrdered (starts_with nat_eq content (codes "@Type:")) Nothing second tt
-    (if-either RowOrdered (starts_with nat_eq content (codes "@Levels:")) levels third (levels-ordered (each_read level_item (items_of (drop 8 content))))
-    (if-either RowOrdered (starts_with nat_eq content (codes "@Reorder:")) order (Broken Directive) (order-ordered (each_read order_item (items_of (drop 9 content)))) tt))
+    (if-either RowOrdered (starts_with nat_eq content (codes "@Levels:")) levels third
+    (levels-ordered (each_read level_item (items_of (drop 8 content))))
+    (if-either RowOrdered (starts_with nat_eq content (codes "@Reorder:")) order (Broken Directive)
+    (order-ordered (each_read order_item (items_of (drop 9 content)))) tt))
 
 content-ordered : (content : List ℕ) → RowOrdered (classes_content bit_set content)
 content-ordered [] = tt
-content-ordered (b ∷ bs) = if-either RowOrdered (b == 64) (directive (b ∷ bs)) (classes_row (fields_of (b ∷ bs))) (directive-ordered (b ∷ bs)) (data-ordered (fields_of (b ∷ bs)))
+content-ordered (b ∷ bs) =
+    if-either RowOrdered (b == 64) (directive (b ∷ bs)) (classes_row (fields_of (b ∷ bs))) (directive-ordered (b ∷ bs))
+    (data-ordered (fields_of (b ∷ bs)))
 
 line-ordered : (line : List ℕ) → RowOrdered (classes_line line)
 unfolding classes_line
-line-ordered line = if-either RowOrdered (nat_lt longest_line (length line)) (Broken LineTooLong) (classes_content bit_set (content_of line)) tt (content-ordered (content_of line))
+line-ordered line = if-either RowOrdered (nat_lt longest_line (length line)) (Broken LineTooLong)
+    (classes_content bit_set (content_of line)) tt (content-ordered (content_of line))
 
-row_under-ordered : (text : List BidiUnit) (directions : List Direction) (levels : Option (List (Option ℕ))) (order : Option (List ℕ)) → AllPairs ComesBefore directions
+row_under-ordered : (text : List BidiUnit) (directions : List Direction) (levels : Option (List (Option ℕ)))
+    (order : Option (List ℕ)) → AllPairs ComesBefore directions
     → IsOrdered (row_under text directions levels order)
 row_under-ordered text directions None order h = tt
 row_under-ordered text directions (Some levels) None h = tt
 row_under-ordered text directions (Some levels) (Some order) h = h
 
-finding-ordered : (levels : Option (List (Option ℕ))) (order : Option (List ℕ)) (noted : ClassesLine) → RowOrdered noted → IsOrdered (comes_to levels order noted)
+finding-ordered : (levels : Option (List (Option ℕ))) (order : Option (List ℕ)) (noted : ClassesLine) →
+    RowOrdered noted → IsOrdered (comes_to levels order noted)
 finding-ordered levels order Nothing h = tt
 finding-ordered levels order (LevelsAre _) h = tt
 finding-ordered levels order (OrderIs _) h = tt
 finding-ordered levels order (Broken cause) h = tt
 finding-ordered levels order (RowOf text directions) h = row_under-ordered text directions levels order h
 
-pub classes-ordered : (levels : Option (List (Option ℕ))) (order : Option (List ℕ)) (line : List ℕ) → IsOrdered (comes_to levels order (classes_line line))
+pub classes-ordered : (levels : Option (List (Option ℕ))) (order : Option (List ℕ)) (line : List ℕ) →
+    IsOrdered (comes_to levels order (classes_line line))
 classes-ordered levels order line = finding-ordered levels order (classes_line line) (line-ordered line)

@@ -25,11 +25,13 @@ findings-with : (kind : Kind) (lines : List (List ℕ)) → findings_by kind lin
 findings-with Classes lines = refl
 findings-with (Characters tables) lines = refl
 
-verdict-with : (limits : LimitsOf) (kind : Kind) (bytes : List ℕ) → verdict_of limits kind bytes ≡ verdict_with limits (tables_of kind) bytes
+verdict-with : (limits : LimitsOf) (kind : Kind) (bytes : List ℕ) →
+    verdict_of limits kind bytes ≡ verdict_with limits (tables_of kind) bytes
 verdict-with limits Classes bytes = refl
 verdict-with limits (Characters tables) bytes = refl
 
-pub in-force-as : (kind other : Kind) → tables_of other ≡ tables_of kind → (levels : Option (List (Option ℕ))) (order : Option (List ℕ)) (lines : List (List ℕ))
+pub in-force-as : (kind other : Kind) → tables_of other ≡ tables_of kind →
+    (levels : Option (List (Option ℕ))) (order : Option (List ℕ)) (lines : List (List ℕ))
     → AreInForce kind levels order lines → AreInForce other levels order lines
 in-force-as Classes Classes e levels order lines h = h
 in-force-as Classes (Characters tables) e levels order lines h = tt
@@ -38,27 +40,41 @@ in-force-as (Characters tables) (Characters others) e levels order lines h = tt
 
 module _ (limits : LimitsOf) (kind other : Kind) (same : tables_of other ≡ tables_of kind) where
   pub findings-as : (lines : List (List ℕ)) → findings_by kind lines ≡ findings_by other lines
-  findings-as lines = findings-with kind lines ∙ ap (λ t. findings_with t lines) (sym same) ∙ sym (findings-with other lines)
+  findings-as lines = findings-with kind lines ∙ ap (λ t. findings_with t lines) (sym same) ∙
+      sym (findings-with other lines)
 
   following-as : (s : Carried) (lines : List (List ℕ)) → IsAfter limits kind s lines → IsAfter limits other s lines
   following-as s lines h = grind (arith, findings-as, in-force-as)
 
-  judges-as : (decided : Option Verdict) (cutting : Cutting) (s : Carried) (b : List ℕ) → JudgesBy limits kind decided cutting s b → JudgesBy limits other decided cutting s b
+  judges-as : (decided : Option Verdict) (cutting : Cutting) (s : Carried) (b : List ℕ) →
+      JudgesBy limits kind decided cutting s b → JudgesBy limits other decided cutting s b
   judges-as None cutting s b h =
-      record { splitter = h.splitter; lines = h.lines; rest = h.rest; cut = h.cut; following = following-as s h.lines h.following }
+      record {
+        splitter = h.splitter;
+        lines = h.lines;
+        rest = h.rest;
+        cut = h.cut;
+        following =
+            following-as s h.lines h.following;
+      }
   judges-as (Some verdict) cutting s b h = λ more.
-      verdict-with limits other (b ++ more) ∙ ap (λ t. verdict_with limits t (b ++ more)) same ∙ sym (verdict-with limits kind (b ++ more)) ∙ h more
+      verdict-with limits other (b ++ more) ∙ ap (λ t. verdict_with limits t (b ++ more)) same ∙
+      sym (verdict-with limits kind (b ++ more)) ∙ h more
 
 -- the state of a judge of one kind is that for each kind with the same tables
-pub holds-for : (limits : LimitsOf) (kind : Kind) (state : StateOf) (b : List ℕ) → JudgesBy limits kind state.decided state.cutting state.carried b
+pub holds-for : (limits : LimitsOf) (kind : Kind) (state : StateOf) (b : List ℕ) →
+    JudgesBy limits kind state.decided state.cutting state.carried b
     → HoldsFor limits (tables_of kind) state b
-holds-for limits kind state b h = λ other same. judges-as limits kind other same state.decided state.cutting state.carried b h
+holds-for limits kind state b h =
+    λ other same. judges-as limits kind other same state.decided state.cutting state.carried b h
 
 -- the state of a judge of this kind
-pub state-of : (limits : LimitsOf) (kind own : Kind) (state : StateOf) (b : List ℕ) → Judges limits kind (judging own state) b → HoldsFor limits (tables_of own) state b
+pub state-of : (limits : LimitsOf) (kind own : Kind) (state : StateOf) (b : List ℕ) →
+    Judges limits kind (judging own state) b → HoldsFor limits (tables_of own) state b
 state-of limits kind own state b judges = grind (arith, holds-for)
 
 -- a judge of this kind with this state
-pub judges-of : (limits : LimitsOf) (kind own : Kind) (state : StateOf) (b : List ℕ) → own ≡ kind → HoldsFor limits (tables_of own) state b → Judges limits kind (judging own state) b
+pub judges-of : (limits : LimitsOf) (kind own : Kind) (state : StateOf) (b : List ℕ) → own ≡ kind →
+    HoldsFor limits (tables_of own) state b → Judges limits kind (judging own state) b
 judges-of limits kind own state b of holds =
     record { of = of; is = holds kind (ap tables_of (sym of)) }

@@ -11,8 +11,10 @@ use Rattle.bidtests.specs.FileKinds.{verdict_of}
 use Rattle.bidtests.specs.StandardVerdicts.{standard_wrong_case, standard_no_of, standard_first_no, standard_verdict_of}
 use Rattle.bidtests.proofs.SplitterSteps.{verdict-of}
 
-module _ (same : (text : List BidiUnit) (direction : Direction) (breaks : List ℕ) → layout_of standard text direction breaks ≡ standard_layout text direction breaks) where
-  standard-case : (expected : Expected) (ds : List Direction) → wrong_case standard expected ds ≡ standard_wrong_case expected ds
+module _ (same : (text : List BidiUnit) (direction : Direction) (breaks : List ℕ) →
+    layout_of standard text direction breaks ≡ standard_layout text direction breaks) where
+  standard-case : (expected : Expected) (ds : List Direction) →
+      wrong_case standard expected ds ≡ standard_wrong_case expected ds
   standard-case expected [] = refl
   standard-case expected (d ∷ ds) = rw (same expected.text d [], standard-case expected ds) refl
 
@@ -25,6 +27,7 @@ module _ (same : (text : List BidiUnit) (direction : Direction) (breaks : List �
   standard-first k [] = refl
   standard-first k (f ∷ fs) = rw (standard-fault _ f, standard-first (k + 1) fs) refl
 
-  pub standard-verdict : (kind : Kind) (bytes : List ℕ) → verdict_of standard kind bytes ≡ standard_verdict_of kind bytes
+  pub standard-verdict : (kind : Kind) (bytes : List ℕ) →
+      verdict_of standard kind bytes ≡ standard_verdict_of kind bytes
   unfolding verdict_on
   standard-verdict kind bytes = grind (arith, verdict-of, standard-first)

@@ -50,15 +50,33 @@ cases_after _ before = before
 
 -- the state after the row and the cases of this finding are counted
 abbrev pub counted : Finding → Carried → Carried
-counted found s = record { limits = s.limits; levels = s.levels; order = s.order; rows = rows_after found s.rows; cases = cases_after found s.cases }
+counted found s = record {
+  limits = s.limits;
+  levels = s.levels;
+  order = s.order;
+  rows = rows_after found s.rows;
+  cases = cases_after found s.cases;
+}
 
 -- the state after a right row with so many cases is counted
 abbrev pub with_right_row : ℕ → Carried → Carried
-with_right_row cases s = record { limits = s.limits; levels = s.levels; order = s.order; rows = saturated (s.rows + 1); cases = saturated (s.cases + cases) }
+with_right_row cases s = record {
+  limits = s.limits;
+  levels = s.levels;
+  order = s.order;
+  rows = saturated (s.rows + 1);
+  cases = saturated (s.cases + cases);
+}
 
 -- the state in which the list of this line of a classes file is in force
 abbrev pub listed : ClassesLine → Carried → Carried
-listed noted s = record { limits = s.limits; levels = levels_after noted s.levels; order = order_after noted s.order; rows = s.rows; cases = s.cases }
+listed noted s = record {
+  limits = s.limits;
+  levels = levels_after noted s.levels;
+  order = order_after noted s.order;
+  rows = s.rows;
+  cases = s.cases;
+}
 
 -- the state in which no list is in force
 abbrev pub unlisted : Carried → Carried
@@ -81,7 +99,8 @@ after_line kind line s = counted (comes_to_after kind s line) (listed_by kind li
 -- these lists are in force after these lines
 abbrev pub AreInForce : Kind → Option (List (Option ℕ)) → Option (List ℕ) → List (List ℕ) → Type 0
 AreInForce Classes levels order lines =
-    (levels ≡ levels_in_force (reverse (map classes_line lines))) × (order ≡ order_in_force (reverse (map classes_line lines)))
+    (levels ≡ levels_in_force (reverse (map classes_line lines))) ×
+    (order ≡ order_in_force (reverse (map classes_line lines)))
 AreInForce (Characters tables) levels order lines = ⊤
 
 -- this is the state after these lines, and none of them is malformed or, with these limits, wrong

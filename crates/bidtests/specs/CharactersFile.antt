@@ -23,25 +23,36 @@ character_item unit_of item = option_map unit_of (char_of item)
 -- the second field: the direction
 abbrev pub direction_field : List ℕ → Option Direction
 direction_field field =
-    if bytes_eq field (codes "0") then Some Ltr else if bytes_eq field (codes "1") then Some Rtl else if bytes_eq field (codes "2") then Some Auto
+    if bytes_eq field (codes "0") then Some Ltr else if bytes_eq field (codes "1") then Some Rtl else if bytes_eq field
+    (codes "2") then Some Auto
     else if bytes_eq field (codes "3") then Some AutoRtl else None
 
 -- the third field: the paragraph's level
 abbrev pub para_field : List ℕ → Option ParaLevel
-para_field field = if bytes_eq field (codes "0") then Some Zero else if bytes_eq field (codes "1") then Some One else None
+para_field field = if bytes_eq field (codes "0") then Some Zero else if bytes_eq field
+    (codes "1") then Some One else None
 
 -- the finding of a row with these fields as they were read; the first field that can't be read gives the cause
-abbrev pub characters_row_as_read : Option (List BidiUnit) → Option Direction → Option ParaLevel → Option (List (Option ℕ)) → Option (List ℕ) → Finding
+abbrev pub characters_row_as_read : Option (List BidiUnit) → Option Direction → Option ParaLevel →
+    Option (List (Option ℕ)) → Option (List ℕ) → Finding
 characters_row_as_read None direction para_level levels order = Faulty CodePoint
 characters_row_as_read (Some text) None para_level levels order = Faulty DirectionField
 characters_row_as_read (Some text) (Some direction) None levels order = Faulty ParaField
 characters_row_as_read (Some text) (Some direction) (Some para_level) None order = Faulty LevelItem
 characters_row_as_read (Some text) (Some direction) (Some para_level) (Some levels) None = Faulty OrderItem
 characters_row_as_read (Some text) (Some direction) (Some para_level) (Some levels) (Some order) =
-    Row (record { text = text; directions = direction ∷ []; para_level = Some (level_of_para para_level); levels = levels; order = order })
+    Row (record {
+      text = text;
+      directions = direction ∷ [];
+      para_level = Some (level_of_para para_level);
+      levels =
+          levels;
+      order = order;
+    })
 
 -- the finding of a row of these items, with this reading of direction fields: it has at least one item
-abbrev pub characters_row_of_items : (List ℕ → Option Direction) → (ℕ → BidiUnit) → List (List ℕ) → List ℕ → List ℕ → List ℕ → List ℕ → Finding
+abbrev pub characters_row_of_items : (List ℕ → Option Direction) → (ℕ → BidiUnit) → List (List ℕ) → List ℕ → List ℕ →
+    List ℕ → List ℕ → Finding
 characters_row_of_items reads unit_of [] direction para_level levels order = Faulty EmptyRow
 characters_row_of_items reads unit_of (item ∷ items) direction para_level levels order =
     characters_row_as_read (each_read (character_item unit_of) (item ∷ items)) (reads direction) (para_field para_level)

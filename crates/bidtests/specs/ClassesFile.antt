@@ -120,7 +120,8 @@ classes_content reads (b ∷ bs) = if b == 64 then directive (b ∷ bs) else cla
 
 -- the meaning of a line without the others, with this reading of bit sets
 abbrev pub classes_line_by : (List ℕ → Option (List Direction)) → List ℕ → ClassesLine
-classes_line_by reads line = if nat_lt longest_line (length line) then Broken LineTooLong else classes_content reads (content_of line)
+classes_line_by reads line =
+    if nat_lt longest_line (length line) then Broken LineTooLong else classes_content reads (content_of line)
 
 unfoldable pub classes_line : List ℕ → ClassesLine
 classes_line line = classes_line_by bit_set line
@@ -139,7 +140,14 @@ order_in_force (_ ∷ earlier) = order_in_force earlier
 
 -- what a row expects: the lists in force, and no paragraph level
 abbrev pub expected_under : List BidiUnit → List Direction → List (Option ℕ) → List ℕ → Expected
-expected_under text directions levels order = record { text = text; directions = directions; para_level = None; levels = levels; order = order }
+expected_under text directions levels order = record {
+  text = text;
+  directions = directions;
+  para_level = None;
+  levels =
+      levels;
+  order = order;
+}
 
 -- the finding of a row if these lists are in force: it needs both
 abbrev pub row_under : List BidiUnit → List Direction → Option (List (Option ℕ)) → Option (List ℕ) → Finding

@@ -35,4 +35,5 @@ ContinuesAfter expected line = (length line ≤ length expected)
 -- whatever follows the order of a line, the first difference is at this index of the line
 abbrev pub DiffersAt : List ℕ → List ℕ → ℕ → Type 0
 DiffersAt expected line i =
-    (i ≤ length expected) × ((more : List ℕ) (at : ℕ) → first_difference nat_eq expected (line ++ more) at ≡ Some (at + i))
+    (i ≤ length expected) × ((more : List ℕ) (at : ℕ) →
+    first_difference nat_eq expected (line ++ more) at ≡ Some (at + i))

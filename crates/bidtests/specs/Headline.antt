@@ -72,18 +72,22 @@ pub record IsFirstDifference {A : Type 0} (xs ys : List A) (i : ℕ) : Type 0 wh
 abbrev pub IsWrongAt : LimitsOf → Expected → Direction → Place → Type 0
 IsWrongAt limits expected direction ParaLevel = ¬ IsParaRight limits expected direction
 IsWrongAt limits expected direction (Levels i) =
-    IsParaRight limits expected direction × IsFirstDifference expected.levels (layout_under limits expected direction).levels i
+    IsParaRight limits expected direction ×
+    IsFirstDifference expected.levels (layout_under limits expected direction).levels i
 IsWrongAt limits expected direction (Order i) =
-    IsParaRight limits expected direction × AreLevelsRight limits expected direction × IsFirstDifference expected.order (all_orders (layout_under limits expected direction)) i
+    IsParaRight limits expected direction × AreLevelsRight limits expected direction ×
+    IsFirstDifference expected.order (all_orders (layout_under limits expected direction)) i
 
 -- the first direction comes before the second in the order of directions
 abbrev pub ComesBefore : Direction → Direction → Type 0
-ComesBefore d e = (i : ℕ) × (j : ℕ) × (i < j) × (slice_get directions_in_order i ≡ Some d) × (slice_get directions_in_order j ≡ Some e)
+ComesBefore d e = (i : ℕ) × (j : ℕ) × (i < j) × (slice_get directions_in_order i ≡ Some d) ×
+    (slice_get directions_in_order j ≡ Some e)
 
 -- none of the first n lines is malformed, and each row is right under each direction that it names
 pub record AreRight (limits : LimitsOf) (found : List Finding) (n : ℕ) : Type 0 where
   pub well_formed : (k : ℕ) (cause : Cause) → k < n → ¬ IsMalformed found k cause
-  pub right : (k : ℕ) (expected : Expected) (d : Direction) → k < n → IsRow found k expected → Contains expected.directions d → IsCaseRight limits expected d
+  pub right : (k : ℕ) (expected : Expected) (d : Direction) → k < n → IsRow found k expected →
+      Contains expected.directions d → IsCaseRight limits expected d
 
 -- yes: all lines are right, and these are the numbers of rows and cases
 pub record AllAreRight (limits : LimitsOf) (found : List Finding) (rows cases : ℕ) : Type 0 where
@@ -100,14 +104,16 @@ pub record FirstIsMalformed (limits : LimitsOf) (found : List Finding) (number :
 
 -- wrong: the line of this number is a well-formed row that names the direction, its layout first differs from the
 -- expected one at this place, and all earlier lines and the row's earlier directions are right
-pub record FirstIsWrong (limits : LimitsOf) (found : List Finding) (number : ℕ) (direction : Direction) (place : Place) : Type 0 where
+pub record FirstIsWrong (limits : LimitsOf) (found : List Finding) (number : ℕ) (direction : Direction)
+    (place : Place) : Type 0 where
   pub k : ℕ
   pub numbered : number ≡ line_number k
   pub earlier : AreRight limits found k
   pub expected : Expected
   pub row : IsRow found k expected
   pub names : Contains expected.directions direction
-  pub before : (d : Direction) → Contains expected.directions d → ComesBefore d direction → IsCaseRight limits expected d
+  pub before : (d : Direction) → Contains expected.directions d → ComesBefore d direction →
+      IsCaseRight limits expected d
   pub wrong : IsWrongAt limits expected direction place
 
 -- the meaning of a verdict on a file with these findings

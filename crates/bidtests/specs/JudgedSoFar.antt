@@ -19,7 +19,8 @@ pub record Judging : Type 0 where
   pub decided : Option Verdict
 
 -- undecided: no line that has ended is malformed or wrong
-pub record IsOpen (limits : LimitsOf) (kind : Kind) (cutting : Cutting) (carried : Carried) (bytes : List ℕ) : Type 0 where
+pub record IsOpen (limits : LimitsOf) (kind : Kind) (cutting : Cutting) (carried : Carried)
+    (bytes : List ℕ) : Type 0 where
   pub splitter : Represents cutting bytes
   pub lines : List (List ℕ)
   pub rest : List ℕ
@@ -30,7 +31,8 @@ pub record IsOpen (limits : LimitsOf) (kind : Kind) (cutting : Cutting) (carried
 -- begins with these bytes has the decided verdict
 abbrev pub JudgesBy : LimitsOf → Kind → Option Verdict → Cutting → Carried → List ℕ → Type 0
 JudgesBy limits kind None cutting carried bytes = IsOpen limits kind cutting carried bytes
-JudgesBy limits kind (Some verdict) cutting carried bytes = (more : List ℕ) → verdict_of limits kind (bytes ++ more) ≡ verdict
+JudgesBy limits kind (Some verdict) cutting carried bytes = (more : List ℕ) →
+    verdict_of limits kind (bytes ++ more) ≡ verdict
 
 -- the judge judges files of this kind with these limits, and these bytes were passed to it, in any pieces
 pub record Judges (limits : LimitsOf) (kind : Kind) (judge : Judging) (bytes : List ℕ) : Type 0 where
@@ -61,7 +63,8 @@ tables_of (Characters tables) = Some tables.now
 -- this is the state of a judge to which these bytes were passed, in any pieces, and which has these limits and these
 -- tables, if any
 abbrev pub HoldsFor : LimitsOf → Option TablesOf → StateOf → List ℕ → Type 0
-HoldsFor limits tables state bytes = (kind : Kind) → tables_of kind ≡ tables → JudgesBy limits kind state.decided state.cutting state.carried bytes
+HoldsFor limits tables state bytes = (kind : Kind) → tables_of kind ≡ tables →
+    JudgesBy limits kind state.decided state.cutting state.carried bytes
 
 -- this piece takes a judge from the first state to the second
 abbrev pub TakesIn : Option TablesOf → StateOf → List ℕ → StateOf → Type 0

@@ -44,5 +44,11 @@ expected_of c = record {
 -- the finding of a row with this direction, this paragraph level and these lists, or the cause
 abbrev pub expected_read : Result (Direction × ParaLevel) Cause → List BidiUnit → List (Option ℕ) → List ℕ → Finding
 expected_read (Ok asked) text levels order =
-    Row (record { text = text; directions = asked.0 ∷ []; para_level = Some (level_of_para asked.1); levels = levels; order = order })
+    Row (record {
+      text = text;
+      directions = asked.0 ∷ [];
+      para_level = Some (level_of_para asked.1);
+      levels = levels;
+      order = order;
+    })
 expected_read (Err cause) text levels order = Faulty cause

@@ -27,13 +27,15 @@ names_one_of_three bits AutoRtl = false
 
 -- the directions that a bit set names: exactly one digit of 1 to 7
 abbrev pub one_digit : List ℕ → Option (List Direction)
-one_digit (d ∷ []) = if nat_le 49 d && nat_le d 55 then Some (filter (names_one_of_three (d - 48)) (Auto ∷ Ltr ∷ Rtl ∷ [])) else None
+one_digit (d ∷ []) =
+    if nat_le 49 d && nat_le d 55 then Some (filter (names_one_of_three (d - 48)) (Auto ∷ Ltr ∷ Rtl ∷ [])) else None
 one_digit _ = None
 
 -- the direction that a direction field asks for
 abbrev pub zero_to_two : List ℕ → Option Direction
 zero_to_two field =
-    if bytes_eq field (codes "0") then Some Ltr else if bytes_eq field (codes "1") then Some Rtl else if bytes_eq field (codes "2") then Some Auto else None
+    if bytes_eq field (codes "0") then Some Ltr else if bytes_eq field (codes "1") then Some Rtl else if bytes_eq field
+    (codes "2") then Some Auto else None
 
 -- the meaning of a line of a BidiTest.txt without the others
 unfoldable pub three_classes_line : List ℕ → ClassesLine
@@ -46,7 +48,8 @@ three_characters_line unit_of line = characters_line_by zero_to_two unit_of line
 -- the verdict on the bytes of a file of this kind
 abbrev pub three_verdict_of : LimitsOf → Kind → List ℕ → Verdict
 three_verdict_of limits Classes bytes = verdict_on limits (findings_after [] (map three_classes_line (lines_of bytes)))
-three_verdict_of limits (Characters tables) bytes = verdict_on limits (map (three_characters_line (unit_by tables.now)) (lines_of bytes))
+three_verdict_of limits (Characters tables) bytes =
+    verdict_on limits (map (three_characters_line (unit_by tables.now)) (lines_of bytes))
 
 -- the verdict isn't that a bit set or a direction field is malformed
 abbrev pub IsOfThreeDirections : LimitsOf → Kind → List ℕ → Type 0

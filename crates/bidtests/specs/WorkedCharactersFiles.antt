@@ -69,7 +69,8 @@ unfolding characters_files_compute
 surrogate = refl
 
 -- a direction above 3
-pub direction_four : characters_verdict standard unit_of_few (written (codes "0061;4;0;0;0" ∷ [])) ≡ Malformed 1 DirectionField
+pub direction_four : characters_verdict standard unit_of_few (written (codes "0061;4;0;0;0" ∷ [])) ≡
+    Malformed 1 DirectionField
 unfolding characters_files_compute
 direction_four = refl
 
@@ -78,7 +79,8 @@ pub space_auto_rtl : characters_verdict standard unit_of_few (written (codes "00
 unfolding characters_files_compute
 space_auto_rtl = refl
 
-pub strong_auto_rtl : characters_verdict standard unit_of_few (written (codes "0061;3;1;0;0" ∷ [])) ≡ Wrong 1 AutoRtl ParaLevel
+pub strong_auto_rtl : characters_verdict standard unit_of_few (written (codes "0061;3;1;0;0" ∷ [])) ≡
+    Wrong 1 AutoRtl ParaLevel
 unfolding characters_files_compute
 strong_auto_rtl = refl
 
@@ -98,7 +100,8 @@ unfolding characters_files_compute
 no_directive = refl
 
 -- W4: numbers inside R
-pub numbers_in_right_to_left : characters_verdict standard unit_of_few (written (codes "05D0 0031 002C 0032;0;0;1 2 2 2;1 2 3 0" ∷ [])) ≡ Yes 1 1
+pub numbers_in_right_to_left : characters_verdict standard unit_of_few
+    (written (codes "05D0 0031 002C 0032;0;0;1 2 2 2;1 2 3 0" ∷ [])) ≡ Yes 1 1
 unfolding characters_files_compute
 numbers_in_right_to_left = refl
 
@@ -108,61 +111,79 @@ unfolding characters_files_compute
 arabic_number = refl
 
 -- N0: only the opposite direction inside, and R before
-pub opposite_inside : characters_verdict standard unit_of_few (written (codes "05D0 0028 0061 0029 05D1;1;1;1 1 2 1 1;4 3 2 1 0" ∷ [])) ≡ Yes 1 1
+pub opposite_inside : characters_verdict standard unit_of_few
+    (written (codes "05D0 0028 0061 0029 05D1;1;1;1 1 2 1 1;4 3 2 1 0" ∷ [])) ≡ Yes 1 1
 unfolding characters_files_compute
 opposite_inside = refl
 
 -- N0: the context before the opening bracket is L
-pub l_before_pair : characters_verdict standard unit_of_few (written (codes "0061 0028 05D0 0029;0;0;0 0 1 0;0 1 2 3" ∷ [])) ≡ Yes 1 1
+pub l_before_pair : characters_verdict standard unit_of_few
+    (written (codes "0061 0028 05D0 0029;0;0;0 0 1 0;0 1 2 3" ∷ [])) ≡ Yes 1 1
 unfolding characters_files_compute
 l_before_pair = refl
 
 -- BD16: brackets pair by canonical equivalence
-pub canonical_brackets : characters_verdict standard unit_of_few (written (codes "0061 2329 05D0 3009 05D1;0;0;0 0 1 0 1;0 1 2 3 4" ∷ [])) ≡ Yes 1 1
+pub canonical_brackets : characters_verdict standard unit_of_few
+    (written (codes "0061 2329 05D0 3009 05D1;0;0;0 0 1 0 1;0 1 2 3 4" ∷ [])) ≡ Yes 1 1
 unfolding characters_files_compute
 canonical_brackets = refl
 
 -- BD16: a closing bracket without a match pops nothing
-pub unmatched_closing : characters_verdict standard unit_of_few (written (codes "0061 0028 005D 05D0 0029 05D1;0;0;0 0 0 1 0 1;0 1 2 3 4 5" ∷ [])) ≡ Yes 1 1
+pub unmatched_closing : characters_verdict standard unit_of_few
+    (written (codes "0061 0028 005D 05D0 0029 05D1;0;0;0 0 0 1 0 1;0 1 2 3 4 5" ∷ [])) ≡ Yes 1 1
 unfolding characters_files_compute
 unmatched_closing = refl
 
 -- the causes come in the order of the fields
-pub first_cause : characters_verdict standard unit_of_few (written (codes "0061;4;2;127;x" ∷ [])) ≡ Malformed 1 DirectionField
+pub first_cause : characters_verdict standard unit_of_few (written (codes "0061;4;2;127;x" ∷ [])) ≡
+    Malformed 1 DirectionField
 unfolding characters_files_compute
 first_cause = refl
 
 -- a wrong item of the levels comes before one of the order
-pub level_before_order : characters_verdict standard unit_of_few (written (codes "0061;0;0;127;x" ∷ [])) ≡ Malformed 1 LevelItem
+pub level_before_order : characters_verdict standard unit_of_few (written (codes "0061;0;0;127;x" ∷ [])) ≡
+    Malformed 1 LevelItem
 unfolding characters_files_compute
 level_before_order = refl
 
 -- an order with an item that is not a number
-pub letter_in_order : characters_verdict standard unit_of_few (written (codes "0061;0;0;0;x" ∷ [])) ≡ Malformed 1 OrderItem
+pub letter_in_order : characters_verdict standard unit_of_few (written (codes "0061;0;0;0;x" ∷ [])) ≡
+    Malformed 1 OrderItem
 unfolding characters_files_compute
 letter_in_order = refl
 
 -- an empty first field comes before the others
-pub empty_before_fields : characters_verdict standard unit_of_few (written (codes " ;4;2;127;x" ∷ [])) ≡ Malformed 1 EmptyRow
+pub empty_before_fields : characters_verdict standard unit_of_few (written (codes " ;4;2;127;x" ∷ [])) ≡
+    Malformed 1 EmptyRow
 unfolding characters_files_compute
 empty_before_fields = refl
 
 -- the first line decides
-pub malformed_after_wrong : characters_verdict standard unit_of_few (written (codes "# 0061" ∷ codes "0061;0;1;0;0" ∷ codes "0061" ∷ [])) ≡ Wrong 2 Ltr ParaLevel
+pub malformed_after_wrong : characters_verdict standard unit_of_few
+    (written (codes "# 0061" ∷ codes "0061;0;1;0;0" ∷ codes "0061" ∷ [])) ≡ Wrong 2 Ltr ParaLevel
 unfolding characters_files_compute
 malformed_after_wrong = refl
 
 -- each row is one case
-pub two_rows : characters_verdict standard unit_of_few (written (codes "0061;2;0;0;0" ∷ codes " " ∷ codes "05D0;2;1;1;0" ∷ [])) ≡ Yes 2 2
+pub two_rows : characters_verdict standard unit_of_few
+    (written (codes "0061;2;0;0;0" ∷ codes " " ∷ codes "05D0;2;1;1;0" ∷ [])) ≡ Yes 2 2
 unfolding characters_files_compute
 two_rows = refl
 
 -- BD16: if no bracket can be open, no pair counts, so the closing bracket is R between R and R
-pub no_open_bracket : characters_verdict (record { depth = 125; brackets = 0 }) unit_of_few (written (codes "0061 2329 05D0 3009 05D1;0;0;0 0 1 0 1;0 1 2 3 4" ∷ [])) ≡ Wrong 1 Ltr (Levels 3)
+pub no_open_bracket : characters_verdict (record {
+  depth = 125;
+  brackets =
+      0;
+}) unit_of_few (written (codes "0061 2329 05D0 3009 05D1;0;0;0 0 1 0 1;0 1 2 3 4" ∷ [])) ≡ Wrong 1 Ltr (Levels 3)
 unfolding characters_files_compute
 no_open_bracket = refl
 
 -- if one can be open, the pair counts
-pub one_open_bracket : characters_verdict (record { depth = 125; brackets = 1 }) unit_of_few (written (codes "0061 2329 05D0 3009 05D1;0;0;0 0 1 0 1;0 1 2 3 4" ∷ [])) ≡ Yes 1 1
+pub one_open_bracket : characters_verdict (record {
+  depth = 125;
+  brackets =
+      1;
+}) unit_of_few (written (codes "0061 2329 05D0 3009 05D1;0;0;0 0 1 0 1;0 1 2 3 4" ∷ [])) ≡ Yes 1 1
 unfolding characters_files_compute
 one_open_bracket = refl

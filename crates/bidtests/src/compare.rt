@@ -153,7 +153,11 @@ fn compare(
 
 /// Judges all cases of a row. On failure, returns the first direction under which the layout differs, and the place.
 /// LTR or RTL is skipped if auto gave the same layout.
-pub fn judge_expected(scratch: &mut Scratch, expected: Expected<'_>, limits: Limits) -> Result<(), LineFault>
+pub fn judge_expected(
+    scratch: &mut Scratch,
+    expected: Expected<'_>,
+    limits: Limits,
+) -> Result<(), LineFault>
     requires { length expected.text.now ≤ room_of scratch.old }
     ensures fault { result_err result ≡ line_fault_of limits (Row (expected_of expected.entry)) }
     ensures room { room_of scratch.new ≡ room_of scratch.old }

@@ -7,9 +7,9 @@ ghost use Rattle.ucdfiles.specs.Tables.{unit_by};
 ghost use Rattle.bidtests.specs.LineReadings.{HasFewDirections};
 
 use crate::characters_row::read_characters_row;
-use crate::expected::Expected;
 use crate::classes_row::read_classes_row;
 use crate::directions::alone;
+use crate::expected::Expected;
 use crate::item::{LevelItems, OrderItems, read_items};
 use crate::kind::Kind;
 use crate::verdict::Cause;

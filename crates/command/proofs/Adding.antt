@@ -22,12 +22,15 @@ local a e =
     is_false _ (both (not a.last) _ w.1).1
 
 -- with an argument of a simple rule
-pub adds : {old new : Command} {a : Arg} {app : App} {rule : Rule} → AddsArg old a new → app_of old ≡ app → rule_of a ≡ rule
+pub adds : {old new : Command} {a : Arg} {app : App} {rule : Rule} → AddsArg old a new → app_of old ≡ app →
+    rule_of a ≡ rule
     → rule.is_simple ≡ true → app_of new ≡ with_rule app rule
 adds {a = a} h is by simple = h.shape (local a (ap (λ (r : Rule). r.is_simple) by ∙ simple)) ∙ ap₂ with_rule is by
 
 -- with a subcommand of plain settings
-pub meets : {old made new : Command} {app sub : App} → AddsSubcommand old made new → app_of old ≡ app → app_of made ≡ sub
+pub meets : {old made new : Command} {app sub : App} → AddsSubcommand old made new → app_of old ≡ app →
+    app_of made ≡ sub
     → sub.top.is_plain ≡ true → app_of new ≡ with_subcommand app sub.top
 meets {made = made} h is by plain =
-    h.shape (plain_fields made (ap (λ (a : App). a.top.is_plain) by ∙ plain)).globals ∙ ap₂ with_subcommand is (ap (λ (a : App). a.top) by)
+    h.shape (plain_fields made (ap (λ (a : App). a.top.is_plain) by ∙ plain)).globals ∙
+    ap₂ with_subcommand is (ap (λ (a : App). a.top) by)

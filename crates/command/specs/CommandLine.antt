@@ -126,11 +126,13 @@ abbrev pub levels_app : Choice → App
 levels_app directions = app_with (codes "levels") (tables_rule ∷ direction_rule directions ∷ file_rule ∷ [])
 
 abbrev pub reorder_app : Choice → App
-reorder_app directions = app_with (codes "reorder") (tables_rule ∷ direction_rule directions ∷ columns_rule ∷ file_rule ∷ [])
+reorder_app directions =
+    app_with (codes "reorder") (tables_rule ∷ direction_rule directions ∷ columns_rule ∷ file_rule ∷ [])
 
 abbrev pub explain_app : Choice → Choice → App
 explain_app kinds directions = app_with (codes "explain") (tables_rule ∷ built_in_rule ∷ option_rule (codes "classes")
-    ∷ option_rule (codes "codes") ∷ row_rule ∷ choice_rule (codes "kind") kinds ∷ choice_rule (codes "direction") directions ∷ record file_rule { required = false } ∷ [])
+    ∷ option_rule (codes "codes") ∷ row_rule ∷ choice_rule (codes "kind") kinds ∷
+    choice_rule (codes "direction") directions ∷ record file_rule { required = false } ∷ [])
 
 abbrev pub judge_app : Choice → App
 judge_app kinds = app_with (codes "judge") (kind_rule kinds ∷ tables_rule ∷ built_in_rule ∷ file_rule ∷ [])
@@ -140,8 +142,10 @@ report_app kinds = app_with (codes "report") (kind_rule kinds ∷ tables_rule �
     ∷ flag_rule (codes "order") ∷ flag_rule (codes "shown") ∷ file_rule ∷ [])
 
 abbrev pub rows_app : Choice → Choice → App
-rows_app forms kinds = app_with (codes "rows") (choice_rule (codes "form") forms ∷ choice_rule (codes "kind") kinds ∷ tables_rule
-    ∷ built_in_rule ∷ option_rule (codes "alphabet") ∷ option_rule (codes "length") ∷ directions_rule ∷ number_rule (codes "seed")
+rows_app forms kinds =
+    app_with (codes "rows") (choice_rule (codes "form") forms ∷ choice_rule (codes "kind") kinds ∷ tables_rule
+    ∷ built_in_rule ∷ option_rule (codes "alphabet") ∷ option_rule (codes "length") ∷ directions_rule ∷
+    number_rule (codes "seed")
     ∷ number_rule (codes "count") ∷ option_rule (codes "of") ∷ [])
 
 -- the command without its subcommands: one is required, except for help and the version
@@ -156,7 +160,8 @@ pub record Choices : Type 0 where
 
 -- the command; its six subcommands have these choices
 abbrev pub bidi_app : Choices → App
-bidi_app c = fold with_subcommand bidi_top ((levels_app c.directions).top ∷ (reorder_app c.directions).top ∷ (explain_app c.kinds c.directions).top
+bidi_app c = fold with_subcommand bidi_top ((levels_app c.directions).top ∷ (reorder_app c.directions).top ∷
+    (explain_app c.kinds c.directions).top
     ∷ (judge_app c.kinds).top ∷ (report_app c.kinds).top ∷ (rows_app c.forms c.kinds).top ∷ [])
 
 -- the command line of `bidi`
@@ -177,17 +182,20 @@ abbrev pub direction_named : Option Text → Direction
 direction_named None = Auto
 direction_named (Some word) =
     if bytes_eq word (direction_word Ltr) then Ltr
-    else (if bytes_eq word (direction_word Rtl) then Rtl else (if bytes_eq word (direction_word AutoRtl) then AutoRtl else Auto))
+    else (if bytes_eq word (direction_word Rtl) then Rtl else
+    (if bytes_eq word (direction_word AutoRtl) then AutoRtl else Auto))
 
 -- the kind of file with this name
 abbrev pub kind_named : Option Text → Option FileKind
 kind_named None = None
 kind_named (Some word) =
-    if bytes_eq word (kind_word Classes) then Some Classes else (if bytes_eq word (kind_word Characters) then Some Characters else None)
+    if bytes_eq word (kind_word Classes) then Some Classes else
+    (if bytes_eq word (kind_word Characters) then Some Characters else None)
 
 -- the number of columns from its text
 abbrev pub ReadsColumns : Text → Result NonZeroU16 ParseIntError → Type 0
-ReadsColumns text r = IfOk r (λ n. n.value ≡ digits_value 10 (without_leading_plus text)) × ParsesNonZeroUnsigned 16 text r
+ReadsColumns text r = IfOk r (λ n. n.value ≡ digits_value 10 (without_leading_plus text)) ×
+    ParsesNonZeroUnsigned 16 text r
 
 -- the columns from the text of their number if it is given
 abbrev pub ColumnsAre : Option Text → Option NonZeroU16 → Type 0
@@ -202,7 +210,8 @@ ReadsLine text r = IfOk r (λ n. n.value ≡ digits_value 10 (without_leading_pl
 abbrev pub LineIs : Option Text → NonZeroU64 → Type 0
 LineIs None line = line.value ≡ 1
 LineIs (Some text) line =
-    (read : Option NonZeroU64) × ReadsOne ReadsLine text read × (line.value ≡ unwrap_or (option_map (λ n. n.value) read) 1)
+    (read : Option NonZeroU64) × ReadsOne ReadsLine text read ×
+    (line.value ≡ unwrap_or (option_map (λ n. n.value) read) 1)
 
 -- the number from its text
 abbrev pub ReadsNumber : Text → Result ℕ ParseIntError → Type 0
@@ -234,7 +243,8 @@ abbrev pub NamesTables : List Row → Option TableSource → Type 0
 NamesTables rows None = (first_of (codes "tables") rows ≡ None) × (is_given (first_of (codes "built-in") rows) ≡ false)
 NamesTables rows (Some (Folder folder)) =
     (first_of (codes "tables") rows ≡ Some folder.now) × (is_given (first_of (codes "built-in") rows) ≡ false)
-NamesTables rows (Some BuiltIn) = (first_of (codes "tables") rows ≡ None) × (is_given (first_of (codes "built-in") rows) ≡ true)
+NamesTables rows (Some BuiltIn) = (first_of (codes "tables") rows ≡ None) ×
+    (is_given (first_of (codes "built-in") rows) ≡ true)
 
 -- the tables of texts; the default is the built-in ones
 abbrev pub TakesTables : List Row → TableSource → Type 0
@@ -258,8 +268,10 @@ form_word Separators = codes "separators"
 
 -- the letters of rows: an alphabet for a form that takes one, and otherwise those of the form
 abbrev pub LettersAre : List Row → RowLetters → Type 0
-LettersAre rows (Alphabet word) = (is_over_alphabet (first_of (codes "form") rows) ≡ true) × (first_of (codes "alphabet") rows ≡ Some word.now)
-LettersAre rows (OfForm form) = (first_of (codes "form") rows ≡ Some (form_word form)) × (first_of (codes "alphabet") rows ≡ None)
+LettersAre rows (Alphabet word) = (is_over_alphabet (first_of (codes "form") rows) ≡ true) ×
+    (first_of (codes "alphabet") rows ≡ Some word.now)
+LettersAre rows (OfForm form) = (first_of (codes "form") rows ≡ Some (form_word form)) ×
+    (first_of (codes "alphabet") rows ≡ None)
 
 -- the kind of the file of rows: the given one, or this default
 abbrev pub rows_kind : FileKind → List Row → FileKind
@@ -303,13 +315,17 @@ AsksToPrint name rows Explained = (name ≡ codes "explain") × (has_row_words r
 -- the values of the subcommand of this name make this request
 abbrev pub AsksFor : Text → List Row → Request → Type 0
 AsksFor name rows (requested.Text tables direction file print) = AsksToPrint name rows print
-    × (first_of (codes "tables") rows ≡ folder_of tables) × (direction ≡ direction_named (first_of (codes "direction") rows))
+    × (first_of (codes "tables") rows ≡ folder_of tables) ×
+    (direction ≡ direction_named (first_of (codes "direction") rows))
     × (first_of (codes "file") rows ≡ Some file.now)
 AsksFor name rows (requested.ExplainClasses classes direction) = (name ≡ codes "explain") × (has_row_words rows ≡ false)
-    × (has_table_words rows ≡ false) × (first_of (codes "classes") rows ≡ Some classes.now) × (first_of (codes "codes") rows ≡ None)
+    × (has_table_words rows ≡ false) × (first_of (codes "classes") rows ≡ Some classes.now) ×
+    (first_of (codes "codes") rows ≡ None)
     × (direction ≡ direction_named (first_of (codes "direction") rows)) × (first_of (codes "file") rows ≡ None)
-AsksFor name rows (requested.ExplainCodes noted tables direction) = (name ≡ codes "explain") × (has_row_words rows ≡ false)
-    × TakesTables rows tables × (first_of (codes "classes") rows ≡ None) × (first_of (codes "codes") rows ≡ Some noted.now)
+AsksFor name rows (requested.ExplainCodes noted tables direction) = (name ≡ codes "explain") ×
+    (has_row_words rows ≡ false)
+    × TakesTables rows tables × (first_of (codes "classes") rows ≡ None) ×
+    (first_of (codes "codes") rows ≡ Some noted.now)
     × (direction ≡ direction_named (first_of (codes "direction") rows)) × (first_of (codes "file") rows ≡ None)
 AsksFor name rows (requested.ExplainRow wanted) = (name ≡ codes "explain") × AsksToExplainRow rows wanted
 AsksFor name rows (requested.Judge kind tables file) = (name ≡ codes "judge")

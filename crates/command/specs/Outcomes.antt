@@ -27,7 +27,8 @@ AsksForHelp error = (kind_of error ≡ kind.DisplayHelp) ⊎ (kind_of error ≡ 
 
 -- the arguments are rejected
 abbrev pub RejectsWords : Error → Type 0
-RejectsWords error = (kind_of error ≢ kind.OutOfMemory) × (kind_of error ≢ kind.DisplayHelp) × (kind_of error ≢ kind.DisplayVersion)
+RejectsWords error = (kind_of error ≢ kind.OutOfMemory) × (kind_of error ≢ kind.DisplayHelp) ×
+    (kind_of error ≢ kind.DisplayVersion)
 
 -- the version text: the product's name, and the version after it
 abbrev pub version_text : List ℕ
@@ -49,25 +50,32 @@ EndsWithout before after err_before err_after error ended =
 
 -- the end of a run whose arguments are accepted but make no request, for this reason: nothing is printed, and if the
 -- reason is reported, the known contents of standard error grew by its text
-pub record EndsUnasked (why : NoRequest) (before after err_before err_after : Option (List ℕ)) (ended : Ended) : Type 0 where
+pub record EndsUnasked (why : NoRequest) (before after err_before err_after : Option (List ℕ))
+    (ended : Ended) : Type 0 where
   pub status_is : ended.status ≡ 2
   pub unprinted : after ≡ before
   pub says : ended.is_reported ≡ true → Appends err_before err_after (no_request_text why)
 
 -- the end of a run whose arguments make no request, for this reason
-abbrev pub EndsUnread : Option (List ℕ) → Option (List ℕ) → Option (List ℕ) → Option (List ℕ) → WordsFault → Ended → Type 0
-EndsUnread before after err_before err_after (fault.ByClap error) ended = EndsWithout before after err_before err_after error ended
-EndsUnread before after err_before err_after (fault.NoRequest why) ended = EndsUnasked why before after err_before err_after ended
+abbrev pub EndsUnread : Option (List ℕ) → Option (List ℕ) → Option (List ℕ) → Option (List ℕ) → WordsFault → Ended →
+    Type 0
+EndsUnread before after err_before err_after (fault.ByClap error) ended =
+    EndsWithout before after err_before err_after error ended
+EndsUnread before after err_before err_after (fault.NoRequest why) ended =
+    EndsUnasked why before after err_before err_after ended
 
 -- the end of a run with this result of reading its arguments: before and after are the output, err_before and err_after
 -- standard error
-abbrev pub EndsAsRead : FileFacts → Option (List ℕ) → Option (List ℕ) → Option (List ℕ) → Option (List ℕ) → Result Invocation WordsFault → Ended → Type 0
+abbrev pub EndsAsRead : FileFacts → Option (List ℕ) → Option (List ℕ) → Option (List ℕ) → Option (List ℕ) →
+    Result Invocation WordsFault → Ended → Type 0
 EndsAsRead files before after err_before err_after (Ok invocation) ended =
     HasEnded files before after err_before err_after invocation.request invocation.detail ended
-EndsAsRead files before after err_before err_after (Err fault) ended = EndsUnread before after err_before err_after fault ended
+EndsAsRead files before after err_before err_after (Err fault) ended =
+    EndsUnread before after err_before err_after fault ended
 
 -- the arguments were read, and the run ended with what they ask for
-pub record HasRun (files : FileFacts) (before after err_before err_after : Option (List ℕ)) (words : List (List ℕ)) (ended : Ended) : Type 0 where
+pub record HasRun (files : FileFacts) (before after err_before err_after : Option (List ℕ)) (words : List (List ℕ))
+    (ended : Ended) : Type 0 where
   pub read : Result Invocation WordsFault
   pub is : IsReadAs words read
   pub ends : EndsAsRead files before after err_before err_after read ended

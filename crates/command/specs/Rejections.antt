@@ -29,7 +29,8 @@ has_classes_and_text rows =
 -- code points are given, and also classes or a text
 abbrev pub has_codes_and_text : List Row → Bool
 has_codes_and_text rows =
-    is_some (first_of (codes "codes") rows) && (is_some (first_of (codes "classes") rows) || is_some (first_of (codes "file") rows))
+    is_some (first_of (codes "codes") rows) && (is_some (first_of (codes "classes") rows) ||
+    is_some (first_of (codes "file") rows))
 
 -- a row is given, or the kind of a file; only a row has a kind
 abbrev pub has_row_words : List Row → Bool
@@ -38,7 +39,8 @@ has_row_words rows = is_some (first_of (codes "row") rows) || is_some (first_of 
 -- classes, code points or a direction are given; none of them can be used with a row, which has its own directions
 abbrev pub has_text_words : List Row → Bool
 has_text_words rows =
-    is_some (first_of (codes "classes") rows) || (is_some (first_of (codes "codes") rows) || is_some (first_of (codes "direction") rows))
+    is_some (first_of (codes "classes") rows) || (is_some (first_of (codes "codes") rows) ||
+    is_some (first_of (codes "direction") rows))
 
 -- for `explain` with a row: classes, code points and a direction are not allowed, and its kind and a file are required
 abbrev pub row_rejection : List Row → NoRequest
@@ -70,7 +72,8 @@ is_over_alphabet (Some form) = takes_alphabet form
 -- an argument determines the texts of a form
 abbrev pub has_form_words : List Row → Bool
 has_form_words rows =
-    is_some (first_of (codes "form") rows) || (is_some (first_of (codes "alphabet") rows) || (is_some (first_of (codes "length") rows)
+    is_some (first_of (codes "form") rows) || (is_some (first_of (codes "alphabet") rows) ||
+    (is_some (first_of (codes "length") rows)
     || (is_some (first_of (codes "seed") rows) || is_some (first_of (codes "count") rows))))
 
 -- for `rows` with a form: lengths are required; an alphabet is required if the form takes one, and not allowed
@@ -104,18 +107,24 @@ rejection_without_request (Some met) = rejection_in_subcommand met.0 met.1
 -- what is wrong, in words
 abbrev pub words_without_request : NoRequest → List ℕ
 words_without_request (TwoTables command) = codes "the argument '--tables <DIR>' cannot be used with '--built-in'"
-words_without_request ClassesAndText = codes "the argument '--classes <CLASSES>' cannot be used with '--tables <DIR>', '--built-in' or '<FILE>'"
-words_without_request CodesAndText = codes "the argument '--codes <CODES>' cannot be used with '--classes <CLASSES>' or '<FILE>'"
+words_without_request ClassesAndText =
+    codes "the argument '--classes <CLASSES>' cannot be used with '--tables <DIR>', '--built-in' or '<FILE>'"
+words_without_request CodesAndText =
+    codes "the argument '--codes <CODES>' cannot be used with '--classes <CLASSES>' or '<FILE>'"
 words_without_request NoText = codes "'<FILE>' is required, or '--codes <CODES>', or '--classes <CLASSES>'"
-words_without_request RowAndText = codes "the argument '--row <LINE>' cannot be used with '--classes <CLASSES>', '--codes <CODES>' or '--direction <DIRECTION>'"
+words_without_request RowAndText =
+    codes "the argument '--row <LINE>' cannot be used with '--classes <CLASSES>', '--codes <CODES>' or '--direction <DIRECTION>'"
 words_without_request RowWithoutKind = codes "the argument '--kind <KIND>' is required with '--row <LINE>'"
 words_without_request RowWithoutFile = codes "'<FILE>' is required with '--row <LINE>'"
 words_without_request KindWithoutRow = codes "the argument '--kind <KIND>' can be used only with '--row <LINE>'"
-words_without_request TextAndForm = codes "the argument '--of <FILE>' cannot be used with '--form <FORM>', '--alphabet <LETTERS>', '--length <LENGTHS>', '--seed <N>' or '--count <N>'"
+words_without_request TextAndForm =
+    codes "the argument '--of <FILE>' cannot be used with '--form <FORM>', '--alphabet <LETTERS>', '--length <LENGTHS>', '--seed <N>' or '--count <N>'"
 words_without_request NoForm = codes "'--form <FORM>' is required, or '--of <FILE>'"
 words_without_request NoLength = codes "the argument '--length <LENGTHS>' is required with '--form <FORM>'"
-words_without_request NoAlphabet = codes "the argument '--alphabet <LETTERS>' is required with '--form exhaustive' and '--form random'"
-words_without_request AlphabetAndForm = codes "the argument '--alphabet <LETTERS>' can be used only with '--form exhaustive' and '--form random'"
+words_without_request NoAlphabet =
+    codes "the argument '--alphabet <LETTERS>' is required with '--form exhaustive' and '--form random'"
+words_without_request AlphabetAndForm =
+    codes "the argument '--alphabet <LETTERS>' can be used only with '--form exhaustive' and '--form random'"
 words_without_request NoSubcommand = codes "a subcommand is needed"
 
 -- the usage of the subcommand
@@ -140,5 +149,6 @@ usage_without_request NoSubcommand = BIDI_USAGE.now
 
 -- what is printed for the user
 abbrev pub no_request_text : NoRequest → List ℕ
-no_request_text why = concat (codes "error: " ∷ words_without_request why ∷ codes "\n\nUsage: " ∷ usage_without_request why
+no_request_text why =
+    concat (codes "error: " ∷ words_without_request why ∷ codes "\n\nUsage: " ∷ usage_without_request why
     ∷ codes "\n\nFor more information, try '--help'.\n" ∷ [])

@@ -58,10 +58,21 @@ met p = record {
 
 -- a subcommand without arguments
 abbrev bare : Text → Met
-bare name = record { name = name; tables = None; built_in = false; classes = None; codes = None; direction = Auto; columns = None; kind = None; file = None }
+bare name = record {
+  name = name;
+  tables = None;
+  built_in = false;
+  classes = None;
+  codes = None;
+  direction = Auto;
+  columns = None;
+  kind = None;
+  file = None;
+}
 
 -- the default direction is auto
-pub levels_words : (c : Choices) → option_map met (meets c (codes "levels" ∷ codes "--tables" ∷ codes "t" ∷ codes "FILE" ∷ []))
+pub levels_words : (c : Choices) →
+    option_map met (meets c (codes "levels" ∷ codes "--tables" ∷ codes "t" ∷ codes "FILE" ∷ []))
     ≡ Some (record (bare (codes "levels")) { tables = Some (codes "t"); file = Some (codes "FILE") })
 unfolding clap_on_literals
 levels_words c = refl
@@ -73,12 +84,14 @@ unfolding clap_on_literals
 standard_words c = refl
 
 -- a folder without a name
-pub no_folder_words : (c : Choices) → faults c (codes "levels" ∷ codes "--tables" ∷ codes "" ∷ codes "FILE" ∷ []) ≡ InvalidValue ∷ []
+pub no_folder_words : (c : Choices) → faults c (codes "levels" ∷ codes "--tables" ∷ codes "" ∷ codes "FILE" ∷ []) ≡
+    InvalidValue ∷ []
 unfolding clap_on_literals
 no_folder_words c = refl
 
 -- standard input
-pub input_words : (c : Choices) → option_map met (meets c (codes "levels" ∷ codes "--tables" ∷ codes "t" ∷ codes "-" ∷ []))
+pub input_words : (c : Choices) →
+    option_map met (meets c (codes "levels" ∷ codes "--tables" ∷ codes "t" ∷ codes "-" ∷ []))
     ≡ Some (record (bare (codes "levels")) { tables = Some (codes "t"); file = Some (codes "-") })
 unfolding clap_on_literals
 input_words c = refl
@@ -90,15 +103,26 @@ version_words c = refl
 
 -- options in any order, and values after `=`
 pub reorder_words : (c : Choices) → option_map met (meets c
-    (codes "reorder" ∷ codes "--columns=2" ∷ codes "FILE" ∷ codes "--direction" ∷ codes "rtl" ∷ codes "--tables=t" ∷ []))
-    ≡ Some (record (bare (codes "reorder")) { tables = Some (codes "t"); direction = Rtl; columns = Some (codes "2"); file = Some (codes "FILE") })
+    (codes "reorder" ∷ codes "--columns=2" ∷ codes "FILE" ∷ codes "--direction" ∷ codes "rtl" ∷ codes "--tables=t" ∷
+    []))
+    ≡ Some (record (bare (codes "reorder")) {
+      tables = Some (codes "t");
+      direction = Rtl;
+      columns = Some (codes "2");
+      file = Some (codes "FILE");
+    })
 unfolding clap_on_literals
 reorder_words c = refl
 
 -- of a kind, with tables
 pub judge_words : (c : Choices) → option_map met (meets c
     (codes "judge" ∷ codes "--kind" ∷ codes "characters" ∷ codes "--tables" ∷ codes "t" ∷ codes "FILE" ∷ []))
-    ≡ Some (record (bare (codes "judge")) { tables = Some (codes "t"); kind = Some Characters; file = Some (codes "FILE") })
+    ≡ Some (record (bare (codes "judge")) {
+      tables = Some (codes "t");
+      kind = Some Characters;
+      file =
+          Some (codes "FILE");
+    })
 unfolding clap_on_literals
 judge_words c = refl
 
@@ -111,17 +135,20 @@ judge_built_in_words c = refl
 
 -- both: no request, and the reason
 pub judge_two_tables_words : (c : Choices) → rejection c
-    (codes "judge" ∷ codes "--kind" ∷ codes "characters" ∷ codes "--tables" ∷ codes "t" ∷ codes "--built-in" ∷ codes "FILE" ∷ []) ≡ TwoTables Judge
+    (codes "judge" ∷ codes "--kind" ∷ codes "characters" ∷ codes "--tables" ∷ codes "t" ∷ codes "--built-in" ∷
+    codes "FILE" ∷ []) ≡ TwoTables Judge
 unfolding clap_on_literals
 judge_two_tables_words c = refl
 
 pub report_two_tables_words : (c : Choices) → rejection c
-    (codes "report" ∷ codes "--built-in" ∷ codes "--kind" ∷ codes "classes" ∷ codes "--tables=t" ∷ codes "FILE" ∷ []) ≡ TwoTables Report
+    (codes "report" ∷ codes "--built-in" ∷ codes "--kind" ∷ codes "classes" ∷ codes "--tables=t" ∷ codes "FILE" ∷ []) ≡
+    TwoTables Report
 unfolding clap_on_literals
 report_two_tables_words c = refl
 
 -- a flag of the subcommands that take rows
-pub levels_built_in_words : (c : Choices) → faults c (codes "levels" ∷ codes "--built-in" ∷ codes "FILE" ∷ []) ≡ UnknownArgument ∷ []
+pub levels_built_in_words : (c : Choices) → faults c (codes "levels" ∷ codes "--built-in" ∷ codes "FILE" ∷ []) ≡
+    UnknownArgument ∷ []
 unfolding clap_on_literals
 levels_built_in_words c = refl
 
@@ -160,7 +187,8 @@ unfolding clap_on_literals
 report_flag_value_words c = refl
 
 -- the explanation of a text with tables of a folder
-pub explain_words : (c : Choices) → option_map met (meets c (codes "explain" ∷ codes "--tables" ∷ codes "t" ∷ codes "FILE" ∷ []))
+pub explain_words : (c : Choices) →
+    option_map met (meets c (codes "explain" ∷ codes "--tables" ∷ codes "t" ∷ codes "FILE" ∷ []))
     ≡ Some (record (bare (codes "explain")) { tables = Some (codes "t"); file = Some (codes "FILE") })
 unfolding clap_on_literals
 explain_words c = refl
@@ -172,7 +200,8 @@ unfolding clap_on_literals
 explain_standard_words c = refl
 
 -- with the built-in ones, given as a flag
-pub explain_built_in_words : (c : Choices) → option_map met (meets c (codes "explain" ∷ codes "--built-in" ∷ codes "FILE" ∷ []))
+pub explain_built_in_words : (c : Choices) →
+    option_map met (meets c (codes "explain" ∷ codes "--built-in" ∷ codes "FILE" ∷ []))
     ≡ Some (record (bare (codes "explain")) { built_in = true; file = Some (codes "FILE") })
 unfolding clap_on_literals
 explain_built_in_words c = refl
@@ -185,7 +214,8 @@ unfolding clap_on_literals
 explain_classes_words c = refl
 
 -- of code points, in the same way
-pub explain_codes_words : (c : Choices) → option_map met (meets c (codes "explain" ∷ codes "--codes" ∷ codes "05D0 0028" ∷ []))
+pub explain_codes_words : (c : Choices) →
+    option_map met (meets c (codes "explain" ∷ codes "--codes" ∷ codes "05D0 0028" ∷ []))
     ≡ Some (record (bare (codes "explain")) { codes = Some (codes "05D0 0028") })
 unfolding clap_on_literals
 explain_codes_words c = refl
@@ -195,7 +225,8 @@ pub explain_nothing_words : (c : Choices) → rejection c (codes "explain" ∷ [
 unfolding clap_on_literals
 explain_nothing_words c = refl
 
-pub explain_both_words : (c : Choices) → rejection c (codes "explain" ∷ codes "--classes" ∷ codes "R" ∷ codes "FILE" ∷ []) ≡ ClassesAndText
+pub explain_both_words : (c : Choices) →
+    rejection c (codes "explain" ∷ codes "--classes" ∷ codes "R" ∷ codes "FILE" ∷ []) ≡ ClassesAndText
 unfolding clap_on_literals
 explain_both_words c = refl
 
@@ -204,40 +235,51 @@ pub explain_codes_and_classes_words : (c : Choices) → rejection c
 unfolding clap_on_literals
 explain_codes_and_classes_words c = refl
 
-pub explain_classes_and_tables_words : (c : Choices) → rejection c (codes "explain" ∷ codes "--classes" ∷ codes "R" ∷ codes "--built-in" ∷ [])
+pub explain_classes_and_tables_words : (c : Choices) →
+    rejection c (codes "explain" ∷ codes "--classes" ∷ codes "R" ∷ codes "--built-in" ∷ [])
     ≡ ClassesAndText
 unfolding clap_on_literals
 explain_classes_and_tables_words c = refl
 
-pub explain_two_tables_words : (c : Choices) → rejection c (codes "explain" ∷ codes "--built-in" ∷ codes "--tables" ∷ codes "t" ∷ codes "FILE" ∷ [])
+pub explain_two_tables_words : (c : Choices) →
+    rejection c (codes "explain" ∷ codes "--built-in" ∷ codes "--tables" ∷ codes "t" ∷ codes "FILE" ∷ [])
     ≡ TwoTables Explain
 unfolding clap_on_literals
 explain_two_tables_words c = refl
 
 -- a row of a file: its line, the file's kind, its folder and name
 abbrev row_met : Text × List Row → Option Text × Option FileKind × Option Text × Option Text
-row_met p = (one_of (codes "row") p.1, kind_named (first_of (codes "kind") p.1), first_of (codes "tables") p.1, first_of (codes "file") p.1)
+row_met p = (
+  one_of (codes "row") p.1,
+  kind_named (first_of (codes "kind") p.1),
+  first_of (codes "tables") p.1,
+  first_of (codes "file") p.1,
+)
 
 pub explain_row_words : (c : Choices) → option_map row_met (meets c
-    (codes "explain" ∷ codes "--row=12" ∷ codes "--kind" ∷ codes "characters" ∷ codes "FILE" ∷ codes "--tables" ∷ codes "t" ∷ []))
+    (codes "explain" ∷ codes "--row=12" ∷ codes "--kind" ∷ codes "characters" ∷ codes "FILE" ∷ codes "--tables" ∷
+    codes "t" ∷ []))
     ≡ Some (Some (codes "12"), Some Characters, Some (codes "t"), Some (codes "FILE"))
 unfolding clap_on_literals
 explain_row_words c = refl
 
 -- no line has the number 0
 pub explain_no_row_words : (c : Choices) → faults c
-    (codes "explain" ∷ codes "--row" ∷ codes "0" ∷ codes "--kind" ∷ codes "classes" ∷ codes "FILE" ∷ []) ≡ ValueValidation ∷ []
+    (codes "explain" ∷ codes "--row" ∷ codes "0" ∷ codes "--kind" ∷ codes "classes" ∷ codes "FILE" ∷ []) ≡
+    ValueValidation ∷ []
 unfolding clap_on_literals
 explain_no_row_words c = refl
 
 -- a direction with a row, a row without a kind or a file, and a kind without a row: no request, and the reason
 pub explain_row_and_direction_words : (c : Choices) → rejection c
-    (codes "explain" ∷ codes "--row" ∷ codes "1" ∷ codes "--direction" ∷ codes "auto" ∷ codes "--kind" ∷ codes "classes" ∷ codes "FILE" ∷ [])
+    (codes "explain" ∷ codes "--row" ∷ codes "1" ∷ codes "--direction" ∷ codes "auto" ∷ codes "--kind" ∷
+    codes "classes" ∷ codes "FILE" ∷ [])
     ≡ RowAndText
 unfolding clap_on_literals
 explain_row_and_direction_words c = refl
 
-pub explain_row_without_kind_words : (c : Choices) → rejection c (codes "explain" ∷ codes "--row" ∷ codes "1" ∷ codes "FILE" ∷ [])
+pub explain_row_without_kind_words : (c : Choices) →
+    rejection c (codes "explain" ∷ codes "--row" ∷ codes "1" ∷ codes "FILE" ∷ [])
     ≡ RowWithoutKind
 unfolding clap_on_literals
 explain_row_without_kind_words c = refl
@@ -247,7 +289,8 @@ pub explain_row_without_file_words : (c : Choices) → rejection c
 unfolding clap_on_literals
 explain_row_without_file_words c = refl
 
-pub explain_kind_without_row_words : (c : Choices) → rejection c (codes "explain" ∷ codes "--kind" ∷ codes "classes" ∷ codes "FILE" ∷ [])
+pub explain_kind_without_row_words : (c : Choices) →
+    rejection c (codes "explain" ∷ codes "--kind" ∷ codes "classes" ∷ codes "FILE" ∷ [])
     ≡ KindWithoutRow
 unfolding clap_on_literals
 explain_kind_without_row_words c = refl
@@ -263,14 +306,16 @@ rows_met p = (
 )
 
 pub rows_words : (c : Choices) → option_map rows_met (meets c
-    (codes "rows" ∷ codes "--form" ∷ codes "exhaustive" ∷ codes "--alphabet" ∷ codes "R ON L" ∷ codes "--length=1..3" ∷ []))
+    (codes "rows" ∷ codes "--form" ∷ codes "exhaustive" ∷ codes "--alphabet" ∷ codes "R ON L" ∷ codes "--length=1..3" ∷
+    []))
     ≡ Some (Some (codes "exhaustive"), None, Some (codes "R ON L"), Some (codes "1..3"), Some (codes "auto ltr rtl"))
 unfolding clap_on_literals
 rows_words c = refl
 
 -- of a form of hard texts
 pub hard_rows_words : (c : Choices) → option_map rows_met (meets c
-    (codes "rows" ∷ codes "--form=nest" ∷ codes "--kind" ∷ codes "characters" ∷ codes "--length" ∷ codes "9" ∷ codes "--directions" ∷ codes "rtl" ∷ []))
+    (codes "rows" ∷ codes "--form=nest" ∷ codes "--kind" ∷ codes "characters" ∷ codes "--length" ∷ codes "9" ∷
+    codes "--directions" ∷ codes "rtl" ∷ []))
     ≡ Some (Some (codes "nest"), Some Characters, None, Some (codes "9"), Some (codes "rtl"))
 unfolding clap_on_literals
 hard_rows_words c = refl
@@ -282,23 +327,27 @@ unfolding clap_on_literals
 rows_without_alphabet_words c = refl
 
 pub rows_with_two_letters_words : (c : Choices) → rejection c
-    (codes "rows" ∷ codes "--form" ∷ codes "nest" ∷ codes "--alphabet" ∷ codes "L" ∷ codes "--length" ∷ codes "1" ∷ []) ≡ AlphabetAndForm
+    (codes "rows" ∷ codes "--form" ∷ codes "nest" ∷ codes "--alphabet" ∷ codes "L" ∷ codes "--length" ∷ codes "1" ∷
+    []) ≡ AlphabetAndForm
 unfolding clap_on_literals
 rows_with_two_letters_words c = refl
 
 -- rows of the lines of a text, and their default kind
-pub text_rows_words : (c : Choices) → option_map (λ p. first_of (codes "of") p.1) (meets c (codes "rows" ∷ codes "--of" ∷ codes "-" ∷ []))
+pub text_rows_words : (c : Choices) →
+    option_map (λ p. first_of (codes "of") p.1) (meets c (codes "rows" ∷ codes "--of" ∷ codes "-" ∷ []))
     ≡ Some (Some (codes "-"))
 unfolding clap_on_literals
 text_rows_words c = refl
 
-pub text_rows_kind : (c : Choices) → option_map (λ p. rows_kind Characters p.1) (meets c (codes "rows" ∷ codes "--of" ∷ codes "-" ∷ []))
+pub text_rows_kind : (c : Choices) →
+    option_map (λ p. rows_kind Characters p.1) (meets c (codes "rows" ∷ codes "--of" ∷ codes "-" ∷ []))
     ≡ Some Characters
 unfolding clap_on_literals
 text_rows_kind c = refl
 
 -- a text with a form, neither of them, and a form without lengths: no request, and the reason
-pub rows_of_text_and_form_words : (c : Choices) → rejection c (codes "rows" ∷ codes "--of" ∷ codes "t" ∷ codes "--seed" ∷ codes "1" ∷ [])
+pub rows_of_text_and_form_words : (c : Choices) →
+    rejection c (codes "rows" ∷ codes "--of" ∷ codes "t" ∷ codes "--seed" ∷ codes "1" ∷ [])
     ≡ TextAndForm
 unfolding clap_on_literals
 rows_of_text_and_form_words c = refl
@@ -307,7 +356,8 @@ pub rows_of_nothing_words : (c : Choices) → rejection c (codes "rows" ∷ []) 
 unfolding clap_on_literals
 rows_of_nothing_words c = refl
 
-pub rows_without_length_words : (c : Choices) → rejection c (codes "rows" ∷ codes "--form" ∷ codes "nest" ∷ []) ≡ NoLength
+pub rows_without_length_words : (c : Choices) → rejection c (codes "rows" ∷ codes "--form" ∷ codes "nest" ∷ []) ≡
+    NoLength
 unfolding clap_on_literals
 rows_without_length_words c = refl
 
@@ -323,16 +373,19 @@ pub verbose_words : (c : Choices) → option_map (λ p. detail_in p.1) (meets c
 unfolding clap_on_literals
 verbose_words c = refl
 
-pub short_verbose_words : (c : Choices) → option_map (λ p. detail_in p.1) (meets c (codes "levels" ∷ codes "-v" ∷ codes "FILE" ∷ []))
+pub short_verbose_words : (c : Choices) →
+    option_map (λ p. detail_in p.1) (meets c (codes "levels" ∷ codes "-v" ∷ codes "FILE" ∷ []))
     ≡ Some Verbose
 unfolding clap_on_literals
 short_verbose_words c = refl
 
-pub brief_words : (c : Choices) → option_map (λ p. detail_in p.1) (meets c (codes "levels" ∷ codes "FILE" ∷ [])) ≡ Some Brief
+pub brief_words : (c : Choices) → option_map (λ p. detail_in p.1) (meets c (codes "levels" ∷ codes "FILE" ∷ [])) ≡
+    Some Brief
 unfolding clap_on_literals
 brief_words c = refl
 
 -- a flag of the subcommands, and not of the command itself
-pub verbose_without_subcommand : (c : Choices) → faults c (codes "-v" ∷ codes "levels" ∷ codes "FILE" ∷ []) ≡ UnknownArgument ∷ []
+pub verbose_without_subcommand : (c : Choices) →
+    faults c (codes "-v" ∷ codes "levels" ∷ codes "FILE" ∷ []) ≡ UnknownArgument ∷ []
 unfolding clap_on_literals
 verbose_without_subcommand c = refl

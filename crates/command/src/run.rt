@@ -69,7 +69,8 @@ fn reject<E: Write>(rejection: &Error, err: &mut E) -> Ended
 /// Reports why accepted arguments make no request, and returns how the run ends.
 fn say_no_request<E: Write>(why: NoRequest, err: &mut E) -> Ended
     ensures status { result.status ≡ 2 }
-    ensures noted { result.is_reported ≡ true → Appends (E.contents err.old) (E.contents err.new) (no_request_text why) }
+    ensures noted { result.is_reported ≡ true →
+        Appends (E.contents err.old) (E.contents err.new) (no_request_text why) }
 {
     let written = write!(err, "{why}");
     let flushed = err.flush();

@@ -94,22 +94,28 @@ unfolding chars
 chars_row = refl
 
 -- the file of the classes is in the folder itself
-class_path_is : (bytes path : List ℕ) → IsClassPath (memory_facts (files_with bytes)) (codes "t") path → path ≡ in_folder (codes "t") class_name
+class_path_is : (bytes path : List ℕ) → IsClassPath (memory_facts (files_with bytes)) (codes "t") path →
+    path ≡ in_folder (codes "t") class_name
 class_path_is bytes path (inl e) = e
 class_path_is bytes path (inr h) = let rejected = h.1.0 in cc
 
-alef_is : (bytes : List ℕ) (tables : TablesOf) → AreTables (memory_facts (files_with bytes)) (codes "t") tables → unit_by tables 1488 ≡ alef_unit
+alef_is : (bytes : List ℕ) (tables : TablesOf) → AreTables (memory_facts (files_with bytes)) (codes "t") tables →
+    unit_by tables 1488 ≡ alef_unit
 alef_is bytes tables h =
-    let class_file : IsWhole (stored_at (files_with bytes) (FileNamed (in_folder (codes "t") class_name))) most_file_bytes h.class_bytes =
+    let class_file : IsWhole (stored_at (files_with bytes) (FileNamed (in_folder (codes "t") class_name)))
+    most_file_bytes h.class_bytes =
     subst (λ (path : List ℕ). IsWhole (stored_at (files_with bytes) (FileNamed path)) most_file_bytes h.class_bytes)
     (class_path_is bytes h.class_path h.class_path_given) h.class_file in
     let class : class_by tables.classes 1488 ≡ R =
     h.classes.stated 1488 (lit≤ tt) ∙ ap (λ bytes. class_of bytes 1488) class_file.0 ∙ class_row in
     let bracket : bracket_by tables.brackets 1488 ≡ No =
-    h.brackets.stated 1488 (lit≤ tt) ∙ ap (λ bytes. bracket_stated h.brackets.key (bracket_of bytes 1488)) h.bracket_file.0 ∙ bracket_row h.brackets.key in
+    h.brackets.stated 1488 (lit≤ tt) ∙
+    ap (λ bytes. bracket_stated h.brackets.key (bracket_of bytes 1488)) h.bracket_file.0 ∙
+    bracket_row h.brackets.key in
     ap₂ (λ (c : Class) (b : Bracket). let unit : BidiUnit = record { class = c; bracket = b } in unit) class bracket
 
-alef_units : (tables : TablesOf) → AreTables (memory_facts alef_files) (codes "t") tables → units_by tables (1488 ∷ []) ≡ alef
+alef_units : (tables : TablesOf) → AreTables (memory_facts alef_files) (codes "t") tables →
+    units_by tables (1488 ∷ []) ≡ alef
 alef_units tables h = ap (λ (unit : BidiUnit). unit ∷ []) (alef_is (215 ∷ 144 ∷ []) tables h)
 
 levels_row : levels_text (1488 ∷ []) alef (layout_of standard alef Auto []) ≡ codes "paragraph 0 level 1\n0 05D0 R 1\n"
@@ -117,22 +123,26 @@ unfolding layouts_compute code_text digits
 levels_row = refl
 
 pub levels_of_alef : (folder : Bor (List ℕ)) (before after : Option (List ℕ)) → folder.now ≡ codes "t"
-    → HasPrinted (memory_facts alef_files) (λ tables text. printed_levels tables text Auto) (Folder folder) (codes "FILE") before after
+    → HasPrinted (memory_facts alef_files) (λ tables text. printed_levels tables text Auto) (Folder folder)
+    (codes "FILE") before after
     → Appends before after (codes "paragraph 0 level 1\n0 05D0 R 1\n")
 levels_of_alef folder before after f h =
     let stated = subst (λ (name : List ℕ). AreTables (memory_facts alef_files) name h.tables) f h.stated in
     let text : h.text ≡ 1488 ∷ [] = h.read.text_is ∙ ap chars h.read.read.0 ∙ chars_row in
     let printed : printed_levels h.tables h.text Auto ≡ codes "paragraph 0 level 1\n0 05D0 R 1\n" =
     ap (λ (cs : List ℕ). printed_levels h.tables cs Auto) text
-    ∙ ap (λ (units : List BidiUnit). levels_text (1488 ∷ []) units (layout_of standard units Auto [])) (alef_units h.tables stated) ∙ levels_row in
+    ∙ ap (λ (units : List BidiUnit). levels_text (1488 ∷ []) units (layout_of standard units Auto []))
+    (alef_units h.tables stated) ∙ levels_row in
     subst (λ (bytes : List ℕ). Appends before after bytes) printed h.noted
 
-line_row : (images : ℕ → Option ℕ) → images 1488 ≡ None → reorder_text images (1488 ∷ []) alef (layout_of standard alef Auto []) ≡ alef_line
+line_row : (images : ℕ → Option ℕ) → images 1488 ≡ None →
+    reorder_text images (1488 ∷ []) alef (layout_of standard alef Auto []) ≡ alef_line
 unfolding layouts_compute encode_utf8
 line_row images none = rw none refl
 
 pub line_of_alef : (folder : Bor (List ℕ)) (before after : Option (List ℕ)) → folder.now ≡ codes "t"
-    → HasPrinted (memory_facts alef_files) (λ tables text. printed_reorder tables text Auto None) (Folder folder) (codes "FILE") before after
+    → HasPrinted (memory_facts alef_files) (λ tables text. printed_reorder tables text Auto None) (Folder folder)
+    (codes "FILE") before after
     → Appends before after alef_line
 line_of_alef folder before after f h =
     let stated = subst (λ (name : List ℕ). AreTables (memory_facts alef_files) name h.tables) f h.stated in
@@ -141,7 +151,8 @@ line_of_alef folder before after f h =
     stated.mirrors.stated 1488 (lit≤ tt) ∙ ap (λ bytes. mirror_of bytes 1488) stated.mirror_file.0 ∙ mirror_row in
     let printed : printed_reorder h.tables h.text Auto None ≡ alef_line =
     ap (λ (cs : List ℕ). printed_reorder h.tables cs Auto None) text
-    ∙ ap (λ (units : List BidiUnit). reorder_text (mirror_by h.tables.mirrors) (1488 ∷ []) units (layout_of standard units Auto []))
+    ∙ ap (λ (units : List BidiUnit).
+    reorder_text (mirror_by h.tables.mirrors) (1488 ∷ []) units (layout_of standard units Auto []))
     (alef_units h.tables stated) ∙ line_row (mirror_by h.tables.mirrors) image in
     subst (λ (bytes : List ℕ). Appends before after bytes) printed h.noted
 
@@ -172,7 +183,8 @@ unfolding digits
 text_row = refl
 
 pub line_of_verdict : (before after : Option (List ℕ)) (status : ℕ)
-    → HasJudged (memory_facts row_files) IsClassesVerdict (codes "-") before after status → Appends before after (codes "yes: 1 rows, 1 cases\n")
+    → HasJudged (memory_facts row_files) IsClassesVerdict (codes "-") before after status →
+    Appends before after (codes "yes: 1 rows, 1 cases\n")
 line_of_verdict before after status h =
     let verdict : h.verdict ≡ Yes 1 1 = h.is ∙ ap (classes_verdict standard) h.read.0 ∙ verdict_row in
     subst (λ (bytes : List ℕ). Appends before after bytes) (ap verdict_text verdict ∙ text_row) h.noted.line
@@ -186,9 +198,16 @@ character_files = files_with character_bytes
 
 -- what the row expects of this unit
 abbrev alef_expected : BidiUnit → Expected
-alef_expected unit = record { text = unit ∷ []; directions = Auto ∷ []; para_level = Some 1; levels = Some 1 ∷ []; order = 0 ∷ [] }
+alef_expected unit = record {
+  text = unit ∷ [];
+  directions = Auto ∷ [];
+  para_level = Some 1;
+  levels = Some 1 ∷ [];
+  order = 0 ∷ [];
+}
 
-character_findings : (unit_of : ℕ → BidiUnit) → characters_findings unit_of (lines_of character_bytes) ≡ Row (alef_expected (unit_of 1488)) ∷ []
+character_findings : (unit_of : ℕ → BidiUnit) →
+    characters_findings unit_of (lines_of character_bytes) ≡ Row (alef_expected (unit_of 1488)) ∷ []
 unfolding characters_line
 character_findings unit_of = refl
 
@@ -196,19 +215,24 @@ alef_row_is_right : verdict_on standard (Row (alef_expected alef_unit) ∷ []) �
 unfolding verdict_on layouts_compute
 alef_row_is_right = refl
 
-character_verdict : (tables : TablesOf) → AreTables (memory_facts character_files) (codes "t") tables → characters_verdict standard (unit_by tables) character_bytes ≡ Yes 1 1
+character_verdict : (tables : TablesOf) → AreTables (memory_facts character_files) (codes "t") tables →
+    characters_verdict standard (unit_by tables) character_bytes ≡ Yes 1 1
 unfolding characters_verdict
 character_verdict tables h =
     ap (verdict_on standard) (character_findings (unit_by tables))
-    ∙ ap (λ (unit : BidiUnit). verdict_on standard (Row (alef_expected unit) ∷ [])) (alef_is character_bytes tables h) ∙ alef_row_is_right
+    ∙ ap (λ (unit : BidiUnit). verdict_on standard (Row (alef_expected unit) ∷ [])) (alef_is character_bytes tables h) ∙
+    alef_row_is_right
 
-pub line_of_characters_verdict : (folder : Bor (List ℕ)) (before after : Option (List ℕ)) (status : ℕ) → folder.now ≡ codes "t"
-    → HasJudged (memory_facts character_files) (IsCharactersVerdict (memory_facts character_files) (Folder folder)) (codes "FILE") before after status
+pub line_of_characters_verdict : (folder : Bor (List ℕ)) (before after : Option (List ℕ)) (status : ℕ) →
+    folder.now ≡ codes "t"
+    → HasJudged (memory_facts character_files) (IsCharactersVerdict (memory_facts character_files) (Folder folder))
+    (codes "FILE") before after status
     → Appends before after (codes "yes: 1 rows, 1 cases\n")
 line_of_characters_verdict folder before after status f h =
     let tables = h.is.0 in
     let stated = subst (λ (name : List ℕ). AreTables (memory_facts character_files) name tables) f h.is.1 in
-    let verdict : h.verdict ≡ Yes 1 1 = h.is.2 ∙ ap (characters_verdict standard (unit_by tables)) h.read.0 ∙ character_verdict tables stated in
+    let verdict : h.verdict ≡ Yes 1 1 = h.is.2 ∙ ap (characters_verdict standard (unit_by tables)) h.read.0 ∙
+    character_verdict tables stated in
     subst (λ (bytes : List ℕ). Appends before after bytes) (ap verdict_text verdict ∙ text_row) h.noted.line
 
 -- a standard input of one row, of a neutral
@@ -221,7 +245,13 @@ neutral_files = record { files = []; input = Some (whole_file [] neutral_bytes) 
 -- the row at its third line
 abbrev neutral_view : RowView
 neutral_view = record {
-  expected = record { text = record { class = ON; bracket = No } ∷ []; directions = Auto ∷ []; para_level = None; levels = Some 0 ∷ []; order = 0 ∷ [] };
+  expected = record {
+    text = record { class = ON; bracket = No } ∷ [];
+    directions = Auto ∷ [];
+    para_level = None;
+    levels = Some 0 ∷ [];
+    order = 0 ∷ [];
+  };
   chars = [];
 }
 
@@ -239,7 +269,8 @@ none_after [] rest e = sym e
 none_after (x ∷ xs) rest e = none_after xs rest cc
 
 pub row_of_neutral : (number : ℕ) (row : RowView) (before after : Option (List ℕ)) → number ≡ 3
-    → HasAtLine (memory_facts neutral_files) rows_of.Classes number (codes "-") (Ok row) → Appends before after (row_text number row)
+    → HasAtLine (memory_facts neutral_files) rows_of.Classes number (codes "-") (Ok row) →
+    Appends before after (row_text number row)
     → Appends before after neutral_row_explained
 row_of_neutral number row before after e h noted =
     let rest = h.begins.0 in
@@ -252,15 +283,19 @@ row_of_neutral number row before after e h noted =
     subst (λ (bytes : List ℕ). Appends before after bytes) (ap₂ row_text e is ∙ neutral_text_is) noted
 
 -- what each request over these files prints
-pub levels_done : (files : Stored) (folder file : Bor (List ℕ)) (before after : Option (List ℕ)) (outcome : Outcome) → files ≡ alef_files
-    → folder.now ≡ codes "t" → file.now ≡ codes "FILE" → IsDone (memory_facts files) before after (Text (Folder folder) Auto file Levels) outcome
+pub levels_done : (files : Stored) (folder file : Bor (List ℕ)) (before after : Option (List ℕ)) (outcome : Outcome) →
+    files ≡ alef_files
+    → folder.now ≡ codes "t" → file.now ≡ codes "FILE" →
+    IsDone (memory_facts files) before after (Text (Folder folder) Auto file Levels) outcome
     → Appends before after (codes "paragraph 0 level 1\n0 05D0 R 1\n")
 levels_done files folder file before after (Judged status) e f g h = absurd h
 levels_done files folder file before after Printed e f g h =
     levels_of_alef folder before after f (rw (e, g) at h)
 
-pub line_done : (files : Stored) (folder file : Bor (List ℕ)) (before after : Option (List ℕ)) (outcome : Outcome) → files ≡ alef_files
-    → folder.now ≡ codes "t" → file.now ≡ codes "FILE" → IsDone (memory_facts files) before after (Text (Folder folder) Auto file (Reorder None)) outcome
+pub line_done : (files : Stored) (folder file : Bor (List ℕ)) (before after : Option (List ℕ)) (outcome : Outcome) →
+    files ≡ alef_files
+    → folder.now ≡ codes "t" → file.now ≡ codes "FILE" →
+    IsDone (memory_facts files) before after (Text (Folder folder) Auto file (Reorder None)) outcome
     → Appends before after alef_line
 line_done files folder file before after (Judged status) e f g h = absurd h
 line_done files folder file before after Printed e f g h =
@@ -272,29 +307,41 @@ pub explanation_done : (files : Stored) (word : Bor (List ℕ)) (before after : 
 explanation_done files word before after (Judged status) e h = absurd h
 explanation_done files word before after Printed e h = explanation_of_neutral before after (rw e at h)
 
-pub verdict_done : (files : Stored) (file : Bor (List ℕ)) (before after : Option (List ℕ)) (outcome : Outcome) → files ≡ row_files
+pub verdict_done : (files : Stored) (file : Bor (List ℕ)) (before after : Option (List ℕ)) (outcome : Outcome) →
+    files ≡ row_files
     → file.now ≡ codes "-" → IsDone (memory_facts files) before after (Judge Classes None file) outcome
     → Appends before after (codes "yes: 1 rows, 1 cases\n")
 verdict_done files file before after Printed e g h = absurd h
 verdict_done files file before after (Judged status) e g h = line_of_verdict before after status (rw (e, g) at h)
 
-pub row_done : (files : Stored) (line : NonZeroU64) (file : Bor (List ℕ)) (before after : Option (List ℕ)) (outcome : Outcome) → files ≡ neutral_files
+pub row_done : (files : Stored) (line : NonZeroU64) (file : Bor (List ℕ)) (before after : Option (List ℕ))
+    (outcome : Outcome) → files ≡ neutral_files
     → line.value ≡ 3 → file.now ≡ codes "-"
-    → IsDone (memory_facts files) before after (ExplainRow (record { kind = Classes; tables = None; line = line; file = file })) outcome
+    → IsDone (memory_facts files) before after (ExplainRow (record {
+      kind = Classes;
+      tables = None;
+      line = line;
+      file =
+          file;
+    })) outcome
     → Appends before after neutral_row_explained
 row_done files line file before after (Judged status) e n g h = absurd h
 row_done files line file before after Printed e n g h =
-    let found = subst (λ (rows : Kind). HasAtLine (memory_facts files) rows line.value file.now (Ok h.row)) h.is h.found in
+    let found = subst (λ (rows : Kind). HasAtLine (memory_facts files) rows line.value file.now (Ok h.row)) h.is h.found
+    in
     row_of_neutral line.value h.row before after n (rw (e, g) at found) h.noted
 
-pub characters_verdict_done : (files : Stored) (folder file : Bor (List ℕ)) (before after : Option (List ℕ)) (outcome : Outcome) → files ≡ character_files
-    → folder.now ≡ codes "t" → file.now ≡ codes "FILE" → IsDone (memory_facts files) before after (Judge Characters (Some (Folder folder)) file) outcome
+pub characters_verdict_done : (files : Stored) (folder file : Bor (List ℕ)) (before after : Option (List ℕ))
+    (outcome : Outcome) → files ≡ character_files
+    → folder.now ≡ codes "t" → file.now ≡ codes "FILE" →
+    IsDone (memory_facts files) before after (Judge Characters (Some (Folder folder)) file) outcome
     → Appends before after (codes "yes: 1 rows, 1 cases\n")
 characters_verdict_done files folder file before after Printed e f g h = absurd h
 characters_verdict_done files folder file before after (Judged status) e f g h =
     line_of_characters_verdict folder before after status f (rw (e, g) at h)
 
 -- what follows from a result that is `Ok`
-pub when_ok : (r : Result Outcome Fault) (P : Outcome → Type 0) (Q : Type 0) → is_ok r ≡ true → IfOk r P → ((o : Outcome) → P o → Q) → Q
+pub when_ok : (r : Result Outcome Fault) (P : Outcome → Type 0) (Q : Type 0) → is_ok r ≡ true → IfOk r P →
+    ((o : Outcome) → P o → Q) → Q
 when_ok (Ok outcome) P Q e h f = f outcome h
 when_ok (Err fault) P Q e h f = cc

@@ -21,5 +21,6 @@ failing_facts readable = record {
   Fails = λ origin most bytes unread. BeginsWith readable bytes × (unread ≡ Other);
 }
 
-pub begins-given : (readable allowed now first : List ℕ) → allowed ≡ readable → allowed ≡ first ++ now → BeginsWith readable first
+pub begins-given : (readable allowed now first : List ℕ) → allowed ≡ readable → allowed ≡ first ++ now →
+    BeginsWith readable first
 begins-given readable allowed now first represents given = (now, sym represents ∙ given)

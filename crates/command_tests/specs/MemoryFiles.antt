@@ -61,9 +61,11 @@ memory_facts stored = record {
 -- the source is over the file, with its limit, and wasn't read yet
 abbrev pub IsOpenedOver : Option StoredFile → ℕ → Reading → Type 0
 IsOpenedOver None most source = ⊥
-IsOpenedOver (Some file) most source = (source.remaining ≡ Some file.bytes) × (source.allowed ≡ min most file.readable) × (source.state ≡ Open)
+IsOpenedOver (Some file) most source = (source.remaining ≡ Some file.bytes) ×
+    (source.allowed ≡ min most file.readable) × (source.state ≡ Open)
 
-first_rest : (known : Option (List ℕ)) (xs bytes : List ℕ) (rest : Option (List ℕ)) → known ≡ Some xs → Consumes known rest bytes
+first_rest : (known : Option (List ℕ)) (xs bytes : List ℕ) (rest : Option (List ℕ)) → known ≡ Some xs →
+    Consumes known rest bytes
     → (more : List ℕ) × (xs ≡ bytes ++ more)
 first_rest known xs bytes None e h = absurd (subst (λ k. Consumes k None bytes) e h)
 first_rest known xs bytes (Some more) e h = (more, subst (λ k. Consumes k (Some more) bytes) e h)
@@ -71,9 +73,11 @@ first_rest known xs bytes (Some more) e h = (more, subst (λ k. Consumes k (Some
 pub begins-gave : (file : Option StoredFile) (most : ℕ) (opened now : Reading) (bytes : List ℕ)
     → IsOpenedOver file most opened → Gives opened bytes now → FileBeginsWith file bytes
 begins-gave None most opened now bytes represents given = absurd represents
-begins-gave (Some file) most opened now bytes represents given = first_rest opened.remaining file.bytes bytes given.first.0 represents.0 given.first.1
+begins-gave (Some file) most opened now bytes represents given =
+    first_rest opened.remaining file.bytes bytes given.first.0 represents.0 given.first.1
 
-all_of : (known after : Option (List ℕ)) (xs bytes : List ℕ) → known ≡ Some xs → Consumes known after bytes → IsAtEnd after → bytes ≡ xs
+all_of : (known after : Option (List ℕ)) (xs bytes : List ℕ) → known ≡ Some xs → Consumes known after bytes →
+    IsAtEnd after → bytes ≡ xs
 all_of known None xs bytes e h at_end = absurd (subst (λ k. Consumes k None bytes) e h)
 all_of known (Some ys) xs bytes e h at_end =
     let taken : xs ≡ bytes ++ ys = subst (λ k. Consumes k (Some ys) bytes) e h in
@@ -83,7 +87,8 @@ pub whole-gave : (file : Option StoredFile) (most : ℕ) (opened now : Reading) 
     → IsOpenedOver file most opened → Gives opened bytes now → ReaderHasEnded now → IsWhole file most bytes
 whole-gave None most opened now bytes represents given ended = absurd represents
 whole-gave (Some file) most opened now bytes represents given ended = (
-  all_of opened.remaining now.remaining file.bytes bytes represents.0 (given.consumed (ap failures_of ended.state_is)) ended.no_more,
+  all_of opened.remaining now.remaining file.bytes bytes represents.0 (given.consumed (ap failures_of ended.state_is))
+      ended.no_more,
   omega (arith, given.falls, represents.1),
 )
 
@@ -93,12 +98,14 @@ too_large Open failed why = absurd (let bad : ⊥ = omega (arith, failed) in bad
 too_large Ended failed why = absurd (let bad : ⊥ = omega (arith, failed) in bad)
 too_large (Failed unread) failed why = ap Failed why
 
-longer : (xs bytes more rest : List ℕ) (allowed now : ℕ) → xs ≡ (bytes ++ more) ++ rest → now < length more → now + length bytes ≡ allowed
+longer : (xs bytes more rest : List ℕ) (allowed now : ℕ) → xs ≡ (bytes ++ more) ++ rest → now < length more →
+    now + length bytes ≡ allowed
     → allowed < length xs
 longer xs bytes more rest allowed now e f g =
     omega (arith, ap length e, length-append (bytes ++ more) rest, length-append bytes more, f, g)
 
-passed : (xs bytes : List ℕ) (known : Option (List ℕ)) (allowed now most : ℕ) → known ≡ Some xs → allowed ≡ most → now + length bytes ≡ allowed
+passed : (xs bytes : List ℕ) (known : Option (List ℕ)) (allowed now most : ℕ) → known ≡ Some xs → allowed ≡ most →
+    now + length bytes ≡ allowed
     → GivesTooMany known bytes now → most < length xs
 passed xs bytes known allowed now most e limit falls h =
     let first = first_rest known xs (bytes ++ h.0) h.1.0 e h.1.1 in
@@ -110,6 +117,7 @@ pub fails-gave : (file : Option StoredFile) (most : ℕ) (opened now : Reading) 
 fails-gave None most opened now bytes represents given failed = absurd represents
 fails-gave (Some file) most opened now bytes represents given failed = (
   begins-gave (Some file) most opened now bytes represents given,
-  λ why. passed file.bytes bytes opened.remaining opened.allowed now.allowed (min most file.readable) represents.0 represents.1 given.falls
+  λ why. passed file.bytes bytes opened.remaining opened.allowed now.allowed
+      (min most file.readable) represents.0 represents.1 given.falls
       (given.passes (ap failures_of represents.2) (too_large now.state failed why)),
 )

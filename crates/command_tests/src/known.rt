@@ -4,7 +4,7 @@ ghost use Rattle.command_tests.specs.KnownRuns.{alef_line, neutral_explained, ne
 
 use crate::memory_files::{MemoryFiles, whole};
 use requests::performing::perform;
-use requests::request::{FileKind, Print, Request, WantedRow, TableSource};
+use requests::request::{FileKind, Print, Request, TableSource, WantedRow};
 use std::alloc::Global;
 use std::num::NonZeroU64;
 use units::level::Direction;

@@ -73,7 +73,10 @@ impl<'a> MemoryFiles<'a> {
 
     /// Returns the same files, with the contents of this file as standard input.
     pub fn with_input(self, input: MemoryFile<'a>) -> Self
-        ensures { result ≡ record self.entry { input = Some (stored_file input.entry.name input.entry.bytes input.entry.readable) } }
+        ensures { result ≡ record self.entry {
+          input =
+              Some (stored_file input.entry.name input.entry.bytes input.entry.readable);
+        } }
     {
         MemoryFiles {
             files: self.files,
@@ -93,7 +96,8 @@ impl<'a> Files for MemoryFiles<'a> {
 
     ghost gave = { λ files origin most opened now bytes. begins-gave (stored_at files origin) most opened now bytes };
 
-    ghost gave_all = { λ files origin most opened now bytes. whole-gave (stored_at files origin) most opened now bytes };
+    ghost gave_all = { λ files origin most opened now bytes.
+        whole-gave (stored_at files origin) most opened now bytes };
 
     ghost gave_up = { λ files origin most opened now bytes. fails-gave (stored_at files origin) most opened now bytes };
 

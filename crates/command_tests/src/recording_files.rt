@@ -52,7 +52,8 @@ impl<'a> Files for RecordingFiles<'a> {
 
     ghost gave = { λ files origin most opened now bytes. begins-gave (stored_at files origin) most opened now bytes };
 
-    ghost gave_all = { λ files origin most opened now bytes. whole-gave (stored_at files origin) most opened now bytes };
+    ghost gave_all = { λ files origin most opened now bytes.
+        whole-gave (stored_at files origin) most opened now bytes };
 
     ghost gave_up = { λ files origin most opened now bytes. fails-gave (stored_at files origin) most opened now bytes };
 

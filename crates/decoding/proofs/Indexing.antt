@@ -35,13 +35,16 @@ indexed_more starts breaks column next k rises breaks_rise lt more room is i = r
       ∙ ap (λ xs. xs ++ slice_index starts k ∷ []) i.found
       ∙ ap (λ x. take next breaks ++ x ∷ []) is
       ∙ sym (take_more breaks next 0 more);
-  inside = subst (All (λ (j : ℕ). j < length starts)) (sym (take_more_set column next k room)) (All-push (λ (j : ℕ). j < length starts) (take next column) k i.inside lt);
+  inside = subst (All (λ (j : ℕ). j < length starts)) (sym (take_more_set column next k room)) (All-push (λ (j : ℕ).
+      j < length starts) (take next column) k i.inside lt);
   passed = λ j below after same.
       let step : slice_index breaks next < slice_index breaks (next + 1) =
-      subst (λ n. slice_index breaks n < slice_index breaks (next + 1)) (omega arith) (breaks_rise (next + 1) (omega arith) after) in
+      subst (λ n. slice_index breaks n < slice_index breaks (next + 1)) (omega arith)
+      (breaks_rise (next + 1) (omega arith) after) in
       elim (cases_eq j k) [
         | inl e ↦ omega (arith, step, is, same, ap (slice_index starts) e)
-        | inr ne ↦ let under : slice_index starts j < slice_index starts k = rises j k (omega (arith, below, ne)) lt in omega (arith, step, is, same, under)
+        | inr ne ↦ let under : slice_index starts j < slice_index starts k = rises j k (omega (arith, below, ne)) lt in
+            omega (arith, step, is, same, under)
       ];
 }
 
@@ -59,7 +62,8 @@ indexed_past starts breaks column next k other i = record {
 }
 
 -- each break that has an index is one of the offsets
-pub begins_earlier : (starts breaks column : List ℕ) (next k : ℕ) → next ≤ length column → IsIndexed starts breaks column next k
+pub begins_earlier : (starts breaks column : List ℕ) (next k : ℕ) → next ≤ length column →
+    IsIndexed starts breaks column next k
     → (i : ℕ) → i < next → BeginsAt starts (slice_index breaks i)
 begins_earlier starts breaks column next k room x i lt =
     let len = length-take-le next column room in
@@ -67,14 +71,17 @@ begins_earlier starts breaks column next k room x i lt =
     record {
       index = slice_index column i;
       inside = subst (λ n. n < length starts) read (x.inside i 0 (omega (arith, len, lt)));
-      begins = ap (slice_index starts) (sym read) ∙ sym (get_or-map (slice_index starts) (take next column) i 0 0 (omega (arith, len, lt)))
+      begins = ap (slice_index starts) (sym read) ∙
+          sym (get_or-map (slice_index starts) (take next column) i 0 0 (omega (arith, len, lt)))
           ∙ ap (λ xs. get_or xs i 0) x.found ∙ get_or-take next breaks i 0 lt;
     }
 
 -- the same columns
-pub indexed_as : (starts breaks column now : List ℕ) (next more k : ℕ) → now ≡ column → more ≡ next → IsIndexed starts breaks column next k → IsIndexed starts breaks now more k
+pub indexed_as : (starts breaks column now : List ℕ) (next more k : ℕ) → now ≡ column → more ≡ next →
+    IsIndexed starts breaks column next k → IsIndexed starts breaks now more k
 indexed_as starts breaks column now next more k same_column same_next i =
-    subst (λ xs. IsIndexed starts breaks xs more k) (sym same_column) (subst (λ n. IsIndexed starts breaks column n k) (sym same_next) i)
+    subst (λ xs. IsIndexed starts breaks xs more k) (sym same_column) (subst (λ n. IsIndexed starts breaks column n k)
+    (sym same_next) i)
 
 -- of the offsets before the index `to`, `count` are at most `at`
 pub record IsCounted (starts : List ℕ) (at count to : ℕ) : Type 0 where

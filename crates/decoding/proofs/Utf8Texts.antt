@@ -30,10 +30,12 @@ pub chars_le : (bs : List ℕ) → IsUtf8 bs → length (chars bs) ≤ length bs
 chars_le bs is = let fewer = length-le-encodes (chars bs) in omega (arith, fewer, ap length (encodes-chars bs is))
 
 -- a character that is read
-pub read_utf8 : (bs : List ℕ) (k c : ℕ) → k < length (chars bs) → c ≡ get_or (chars bs) k c → in_utf8 c ≡ get_or (utf8_text bs) k (in_utf8 c)
+pub read_utf8 : (bs : List ℕ) (k c : ℕ) → k < length (chars bs) → c ≡ get_or (chars bs) k c →
+    in_utf8 c ≡ get_or (utf8_text bs) k (in_utf8 c)
 read_utf8 bs k c lt is = ap in_utf8 is ∙ sym (get_or-map in_utf8 (chars bs) k c (in_utf8 c) lt)
 
 -- each character takes at least one byte
 pub utf8_spelled : (bs : List ℕ) → IsSpelledOut (utf8_text bs)
 utf8_spelled bs = All-map (λ (s : Spelled). 0 < s.width) in_utf8 (chars bs)
-    (λ k d lt. let some = len_utf8_bounds (get_or (chars bs) k d) in omega (arith, length-encode (get_or (chars bs) k d), some.0))
+    (λ k d lt. let some = len_utf8_bounds (get_or (chars bs) k d) in
+    omega (arith, length-encode (get_or (chars bs) k d), some.0))

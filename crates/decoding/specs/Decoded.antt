@@ -7,7 +7,8 @@ use Rattle.decoding.specs.Offsets.{Spelled, AreStarts, code_units, codes_of, off
 use Rattle.decoding.specs.declared.reached.Reached.{Reached}
 
 -- the columns begin with the units and the offsets of this text, which is the front of a longer text
-pub record IsWritten (tables : TablesOf) (text : List Spelled) (reached : Reached) (known : List BidiUnit) (begin : List ℕ) : Type 0 where
+pub record IsWritten (tables : TablesOf) (text : List Spelled) (reached : Reached) (known : List BidiUnit)
+    (begin : List ℕ) : Type 0 where
   pub characters : reached.characters ≡ length text
   pub code_units : reached.code_units ≡ code_units text
   pub units : take reached.characters known ≡ units_by tables (codes_of text)
@@ -15,13 +16,15 @@ pub record IsWritten (tables : TablesOf) (text : List Spelled) (reached : Reache
 
 -- bytes that may be ill-formed are read up to some offset: the columns begin with the text that the bytes before it
 -- spell, and the rest of the text is what the bytes after it spell
-pub record IsReadTo (tables : TablesOf) (bytes : List ℕ) (text : List Spelled) (reached : Reached) (known : List BidiUnit) (begin : List ℕ) : Type 0 where
+pub record IsReadTo (tables : TablesOf) (bytes : List ℕ) (text : List Spelled) (reached : Reached)
+    (known : List BidiUnit) (begin : List ℕ) : Type 0 where
   pub written : IsWritten tables text reached known begin
   pub rest : utf8_lossy_text bytes ≡ text ++ utf8_lossy_text (drop reached.code_units bytes)
 
 -- the columns begin with the units and the offsets of this text of n characters, and after the offsets comes that of
 -- its end
-pub record AreDecoded (tables : TablesOf) (text : List Spelled) (n : ℕ) (known : List BidiUnit) (begin : List ℕ) : Type 0 where
+pub record AreDecoded (tables : TablesOf) (text : List Spelled) (n : ℕ) (known : List BidiUnit)
+    (begin : List ℕ) : Type 0 where
   pub count : n ≡ length text
   pub units : take n known ≡ units_by tables (codes_of text)
   pub starts : AreStarts text begin

@@ -15,7 +15,8 @@ abbrev pub fault : ℕ → Spelled
 fault n = record { code = 0xFFFD; width = n }
 
 -- sequences that are cut short: each is one U+FFFD
-pub cut_short : utf8_lossy_text (0x61 ∷ 0xF1 ∷ 0x80 ∷ 0x80 ∷ 0xE1 ∷ 0x80 ∷ 0xC2 ∷ 0x62 ∷ 0x80 ∷ 0x63 ∷ 0x80 ∷ 0xBF ∷ 0x64 ∷ []) ≡
+pub cut_short : utf8_lossy_text (0x61 ∷ 0xF1 ∷ 0x80 ∷ 0x80 ∷ 0xE1 ∷ 0x80 ∷ 0xC2 ∷ 0x62 ∷ 0x80 ∷ 0x63 ∷ 0x80 ∷ 0xBF ∷
+    0x64 ∷ []) ≡
     byte 0x61 ∷ fault 3 ∷ fault 2 ∷ fault 1 ∷ byte 0x62 ∷ fault 1 ∷ byte 0x63 ∷ fault 1 ∷ fault 1 ∷ byte 0x64 ∷ []
 unfolding chunks utf8_valid_len utf8_error_len is_utf8 chars encode_utf8
 cut_short = refl
@@ -45,6 +46,10 @@ unfolding chunks utf8_valid_len utf8_error_len is_utf8 chars encode_utf8
 cut_in_turn = refl
 
 -- a character that is cut by the end of the bytes, after one of two bytes
-pub cut_by_the_end : utf8_lossy_text (0xD7 ∷ 0x90 ∷ 0xF0 ∷ 0x9F ∷ 0x98 ∷ []) ≡ record { code = 0x5D0; width = 2 } ∷ fault 3 ∷ []
+pub cut_by_the_end : utf8_lossy_text (0xD7 ∷ 0x90 ∷ 0xF0 ∷ 0x9F ∷ 0x98 ∷ []) ≡ record {
+  code = 0x5D0;
+  width =
+      2;
+} ∷ fault 3 ∷ []
 unfolding chunks utf8_valid_len utf8_error_len is_utf8 chars encode_utf8
 cut_by_the_end = refl

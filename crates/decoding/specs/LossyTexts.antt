@@ -12,7 +12,8 @@ replaced (suc n) = record { code = 0xFFFD; width = suc n } ∷ []
 -- the longest well-formed front, and U+FFFD for the maximal subpart after it: the bytes that could begin a character,
 -- or else one byte; there is no U+FFFD if the front is all of the bytes
 abbrev pub first_chunk : List ℕ → List Spelled
-first_chunk bytes = utf8_text (take (utf8_valid_len bytes) bytes) ++ replaced (utf8_invalid_len (drop (utf8_valid_len bytes) bytes))
+first_chunk bytes = utf8_text (take (utf8_valid_len bytes) bytes) ++
+    replaced (utf8_invalid_len (drop (utf8_valid_len bytes) bytes))
 
 -- n of these chunks, one after another
 unfoldable pub chunks : ℕ → List ℕ → List Spelled

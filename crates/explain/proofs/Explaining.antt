@@ -20,14 +20,16 @@ use Rattle.explain.proofs.Finished.{all_printed}
 sum-lengths : (pieces : List (List BidiUnit)) → sum_by length pieces ≡ length (joined pieces)
 sum-lengths [] = refl
 sum-lengths (piece ∷ pieces) =
-    sum_by-cons length piece pieces ∙ ap (λ n. length piece + n) (sum-lengths pieces) ∙ sym (length-append piece (joined pieces))
+    sum_by-cons length piece pieces ∙ ap (λ n. length piece + n) (sum-lengths pieces) ∙
+    sym (length-append piece (joined pieces))
 
 total-lengths : (text : List BidiUnit) → sum_by length (paragraphs_of text) ≡ length text
 total-lengths text = sum-lengths (paragraphs_of text) ∙ ap length (joined-paragraphs_of text)
 
 -- the known output grew by the text of the paragraphs before number k; the rest remain, and the next one begins at
 -- start
-pub record HasExplained (old new : Option (List ℕ)) (text : ℕ → List ℕ) (units : List BidiUnit) (rest : List (List BidiUnit)) (k start : ℕ) : Type 0 where
+pub record HasExplained (old new : Option (List ℕ)) (text : ℕ →
+    List ℕ) (units : List BidiUnit) (rest : List (List BidiUnit)) (k start : ℕ) : Type 0 where
   pub grown : HasPrinted old new text 0 k
   pub remaining : drop k (paragraphs_of units) ≡ rest
   pub within : k ≤ length (paragraphs_of units)
@@ -35,7 +37,8 @@ pub record HasExplained (old new : Option (List ℕ)) (text : ℕ → List ℕ) 
   pub begins : start ≡ start_of (paragraphs_of units) k
 
 -- facts about the next paragraph
-pub record IsNextParagraph (units : List BidiUnit) (rest others : List (List BidiUnit)) (para : List BidiUnit) (k start : ℕ) : Type 0 where
+pub record IsNextParagraph (units : List BidiUnit) (rest others : List (List BidiUnit)) (para : List BidiUnit)
+    (k start : ℕ) : Type 0 where
   pub here : slice_index_or (paragraphs_of units) k [] ≡ para
   pub inside : k < length (paragraphs_of units)
   pub only_last : SeparatorOnlyLast para
@@ -45,7 +48,8 @@ pub record IsNextParagraph (units : List BidiUnit) (rest others : List (List Bid
   pub ends : start + length para ≡ start_of (paragraphs_of units) (k + 1)
   pub fits : start + length para ≤ length units
 
-cut_front : (rest others : List (List BidiUnit)) (para : List BidiUnit) → rest ≡ para ∷ others → IsCut rest → SeparatorOnlyLast para × IsCut others
+cut_front : (rest others : List (List BidiUnit)) (para : List BidiUnit) → rest ≡ para ∷ others → IsCut rest →
+    SeparatorOnlyLast para × IsCut others
 cut_front rest others para e h = let whole : IsCut (para ∷ others) = rw e at h in (whole.1, whole.3)
 
 module _ (text : ℕ → List ℕ) (units : List BidiUnit) where
@@ -58,13 +62,16 @@ module _ (text : ℕ → List ℕ) (units : List BidiUnit) where
     begins = refl;
   }
 
-  pub next_paragraph : (a b : Option (List ℕ)) (rest others : List (List BidiUnit)) (para : List BidiUnit) (k start : ℕ) → rest ≡ para ∷ others
+  pub next_paragraph : (a b : Option (List ℕ)) (rest others : List (List BidiUnit)) (para : List BidiUnit)
+      (k start : ℕ) → rest ≡ para ∷ others
       → HasExplained a b text units rest k start → IsNextParagraph units rest others para k start
   next_paragraph a b rest others para k start e h =
       let paragraphs = paragraphs_of units in
-      let count : length paragraphs - k ≡ suc (length others) = sym (length-drop k paragraphs) ∙ ap length (h.remaining ∙ e) in
+      let count : length paragraphs - k ≡ suc (length others) = sym (length-drop k paragraphs) ∙
+      ap length (h.remaining ∙ e) in
       let inside : k < length paragraphs = omega (arith, count) in
-      let more : slice_index_or paragraphs k [] ∷ drop (k + 1) paragraphs ≡ para ∷ others = sym (drop_more paragraphs k [] inside) ∙ h.remaining ∙ e in
+      let more : slice_index_or paragraphs k [] ∷ drop (k + 1) paragraphs ≡ para ∷ others =
+      sym (drop_more paragraphs k [] inside) ∙ h.remaining ∙ e in
       let here : slice_index_or paragraphs k [] ≡ para = cc more in
       let size : length (slice_index_or paragraphs k []) ≡ length para = ap length here in
       let parts = cut_front rest others para e h.cut in
@@ -79,8 +86,10 @@ module _ (text : ℕ → List ℕ) (units : List BidiUnit) where
         fits = omega (arith, size, h.begins, sum_by_more_le length paragraphs k [] inside, total-lengths units);
       }
 
-  pub one_more_explained : (a b c : Option (List ℕ)) (rest others : List (List BidiUnit)) (para : List BidiUnit) (k start : ℕ) → rest ≡ para ∷ others
-      → HasExplained a b text units rest k start → Appends b c (text k) → HasExplained a c text units others (k + 1) (start + length para)
+  pub one_more_explained : (a b c : Option (List ℕ)) (rest others : List (List BidiUnit)) (para : List BidiUnit)
+      (k start : ℕ) → rest ≡ para ∷ others
+      → HasExplained a b text units rest k start → Appends b c (text k) →
+      HasExplained a c text units others (k + 1) (start + length para)
   one_more_explained a b c rest others para k start e h f =
       let next = next_paragraph a b rest others para k start e h in
       record {
@@ -105,12 +114,15 @@ module _ (text : ℕ → List ℕ) (units : List BidiUnit) where
   pub all_explained : (a b : Option (List ℕ)) (rest : List (List BidiUnit)) (k start : ℕ) → rest ≡ []
       → HasExplained a b text units rest k start → Appends a b (printed text 0 (length (paragraphs_of units)))
   all_explained a b rest k start e h =
-      let count : length (paragraphs_of units) - k ≡ 0 = sym (length-drop k (paragraphs_of units)) ∙ ap length (h.remaining ∙ e) in
+      let count : length (paragraphs_of units) - k ≡ 0 = sym (length-drop k (paragraphs_of units)) ∙
+      ap length (h.remaining ∙ e) in
       all_printed a b text 0 k (length (paragraphs_of units)) (omega (arith, count, h.within)) h.grown
 
-pub same_paragraph : (chars : List ℕ) (direction : Direction) (paragraphs : List (List BidiUnit)) (para : List BidiUnit) (number k start : ℕ)
+pub same_paragraph : (chars : List ℕ) (direction : Direction) (paragraphs : List (List BidiUnit)) (para : List BidiUnit)
+    (number k start : ℕ)
     → number ≡ k → start ≡ start_of paragraphs k → slice_index_or paragraphs k [] ≡ para
-    → paragraph_explained chars para (columns_of para direction) direction start number ≡ explained_paragraph chars direction paragraphs k
+    → paragraph_explained chars para (columns_of para direction) direction start number ≡
+    explained_paragraph chars direction paragraphs k
 same_paragraph chars direction paragraphs para number k start e f h =
     ap (λ n. paragraph_explained chars para (columns_of para direction) direction start n) e
     ∙ ap (λ s. paragraph_explained chars para (columns_of para direction) direction s k) f

@@ -27,7 +27,8 @@ unfolding layouts_compute columns_of rewritten implicit_of closers_of digits
 embedding_in_the_middle = refl
 
 -- a pair of brackets around a number
-pub brackets_round_a_number : explained_units (1488 ∷ 40 ∷ 49 ∷ 41 ∷ []) (plain R ∷ opens 41 ∷ plain EN ∷ shuts 41 ∷ []) Auto
+pub brackets_round_a_number : explained_units (1488 ∷ 40 ∷ 49 ∷ 41 ∷ []) (plain R ∷ opens 41 ∷ plain EN ∷ shuts 41 ∷
+    []) Auto
     ≡ codes "paragraph 0 level 1: R at 0\n" ++ columns_text
     ++ codes "0 05D0 R 1 . . . . . . . . . . . . .\n"
     ++ codes "1 0028 ON 1 . . . . . . . . R . . . .\n"

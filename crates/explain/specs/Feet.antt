@@ -17,7 +17,8 @@ positions_text start ps = flat_map (λ p. listed_text (start + p)) ps
 -- X10: a sequence's number, counted from 0, its level, its sos and eos
 abbrev pub sequence_start_text : ℕ → SequenceView → List ℕ
 sequence_start_text number s =
-    concat (codes "sequence " ∷ decimal number ∷ codes " level " ∷ decimal s.level ∷ codes " sos " ∷ short_name s.sos ∷ codes " eos " ∷ short_name s.eos ∷ codes ":" ∷ [])
+    concat (codes "sequence " ∷ decimal number ∷ codes " level " ∷ decimal s.level ∷ codes " sos " ∷ short_name s.sos ∷
+    codes " eos " ∷ short_name s.eos ∷ codes ":" ∷ [])
 
 -- the line of a sequence of a paragraph that begins at start
 abbrev pub sequence_text : ℕ → ℕ → SequenceView → List ℕ

@@ -36,5 +36,6 @@ columns_text = codes "position code class level X W1 W2 W3 W4 W5 W6 W7 N0 N1 N2 
 -- a paragraph's number, counted from 0, its level, what decides it, and the names of the columns
 abbrev pub heading_text : ℕ → ℕ → Decider → List ℕ
 heading_text number level decider =
-    concat (codes "paragraph " ∷ decimal number ∷ codes " level " ∷ decimal level ∷ codes ": " ∷ decider_text decider ∷ line_feed ∷ [])
+    concat (codes "paragraph " ∷ decimal number ∷ codes " level " ∷ decimal level ∷ codes ": " ∷ decider_text decider ∷
+    line_feed ∷ [])
     ++ columns_text

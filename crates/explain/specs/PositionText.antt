@@ -12,7 +12,8 @@ use Rattle.explain.specs.declared.position.PositionLevels.{PositionLevels}
 -- the position, its code point, its original class, its level after X1 to X9
 abbrev pub position_start_text : ℕ → Option ℕ → Class → Option ℕ → List ℕ
 position_start_text p character own level =
-    concat (decimal p ∷ codes " " ∷ code_cell character ∷ codes " " ∷ short_name own ∷ codes " " ∷ cell_text (explicit_cell level) ∷ [])
+    concat (decimal p ∷ codes " " ∷ code_cell character ∷ codes " " ∷ short_name own ∷ codes " " ∷
+    cell_text (explicit_cell level) ∷ [])
 
 -- what the rule with the number k, counted from 1, changed in the class
 abbrev pub change_text : Bool → List Class → ℕ → List ℕ
@@ -26,7 +27,8 @@ changes_text remains classes = printed (change_text remains classes) 1 (length c
 -- what I1, I2 and L1 changed in the level
 abbrev pub position_end_text : PositionLevels → List ℕ
 position_end_text levels =
-    concat (codes " " ∷ cell_text (level_cell levels.explicit levels.implicit) ∷ codes " " ∷ cell_text (level_cell levels.implicit levels.line) ∷ line_feed ∷ [])
+    concat (codes " " ∷ cell_text (level_cell levels.explicit levels.implicit) ∷ codes " " ∷
+    cell_text (level_cell levels.implicit levels.line) ∷ line_feed ∷ [])
 
 -- the line of a position, from its original class and its class after each rule
 abbrev pub position_text : ℕ → Option ℕ → List Class → PositionLevels → List ℕ

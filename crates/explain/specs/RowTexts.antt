@@ -54,7 +54,8 @@ case_heading number d = concat (codes "line " ∷ decimal number ∷ codes ": " 
 -- what is printed of a row under a direction, with the row's line number
 abbrev pub case_text : ℕ → RowView → Direction → List ℕ
 case_text number row d =
-    case_heading number d ++ explained_units row.chars row.expected.text d ++ expected_text row.expected (layout_under standard row.expected d)
+    case_heading number d ++ explained_units row.chars row.expected.text d ++
+    expected_text row.expected (layout_under standard row.expected d)
 
 -- what is printed of a row: its cases, in the order of its directions
 abbrev pub row_text : ℕ → RowView → List ℕ

@@ -67,7 +67,8 @@ SearchComesTo kind wanted s bytes (Err fault) = IsDecided kind wanted bytes (Err
 
 -- the same after bytes and the used bytes of a piece
 abbrev pub PieceSettles : Kind → ℕ → Searching → List ℕ → List ℕ → Result (ℕ × Option Asked) RowFault → Type 0
-PieceSettles kind wanted s bytes piece (Ok taken) = SearchComesTo kind wanted s (bytes ++ take taken.0 piece) (Ok taken.1)
+PieceSettles kind wanted s bytes piece (Ok taken) =
+    SearchComesTo kind wanted s (bytes ++ take taken.0 piece) (Ok taken.1)
 PieceSettles kind wanted s bytes piece (Err fault) = SearchComesTo kind wanted s (bytes ++ piece) (Err fault)
 
 -- the result of a search at the end of the file

@@ -24,7 +24,14 @@ two_rows = written (codes "@Levels: x 1" ∷ codes "@Reorder: 1" ∷ codes "RLE 
 -- the expected results of its third line
 abbrev neutral_row : RowView
 neutral_row = record {
-  expected = record { text = plain RLE ∷ plain ON ∷ []; directions = Ltr ∷ AutoRtl ∷ []; para_level = None; levels = None ∷ Some 1 ∷ []; order = 1 ∷ [] };
+  expected = record {
+    text = plain RLE ∷ plain ON ∷ [];
+    directions = Ltr ∷ AutoRtl ∷ [];
+    para_level = None;
+    levels =
+        None ∷ Some 1 ∷ [];
+    order = 1 ∷ [];
+  };
   chars = [];
 }
 
@@ -43,7 +50,8 @@ unfolding classes_files_compute
 fifth_line = refl
 
 -- a malformed line before the row
-pub malformed_before : wanted_row Classes 4 (written (codes "@Levels: 1" ∷ codes "@Reorder: 0" ∷ codes "@Levels: 127" ∷ codes "R; 1" ∷ [])) ≡ Err (Malformed 3 LevelItem)
+pub malformed_before : wanted_row Classes 4 (written (codes "@Levels: 1" ∷ codes "@Reorder: 0" ∷ codes "@Levels: 127" ∷
+    codes "R; 1" ∷ [])) ≡ Err (Malformed 3 LevelItem)
 unfolding classes_files_compute
 malformed_before = refl
 
@@ -53,7 +61,8 @@ unfolding classes_files_compute
 malformed_after = refl
 
 -- the characters of a row of code points
-pub two_characters : (tables : Bor TablesOf) → characters_of (Characters tables) (codes "05D0 0031;0;0;1 2;1 0 # R EN") ≡ 1488 ∷ 49 ∷ []
+pub two_characters : (tables : Bor TablesOf) →
+    characters_of (Characters tables) (codes "05D0 0031;0;0;1 2;1 0 # R EN") ≡ 1488 ∷ 49 ∷ []
 two_characters tables = refl
 
 -- under each direction what each rule does, and then the expected results beside the defined ones
@@ -82,7 +91,16 @@ unfolding layouts_compute columns_of rewritten implicit_of closers_of digits
 neutral_printed = refl
 
 -- a row that expects a paragraph level; the expected order is not the defined one
-pub paragraph_printed : row_text 7 (record { expected = record { text = plain R ∷ []; directions = Auto ∷ []; para_level = Some 0; levels = Some 1 ∷ []; order = [] }; chars = 1488 ∷ [] })
+pub paragraph_printed : row_text 7 (record {
+  expected = record {
+    text = plain R ∷ [];
+    directions = Auto ∷ [];
+    para_level = Some 0;
+    levels = Some 1 ∷ [];
+    order = [];
+  };
+  chars = 1488 ∷ [];
+})
     ≡ codes "line 7: auto\n"
     ++ codes "paragraph 0 level 1: R at 0\n" ++ columns_text
     ++ codes "0 05D0 R 1 . . . . . . . . . . . . .\n"

@@ -7,10 +7,10 @@
 
 mod cell;
 mod characters;
+pub mod chosen_row;
 mod code;
 pub mod find;
 mod foot;
-pub mod chosen_row;
 mod heading;
 mod paragraph_text;
 mod position;

@@ -124,7 +124,11 @@ fn print_defined_order<W: Write>(w: &mut W, layout: &Layout<'_>) -> io::Result<(
 }
 
 /// Writes the expected results of a row, beside those of a layout.
-fn print_expected<W: Write>(w: &mut W, expected: Expected<'_>, layout: &Layout<'_>) -> io::Result<()>
+fn print_expected<W: Write>(
+    w: &mut W,
+    expected: Expected<'_>,
+    layout: &Layout<'_>,
+) -> io::Result<()>
     ensures { OnOk result (Appends (W.contents w.old) (W.contents w.new)
         (expected_text (expected_of expected.entry) (view_of layout.now))) }
 {

@@ -41,11 +41,13 @@ abbrev pub resolved_stays : Bool → Class → Bool
 resolved_stays even EN = false
 resolved_stays even c = separated_stays even c
 
-pub own_from : (even : Bool) (c : Class) → is_flat c ≡ true → is_remaining c ≡ true → cond even (may_rise_at_even c) (may_rise_at_odd c) ≡ false → own_stays even c ≡ true
+pub own_from : (even : Bool) (c : Class) → is_flat c ≡ true → is_remaining c ≡ true →
+    cond even (may_rise_at_even c) (may_rise_at_odd c) ≡ false → own_stays even c ≡ true
 own_from true c flat retained low = rw (flat, retained, low) refl
 own_from false c flat retained low = rw (flat, retained, low) refl
 
-taken_stays : (even : Bool) (c : Class) → own_stays even c ≡ true → is_base c ≡ true → marked_stays even (taken_by_mark c) ≡ true
+taken_stays : (even : Bool) (c : Class) → own_stays even c ≡ true → is_base c ≡ true →
+    marked_stays even (taken_by_mark c) ≡ true
 taken_stays true LRI h base = refl
 taken_stays true RLI h base = refl
 taken_stays true FSI h base = refl
@@ -57,11 +59,13 @@ taken_stays false PDI h base = refl
 taken_stays even NSM h base = absurd (cc)
 taken_stays even _ h base = h
 
-pub w1_stays : (even : Bool) (before c : Class) → own_stays even before ≡ true → is_base before ≡ true → own_stays even c ≡ true → marked_stays even (by_w1 before c) ≡ true
+pub w1_stays : (even : Bool) (before c : Class) → own_stays even before ≡ true → is_base before ≡ true →
+    own_stays even c ≡ true → marked_stays even (by_w1 before c) ≡ true
 w1_stays even before NSM p base q = taken_stays even before p base
 w1_stays even before _ p base q = q
 
-pub w2_same : (even : Bool) (strong c : Class) → marked_stays even strong ≡ true → marked_stays even c ≡ true → by_w2 strong c ≡ c
+pub w2_same : (even : Bool) (strong c : Class) → marked_stays even strong ≡ true → marked_stays even c ≡ true →
+    by_w2 strong c ≡ c
 w2_same true AL EN p q = absurd (cc)
 w2_same false AL EN p q = absurd (cc)
 w2_same even AL _ p q = refl
@@ -72,7 +76,8 @@ w3_stays true AL q = absurd (cc)
 w3_stays false AL q = refl
 w3_stays even _ q = q
 
-pub w4_stays : (even : Bool) (before c after : Class) → lettered_stays even before ≡ true → lettered_stays even c ≡ true → lettered_stays even (by_w4 before c after) ≡ true
+pub w4_stays : (even : Bool) (before c after : Class) → lettered_stays even before ≡ true →
+    lettered_stays even c ≡ true → lettered_stays even (by_w4 before c after) ≡ true
 w4_stays true EN ES EN p q = refl
 w4_stays true EN CS EN p q = refl
 w4_stays false EN ES EN p q = absurd (cc)
@@ -86,7 +91,8 @@ w4_stays even EN c after p q = q
 w4_stays even AN c after p q = q
 w4_stays even before c after p q = q
 
-pub w5_stays : (even : Bool) (before after : Class) → lettered_stays even before ≡ true → lettered_stays even after ≡ true → lettered_stays even (by_w5 before after) ≡ true
+pub w5_stays : (even : Bool) (before after : Class) → lettered_stays even before ≡ true →
+    lettered_stays even after ≡ true → lettered_stays even (by_w5 before after) ≡ true
 w5_stays true EN after p q = refl
 w5_stays false EN after p q = absurd (cc)
 w5_stays true before EN p q = refl
@@ -109,16 +115,19 @@ strong_is false R p t = refl
 strong_is true _ p t = absurd (cc)
 strong_is false _ p t = absurd (cc)
 
-w7_after : (even : Bool) (c : Class) → separated_stays even c ≡ true → resolved_stays even (by_w7 (direction even) c) ≡ true
+w7_after : (even : Bool) (c : Class) → separated_stays even c ≡ true →
+    resolved_stays even (by_w7 (direction even) c) ≡ true
 w7_after true EN q = refl
 w7_after false EN q = absurd (cc)
 w7_after true _ q = q
 w7_after false _ q = q
 
-pub w7_stays : (even : Bool) (strong c : Class) → separated_stays even strong ≡ true → is_strong strong ≡ true → separated_stays even c ≡ true → resolved_stays even (by_w7 strong c) ≡ true
+pub w7_stays : (even : Bool) (strong c : Class) → separated_stays even strong ≡ true → is_strong strong ≡ true →
+    separated_stays even c ≡ true → resolved_stays even (by_w7 strong c) ≡ true
 w7_stays even strong c p t q = rw (strong_is even strong p t) (w7_after even c q)
 
-pub not_opposite : (even : Bool) (c : Class) → resolved_stays even c ≡ true → same_direction (opposite (direction even)) (strong_as c) ≡ false
+pub not_opposite : (even : Bool) (c : Class) → resolved_stays even c ≡ true →
+    same_direction (opposite (direction even)) (strong_as c) ≡ false
 not_opposite true L q = refl
 not_opposite true R q = absurd (cc)
 not_opposite true EN q = absurd (cc)
@@ -152,5 +161,24 @@ pub record DirectionStays (even : Bool) : Type 0 where
   pub outside : lettered_stays even ON ≡ true
 
 pub direction_stays : (even : Bool) → DirectionStays even
-direction_stays true = record { own = refl; base = refl; strong = refl; marked = refl; separated = refl; decided = refl; neutral = refl; outside = refl }
-direction_stays false = record { own = refl; base = refl; strong = refl; marked = refl; separated = refl; decided = refl; neutral = refl; outside = refl }
+direction_stays true = record {
+  own = refl;
+  base = refl;
+  strong = refl;
+  marked = refl;
+  separated = refl;
+  decided = refl;
+  neutral = refl;
+  outside = refl;
+}
+direction_stays false = record {
+  own = refl;
+  base = refl;
+  strong = refl;
+  marked = refl;
+  separated = refl;
+  decided =
+      refl;
+  neutral = refl;
+  outside = refl;
+}

@@ -47,13 +47,15 @@ taken_isolates depth cs para_level (q ∷ qs) =
 abbrev pub overflow_isolates_of : ℕ → List Class → ℕ → List ℕ → ℕ
 overflow_isolates_of depth cs para_level [] = 0
 overflow_isolates_of depth cs para_level (q ∷ qs) =
-    cond (is_taken depth cs para_level q qs) 0 (cond (is_isolate cs q) 1 0) + overflow_isolates_of depth cs para_level qs
+    cond (is_taken depth cs para_level q qs) 0 (cond (is_isolate cs q) 1 0) +
+    overflow_isolates_of depth cs para_level qs
 
 -- X2 to X5: the overflow embedding count, which leaves out embeddings inside overflow isolates
 abbrev pub overflow_embeddings_of : ℕ → List Class → ℕ → List ℕ → ℕ
 overflow_embeddings_of depth cs para_level [] = 0
 overflow_embeddings_of depth cs para_level (q ∷ qs) =
-    cond (is_taken depth cs para_level q qs || (is_isolate cs q || nat_lt 0 (overflow_isolates_of depth cs para_level qs)))
+    cond (is_taken depth cs para_level q qs ||
+    (is_isolate cs q || nat_lt 0 (overflow_isolates_of depth cs para_level qs)))
     0 1
     + overflow_embeddings_of depth cs para_level qs
 
@@ -98,7 +100,8 @@ pub record IsOverflowTail (depth : ℕ) (cs : List Class) (para_level : ℕ) (re
   pub sound : (state_within depth cs para_level taken).sound ≡ true
   pub entries : entries_of depth cs para_level (rejected ++ taken) ≡ entries_of depth cs para_level taken
   pub one_each : length (entries_of depth cs para_level taken) ≡ length taken + 1
-  pub overflow_isolates : overflow_isolates_of depth cs para_level (rejected ++ taken) ≡ count_by (is_isolate cs) rejected
+  pub overflow_isolates : overflow_isolates_of depth cs para_level (rejected ++ taken) ≡
+      count_by (is_isolate cs) rejected
   pub overflow_embeddings : overflow_embeddings_of depth cs para_level (rejected ++ taken)
       ≡ suffix_len (λ q. not (is_isolate cs q)) rejected
   pub valid_isolates : taken_isolates depth cs para_level (rejected ++ taken) ≡ count_by (is_isolate cs) taken

@@ -24,4 +24,5 @@ with_stretch from end value xs =
 
 -- the explicit levels and classes, with those of this status at the positions from this one on, before the end
 abbrev pub with_leveled : Status → List Class → ℕ → ℕ → List (Option (ℕ × Class)) → List (Option (ℕ × Class))
-with_leveled status cs from end explicit = with_stretch from end (λ p. Some (leveled_by_status status (class_at cs p))) explicit
+with_leveled status cs from end explicit =
+    with_stretch from end (λ p. Some (leveled_by_status status (class_at cs p))) explicit

@@ -38,9 +38,15 @@ impl Model for IsolateMap {
 
     ghost Value = { Isolates };
 
-    ghost view = { λ map. record { partners = boxed_slice_items map.partners; sides = boxed_slice_items map.sides; outside = map.outside } };
+    ghost view = { λ map. record {
+      partners = boxed_slice_items map.partners;
+      sides = boxed_slice_items map.sides;
+      outside = map.outside;
+    } };
 
-    ghost invariant = { λ map. FitsTogether (length (boxed_slice_items map.partners)) (length (boxed_slice_items map.openers)) (length (boxed_slice_items map.sides)) };
+    ghost invariant = { λ map.
+        FitsTogether (length (boxed_slice_items map.partners)) (length (boxed_slice_items map.openers))
+        (length (boxed_slice_items map.sides)) };
 }
 
 impl IsolateMap {

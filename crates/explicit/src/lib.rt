@@ -7,13 +7,13 @@ ghost use Rattle.units.specs.Paragraphs.{paragraphs_of};
 pub mod cutting;
 pub mod flat_theorems;
 pub mod isolates;
-pub mod theorems;
 pub mod leveled_class;
 pub mod levels;
 pub mod para_level;
 mod roles;
 pub mod side;
 mod status;
+pub mod theorems;
 
 use cutting::Paragraphs;
 use units::bracket::Unit;

@@ -21,11 +21,13 @@ use Rattle.for_c.specs.declared.counts.BidiCounts.{BidiCounts}
 use Rattle.for_c.specs.ReportCalls.{Ends, Takes}
 
 -- the report depends on the tables of its kind alone
-report-with : (limits : LimitsOf) (kind : Kind) (b : List ℕ) → report_of (strict_terms limits) kind b ≡ report_with limits (tables_of kind) b
+report-with : (limits : LimitsOf) (kind : Kind) (b : List ℕ) →
+    report_of (strict_terms limits) kind b ≡ report_with limits (tables_of kind) b
 report-with limits Classes b = refl
 report-with limits (Characters tables) b = refl
 
-decided-with : (limits : LimitsOf) (kind : Kind) (b : List ℕ) → decided_cases (strict_terms limits) kind b ≡ cases_known limits (tables_of kind) false b
+decided-with : (limits : LimitsOf) (kind : Kind) (b : List ℕ) →
+    decided_cases (strict_terms limits) kind b ≡ cases_known limits (tables_of kind) false b
 decided-with limits Classes b = refl
 decided-with limits (Characters tables) b = refl
 
@@ -34,29 +36,36 @@ kind_with : (tables : Option TablesOf) → (kind : Kind) × (tables_of kind ≡ 
 kind_with None = (Classes, refl)
 kind_with (Some tables) = (Characters (record { ref_ptr = (0, 0); now = tables }), refl)
 
-reported-known : (limits : LimitsOf) (tables : Option TablesOf) (state : StateOf) (reported : List WrongCase) (b : List ℕ)
+reported-known : (limits : LimitsOf) (tables : Option TablesOf) (state : StateOf) (reported : List WrongCase)
+    (b : List ℕ)
     → HasReportedFor (strict_terms limits) tables state reported b → reported ≡ cases_known limits tables false b
 reported-known limits tables state reported b h =
     let kind = (kind_with tables).0 in
     let same = (kind_with tables).1 in
-    let reports : Reports (strict_terms limits) kind (reporting kind state) reported b = record { of = refl; is = h kind same } in
-    reported-decided (strict_terms limits) kind (reporting kind state) reported b reports ∙ decided-with limits kind b ∙ ap (λ t. cases_known limits t false b) same
+    let reports : Reports (strict_terms limits) kind (reporting kind state) reported b =
+    record { of = refl; is = h kind same } in
+    reported-decided (strict_terms limits) kind (reporting kind state) reported b reports ∙ decided-with limits kind b ∙
+    ap (λ t. cases_known limits t false b) same
 
-come-known : (limits : LimitsOf) (tables : Option TablesOf) (ended : Bool) (state : StateOf) (reported : List WrongCase) (b : List ℕ)
+come-known : (limits : LimitsOf) (tables : Option TablesOf) (ended : Bool) (state : StateOf) (reported : List WrongCase)
+    (b : List ℕ)
     → HasCome limits tables ended state reported b → reported ≡ cases_known limits tables ended b
 come-known limits tables false state reported b h = reported-known limits tables state reported b h
 come-known limits tables true state reported b h = sym (ap (λ (r : FileReport). r.wrong) h)
 
 -- the cases that were returned and those that remain are all that are known
 pub returns-all : ReturnsAll
-returns-all limits tables ended report returned bytes h = come-known limits tables ended report.state (returned ++ cases_left report) bytes h.so_far
+returns-all limits tables ended report returned bytes h =
+    come-known limits tables ended report.state (returned ++ cases_left report) bytes h.so_far
 
 -- if no case remains, all cases that were found have been returned
 module _ (old : TableReport) (none : cases_left old ≡ []) where
   before : (limits : LimitsOf) (tables : Option TablesOf) (returned : List WrongCase) (bytes : List ℕ)
-      → HasReported limits tables false old returned bytes → HasReportedFor (strict_terms limits) tables old.state returned bytes
+      → HasReported limits tables false old returned bytes →
+      HasReportedFor (strict_terms limits) tables old.state returned bytes
   before limits tables returned bytes h =
-      subst (λ (reported : List WrongCase). HasReportedFor (strict_terms limits) tables old.state reported bytes) (ap (λ ws. returned ++ ws) none ∙ append-nil returned) h.so_far
+      subst (λ (reported : List WrongCase). HasReportedFor (strict_terms limits) tables old.state reported bytes)
+      (ap (λ ws. returned ++ ws) none ∙ append-nil returned) h.so_far
 
   module _ (kind : Kind) (same : tables_of kind ≡ option_map arc_value old.tables) (state : StateOf) where
     -- a piece; all wrong cases that are found in it remain
@@ -65,16 +74,24 @@ module _ (old : TableReport) (none : cases_left old ≡ []) where
     takes-line piece takes = λ limits tables returned bytes h.
         let by : tables_of kind ≡ tables = same ∙ h.by in
         let reported = subst (λ (t : Option TablesOf). TakesIn t old.state piece state) by takes in
-        record { by = h.by; ends = h.ends; so_far = reported (strict_terms limits) returned bytes (before limits tables returned bytes h) }
+        record {
+          by = h.by;
+          ends = h.ends;
+          so_far =
+              reported (strict_terms limits) returned bytes (before limits tables returned bytes h);
+        }
 
     -- the end of the file
     pub ends-file : (counts : BidiCounts) → counts ≡ counts_for_c state.lines.case_counts state.malformed
-        → ((terms : Terms) (reported : List WrongCase) (b : List ℕ) → HasReportedFor terms (tables_of kind) old.state reported b
+        → ((terms : Terms) (reported : List WrongCase) (b : List ℕ) →
+        HasReportedFor terms (tables_of kind) old.state reported b
         → report_of terms kind b ≡ report_at_end reported (ended_in state))
         → Ends old (record { tables = old.tables; state = state; returned = 0; ended = true }) counts
     ends-file counts is ends = λ limits tables returned bytes h.
         let by : tables_of kind ≡ tables = same ∙ h.by in
-        let reported = subst (λ (t : Option TablesOf). HasReportedFor (strict_terms limits) t old.state returned bytes) (sym by) (before limits tables returned bytes h) in
+        let reported = subst (λ (t : Option TablesOf). HasReportedFor (strict_terms limits) t old.state returned bytes)
+        (sym by) (before limits tables returned bytes h) in
         let whole : report_with limits tables bytes ≡ report_at_end returned (ended_in state) =
-        ap (λ t. report_with limits t bytes) (sym by) ∙ sym (report-with limits kind bytes) ∙ ends (strict_terms limits) returned bytes reported in
+        ap (λ t. report_with limits t bytes) (sym by) ∙ sym (report-with limits kind bytes) ∙
+        ends (strict_terms limits) returned bytes reported in
         (record { by = h.by; ends = refl; so_far = whole }, is ∙ sym (ap counts_for_report whole))

@@ -22,7 +22,8 @@ memory_or_line Read h = absurd (h refl)
 memory_or_line Memory h = inl refl
 
 -- the error for the fault of the first bad file is a reason why no tables are read
-pub first_rejected : (classes brackets mirrors : List ℕ) (fault : FileFault) → IsFirstFaulty classes brackets mirrors fault
+pub first_rejected : (classes brackets mirrors : List ℕ) (fault : FileFault) →
+    IsFirstFaulty classes brackets mirrors fault
     → RejectsTables classes brackets mirrors (error_of_file fault)
 first_rejected classes brackets mirrors (Classes e) h = elim (memory_or_line e h.unfailing) [
   | inl memory ↦ inl (rw memory refl)

@@ -10,10 +10,12 @@ use Rattle.for_c.specs.LevelBytes.{level_byte}
 -- the levels of the units before an offset are written
 abbrev pub AreWritten : RoomOf → List ℕ → ℕ → Type 0
 AreWritten room out from =
-    (at k : ℕ) → at < from → IsAt room at k → slice_index_or out at 0 ≡ level_byte (slice_index_or room.layout.levels k None)
+    (at k : ℕ) → at < from → IsAt room at k →
+    slice_index_or out at 0 ≡ level_byte (slice_index_or room.layout.levels k None)
 
 -- the levels after one character more
-pub one_more : (room : RoomOf) → Rise room → (old new : List ℕ) (k from to byte : ℕ) → from ≡ offset_in room k → to ≡ offset_in room (k + 1)
+pub one_more : (room : RoomOf) → Rise room → (old new : List ℕ) (k from to byte : ℕ) → from ≡ offset_in room k →
+    to ≡ offset_in room (k + 1)
     → k < characters_in room → to ≤ length old → byte ≡ level_byte (slice_index_or room.layout.levels k None)
     → ((i d : ℕ) → from ≤ i → i < to → i < length old → slice_index_or new i d ≡ byte)
     → ((i d : ℕ) → (i < from) ⊎ (to ≤ i) → slice_index_or new i d ≡ slice_index_or old i d)
@@ -22,7 +24,13 @@ one_more room rise old new k from to byte begins ends inside fits level put othe
     elim (cases_lt at from) [
       | inl earlier ↦ others at 0 (inl earlier) ∙ before at j earlier is
       | inr here ↦
-          let mine : IsAt room at k = record { inside = inside; from = omega (arith, begins, here); before = omega (arith, ends, lt) } in
+          let mine : IsAt room at k = record {
+            inside = inside;
+            from = omega (arith, begins, here);
+            before =
+                omega (arith, ends, lt);
+          } in
           let same : k ≡ j = one_character room rise at k j mine is in
-          put at 0 here lt (omega (arith, lt, fits)) ∙ level ∙ ap (λ (n : ℕ). level_byte (slice_index_or room.layout.levels n None)) same
+          put at 0 here lt (omega (arith, lt, fits)) ∙ level ∙
+          ap (λ (n : ℕ). level_byte (slice_index_or room.layout.levels n None)) same
     ]

@@ -11,7 +11,8 @@ use Rattle.for_c.specs.LineRuns.{AreRunsAt, PutsRuns, WritesRuns, returned_run}
 use Rattle.for_c.specs.declared.runs.BidiRun.{BidiRun}
 
 -- one run more is written
-pub written_run : (encode : VisualRun → BidiRun) (runs : List VisualRun) (run : VisualRun) (out out_then : List BidiRun) (count : ℕ) (reported : BidiRun)
+pub written_run : (encode : VisualRun → BidiRun) (runs : List VisualRun) (run : VisualRun) (out out_then : List BidiRun)
+    (count : ℕ) (reported : BidiRun)
     → length out_then ≡ length out → reported ≡ encode run
     → (count < length out → take (count + 1) out_then ≡ take count out ++ reported ∷ [])
     → (count ≤ length out → take count out ≡ map encode runs)
@@ -20,32 +21,38 @@ written_run encode runs run out out_then count reported len is put before le =
     put (omega (arith, le, len)) ∙ ap (λ (xs : List BidiRun). xs ++ reported ∷ []) (before (omega (arith, le, len)))
     ∙ ap (λ (x : BidiRun). map encode runs ++ x ∷ []) is ∙ sym (map-append encode runs (run ∷ []))
 
-module _ (room : RoomOf) (in_units : Bool) (k : ℕ) (line : OrderedLine) (of : IsLineOf room k line) (inside : k < length room.layout.lines) where
+module _ (room : RoomOf) (in_units : Bool) (k : ℕ) (line : OrderedLine) (of : IsLineOf room k line)
+    (inside : k < length room.layout.lines) where
   abbrev encode : VisualRun → BidiRun
   encode = returned_run room in_units
 
   -- all runs of the line are written
-  pub all_written : (count again : ℕ) (old counting filled : List BidiRun) → PutsRuns room in_units line count counting → PutsRuns room in_units line again filled
+  pub all_written : (count again : ℕ) (old counting filled : List BidiRun) →
+      PutsRuns room in_units line count counting → PutsRuns room in_units line again filled
       → length filled ≡ count → count ≤ length old → WritesRuns room in_units k count old (filled ++ drop count old)
   all_written count again old counting filled first then len fits =
       let n : length (map encode then.runs) ≡ count =
       length-map then.runs encode ∙ sym (same_count line first.runs then.runs first.are then.are) ∙ sym first.counted in
       let whole : again ≡ length filled = omega (arith, then.counted, n, len, length-map then.runs encode) in
-      let all : filled ≡ map encode then.runs = sym (take-length filled) ∙ ap (λ (m : ℕ). take m filled) (sym whole) ∙ then.written (omega (arith, whole)) in
+      let all : filled ≡ map encode then.runs = sym (take-length filled) ∙ ap (λ (m : ℕ). take m filled) (sym whole) ∙
+      then.written (omega (arith, whole)) in
       record {
         runs = then.runs;
         are = λ _. record { line = line; is = of.is; para = of.para; are = then.are };
         none = λ ge. absurd (omega (arith, ge, inside));
         writes = record {
           count = sym n;
-          written = λ _. ap (λ (m : ℕ). take m (filled ++ drop count old)) (n ∙ sym len) ∙ take-append_seam filled (drop count old) ∙ all;
-          following = ap (λ (m : ℕ). drop m (filled ++ drop count old)) (n ∙ sym len) ∙ drop-append_seam filled (drop count old) ∙ ap (λ (m : ℕ). drop m old) (sym n);
+          written = λ _. ap (λ (m : ℕ). take m (filled ++ drop count old)) (n ∙ sym len) ∙
+              take-append_seam filled (drop count old) ∙ all;
+          following = ap (λ (m : ℕ). drop m (filled ++ drop count old)) (n ∙ sym len) ∙
+              drop-append_seam filled (drop count old) ∙ ap (λ (m : ℕ). drop m old) (sym n);
           unchanged = λ few. absurd (omega (arith, few, fits, n));
         };
       }
 
   -- none of them is
-  pub none_written : (count : ℕ) (old counting : List BidiRun) → PutsRuns room in_units line count counting → length old < count → WritesRuns room in_units k count old old
+  pub none_written : (count : ℕ) (old counting : List BidiRun) → PutsRuns room in_units line count counting →
+      length old < count → WritesRuns room in_units k count old old
   none_written count old counting first few =
       let n : length (map encode first.runs) ≡ count = length-map first.runs encode ∙ sym first.counted in
       record {
@@ -61,7 +68,8 @@ module _ (room : RoomOf) (in_units : Bool) (k : ℕ) (line : OrderedLine) (of : 
       }
 
 -- there is no such line
-pub no_runs : {room : RoomOf} {in_units : Bool} {k counted : ℕ} {old : List BidiRun} → length room.layout.lines ≤ k → counted ≡ 0 → WritesRuns room in_units k counted old old
+pub no_runs : {room : RoomOf} {in_units : Bool} {k counted : ℕ} {old : List BidiRun} → length room.layout.lines ≤ k →
+    counted ≡ 0 → WritesRuns room in_units k counted old old
 no_runs ge zero =
     record {
       runs = [];

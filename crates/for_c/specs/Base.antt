@@ -44,7 +44,8 @@ WritesBaseLevels tables source number count old new =
 
 -- a call that is to write the levels of the paragraphs of a text writes and counts them, or fails for a reason, and
 -- nothing is written
-pub record PutsBaseLevels (tables : TablesOf) (source : SourceOf) (number : ℕ) (levels levels2 : List ℕ) (count count2 : ℕ) (outcome : Outcome) : Type 0 where
+pub record PutsBaseLevels (tables : TablesOf) (source : SourceOf) (number : ℕ) (levels levels2 : List ℕ)
+    (count count2 : ℕ) (outcome : Outcome) : Type 0 where
   pub written : OnOk outcome (WritesBaseLevels tables source number count2 levels levels2)
   pub unchanged_levels : OnErr outcome (levels2 ≡ levels)
   pub unchanged_count : OnErr outcome (count2 ≡ count)

@@ -27,13 +27,15 @@ pub record ResetsLine (classes : List ℕ) (para_level : ℕ) (old new : List �
   pub fits : length classes ≤ length old
   pub level : IsLevelNumber para_level
   pub are_classes : AllAre IsClassNumber classes
-  pub reset : new ≡ levels_reset_in (classes_numbered classes) para_level (take (length classes) old) ++ drop (length classes) old
+  pub reset : new ≡ levels_reset_in (classes_numbered classes) para_level (take (length classes) old) ++
+      drop (length classes) old
 
 -- the line is rejected for this reason, the first of several: there are fewer levels than classes, the paragraph's
 -- level is out of range, or a number is that of no class
 abbrev pub RejectsLine : List ℕ → ℕ → List ℕ → CallError → Type 0
 RejectsLine classes para_level levels TooSmall = length levels < length classes
-RejectsLine classes para_level levels (NoLevel place) = (length classes ≤ length levels) × (126 < para_level) × (place ≡ 0)
+RejectsLine classes para_level levels (NoLevel place) = (length classes ≤ length levels) × (126 < para_level) ×
+    (place ≡ 0)
 RejectsLine classes para_level levels (NoClass index) =
     (length classes ≤ length levels) × IsLevelNumber para_level × IsFirstOther IsClassNumber classes index
 RejectsLine classes para_level levels _ = ⊥
@@ -52,8 +54,10 @@ RejectsLevels levels order _ = ⊥
 
 -- the numbers of the class and of the bracket of each code point
 pub record AreProperties (tables : TablesOf) (codes classes brackets : List ℕ) : Type 0 where
-  pub class : (k : ℕ) → k < length codes → class_numbered (slice_index classes k) ≡ Some (class_by tables.classes (slice_index codes k))
-  pub bracket : (k : ℕ) → k < length codes → slice_index brackets k ≡ bracket_number (bracket_by tables.brackets (slice_index codes k))
+  pub class : (k : ℕ) → k < length codes →
+      class_numbered (slice_index classes k) ≡ Some (class_by tables.classes (slice_index codes k))
+  pub bracket : (k : ℕ) → k < length codes →
+      slice_index brackets k ≡ bracket_number (bracket_by tables.brackets (slice_index codes k))
 
 -- these numbers, at the fronts of two lists
 pub record WritesProperties (tables : TablesOf) (codes classes classes2 brackets brackets2 : List ℕ) : Type 0 where
@@ -73,7 +77,8 @@ RejectsCodes codes classes brackets (NoCharacter index) =
 RejectsCodes codes classes brackets _ = ⊥
 
 -- a call that writes the properties of code points, or fails for a reason; then nothing is written
-pub record PutsProperties (tables : TablesOf) (codes classes classes2 brackets brackets2 : List ℕ) (outcome : Outcome) : Type 0 where
+pub record PutsProperties (tables : TablesOf) (codes classes classes2 brackets brackets2 : List ℕ) (outcome : Outcome) :
+    Type 0 where
   pub written : OnOk outcome (WritesProperties tables codes classes classes2 brackets brackets2)
   pub unchanged_classes : OnErr outcome (classes2 ≡ classes)
   pub unchanged_brackets : OnErr outcome (brackets2 ≡ brackets)

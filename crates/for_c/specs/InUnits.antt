@@ -54,7 +54,8 @@ IsUnitRun room k from run =
 -- P2, P3: it is the level of the paragraph in which the unit at the offset lies; from the text's end on it is 255
 abbrev pub IsParaByteAt : RoomOf → ℕ → ℕ → Type 0
 IsParaByteAt room at byte =
-    ((level : ParaLevel) × HasParaLevelIn room at level × (byte ≡ level_of_para level)) ⊎ ((size_in room ≤ at) × (byte ≡ 255))
+    ((level : ParaLevel) × HasParaLevelIn room at level × (byte ≡ level_of_para level)) ⊎
+    ((size_in room ≤ at) × (byte ≡ 255))
 
 -- L2: the units of the line with the number k are counted, and their places are written whole or not at all; there are
 -- none if there is no such line

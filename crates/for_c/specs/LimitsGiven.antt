@@ -18,7 +18,8 @@ RejectsLimits limits _ = ⊥
 
 -- a call with limits tests them first: if they are not allowed it fails for that and changes nothing, else it does what
 -- `IsSo` states of these limits
-pub record ByLimits {A : Type 0} (given : BidiLimits) (IsSo : LimitsOf → A → A → Outcome → Type 0) (old new : A) (outcome : Outcome) : Type 0 where
+pub record ByLimits {A : Type 0} (given : BidiLimits) (IsSo : LimitsOf → A → A → Outcome →
+    Type 0) (old new : A) (outcome : Outcome) : Type 0 where
   pub forbidden : (AreAllowed (limits_in given) → ⊥) → IsErrAnd outcome (RejectsLimits given)
   pub unchanged : (AreAllowed (limits_in given) → ⊥) → new ≡ old
   pub allowed : AreAllowed (limits_in given) → IsSo (limits_in given) old new outcome

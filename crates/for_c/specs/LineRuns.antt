@@ -16,7 +16,8 @@ returned_run room true run = run_for_c (run_in room run)
 returned_run room false run = run_for_c run
 
 -- L2: the runs of a line are counted, and written so if all fit
-pub record PutsRuns (room : RoomOf) (in_units : Bool) (line : OrderedLine) (count : ℕ) (out : List BidiRun) : Type 0 where
+pub record PutsRuns (room : RoomOf) (in_units : Bool) (line : OrderedLine) (count : ℕ) (out : List BidiRun) :
+    Type 0 where
   pub runs : List VisualRun
   pub are : AreRunsOf line runs
   pub counted : count ≡ length runs

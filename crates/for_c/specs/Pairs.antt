@@ -24,7 +24,8 @@ canonical_of c = only_of (decompose_canonical c) c
 -- the character, if there is one and the bracket pairs with it
 abbrev pub if_paired : TablesOf → Bracket → Option ℕ → Option ℕ
 if_paired tables bracket None = None
-if_paired tables bracket (Some image) = if are_paired bracket (bracket_by tables.brackets image) then Some image else None
+if_paired tables bracket (Some image) =
+    if are_paired bracket (bracket_by tables.brackets image) then Some image else None
 
 -- the mirrored character of what a character is canonically equivalent to, if the bracket pairs with it
 abbrev pub mirrored_partner : TablesOf → ℕ → Bracket → Option ℕ
@@ -37,12 +38,14 @@ pub record IsPartner (tables : TablesOf) (code partner : ℕ) : Type 0 where
   pub scalar : IsScalar partner
   pub paired : are_paired (bracket_by tables.brackets code) (bracket_by tables.brackets partner) ≡ true
   pub mirrored : IfSome (mirrored_partner tables code (bracket_by tables.brackets code)) (λ image. partner ≡ image)
-  pub least : mirrored_partner tables code (bracket_by tables.brackets code) ≡ None → (other : ℕ) → IsScalar other → other < partner
+  pub least : mirrored_partner tables code (bracket_by tables.brackets code) ≡ None → (other : ℕ) → IsScalar other →
+      other < partner
       → are_paired (bracket_by tables.brackets code) (bracket_by tables.brackets other) ≡ false
 
 -- no code point pairs with this one
 pub record HasNoPartner (tables : TablesOf) (code : ℕ) : Type 0 where
-  pub none : IsScalar code → (other : ℕ) → IsScalar other → are_paired (bracket_by tables.brackets code) (bracket_by tables.brackets other) ≡ false
+  pub none : IsScalar code → (other : ℕ) → IsScalar other →
+      are_paired (bracket_by tables.brackets code) (bracket_by tables.brackets other) ≡ false
 
 -- the bracket that the code point pairs with, or 0 if there is none
 abbrev pub IsPairedBracket : TablesOf → ℕ → ℕ → Type 0

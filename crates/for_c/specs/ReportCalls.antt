@@ -42,7 +42,8 @@ pub record TakesBytes (piece : List ℕ) (old new : TableReport) (result : Resul
 abbrev pub Returns : TableReport → TableReport → WrongCase → Type 0
 Returns old new case =
     (limits : LimitsOf) (tables : Option TablesOf) (ended : Bool) (returned : List WrongCase) (bytes : List ℕ)
-    → HasReported limits tables ended old returned bytes → HasReported limits tables ended new (returned ++ case ∷ []) bytes
+    → HasReported limits tables ended old returned bytes →
+    HasReported limits tables ended new (returned ++ case ∷ []) bytes
 
 -- the report has returned all wrong cases that are known of the bytes that it has taken
 abbrev pub HasReturnedAll : TableReport → Type 0

@@ -19,7 +19,8 @@ outcome_of error (Ok done) = Ok done
 outcome_of error (Err fault) = Err (error fault)
 
 -- the outcome for C is that of a result for which `IsSo` holds
-pub record Reports {F : Type 0} (error : F → CallError) (IsSo : Result (Unit {0}) F → Type 0) (outcome : Outcome) : Type 0 where
+pub record Reports {F : Type 0} (error : F → CallError) (IsSo : Result (Unit {0}) F →
+    Type 0) (outcome : Outcome) : Type 0 where
   pub done : Result (Unit {0}) F
   pub so : IsSo done
   pub reported : outcome ≡ outcome_of error done
@@ -37,7 +38,8 @@ abbrev pub SetsLines : List ℕ → RoomOf → RoomOf → Outcome → Type 0
 SetsLines breaks old new outcome = Reports error_of_layout (RoomSetsLines breaks old new) outcome
 
 -- L1, L2: one line of the text is written so, with its levels as bytes
-pub record WritesLineBytes (room : RoomOf) (start end : ℕ) (levels levels2 order order2 : List ℕ) (shown : ℕ) : Type 0 where
+pub record WritesLineBytes (room : RoomOf) (start end : ℕ) (levels levels2 order order2 : List ℕ)
+    (shown : ℕ) : Type 0 where
   pub column : List (Option ℕ)
   pub column2 : List (Option ℕ)
   pub line : WritesLineOf room start end column column2 order order2 shown
@@ -51,7 +53,8 @@ RejectsLineOf room start end places error =
 
 -- a call that lays out one line alone writes it, if each list has an item for each unit, or fails for a reason; then
 -- nothing is written
-pub record PutsLineOf (room : RoomOf) (start end : ℕ) (levels levels2 order order2 : List ℕ) (shown shown2 : ℕ) (outcome : Outcome) : Type 0 where
+pub record PutsLineOf (room : RoomOf) (start end : ℕ) (levels levels2 order order2 : List ℕ) (shown shown2 : ℕ)
+    (outcome : Outcome) : Type 0 where
   pub fits : OnOk outcome (end - start ≤ min (length levels) (length order))
   pub line : OnOk outcome (WritesLineBytes room start end levels levels2 order order2 shown2)
   pub unchanged_levels : OnErr outcome (levels2 ≡ levels)

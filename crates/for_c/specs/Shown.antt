@@ -13,7 +13,8 @@ pub record WritesNothing {A : Type 0} (counted : ℕ) (old new : List A) : Type 
 
 -- L4: the characters of the line with the number k are counted, and written as they are shown, whole or not at all, if
 -- there are as many code points as the room has characters; else nothing is written
-pub record WritesShownIf (tables : TablesOf) (room : RoomOf) (codes : List ℕ) (k counted : ℕ) (old new : List ℕ) : Type 0 where
+pub record WritesShownIf (tables : TablesOf) (room : RoomOf) (codes : List ℕ) (k counted : ℕ)
+    (old new : List ℕ) : Type 0 where
   pub shown : length codes ≡ characters_in room → WritesShown tables room codes k counted old new
   pub other : length codes ≢ characters_in room → WritesNothing counted old new
 

@@ -72,14 +72,16 @@ pub record ReturnsStatus (IsSo : Outcome → Type 0) (status : ℕ) : Type 0 whe
   pub so : IsSo outcome
 
 -- a call returns the status of an outcome for which `IsSo` holds, and the value that it names follows from the outcome
-pub record ReturnsStatusNaming {A : Type 0} (named : Outcome → A → A) (IsSo : Outcome → Type 0) (status : ℕ) (before after : A) : Type 0 where
+pub record ReturnsStatusNaming {A : Type 0} (named : Outcome → A → A) (IsSo : Outcome →
+    Type 0) (status : ℕ) (before after : A) : Type 0 where
   pub outcome : Outcome
   pub coded : status ≡ status_of outcome
   pub place : after ≡ named outcome before
   pub so : IsSo outcome
 
 -- a call puts a right value into a place, or fails for a reason, and the place is unchanged
-pub record Puts {A : Type 0} (IsRight : A → Type 0) (IsReason : CallError → Type 0) (old new : A) (outcome : Outcome) : Type 0 where
+pub record Puts {A : Type 0} (IsRight : A → Type 0) (IsReason : CallError →
+    Type 0) (old new : A) (outcome : Outcome) : Type 0 where
   pub right : OnOk outcome (IsRight new)
   pub unchanged : OnErr outcome (new ≡ old)
   pub reason : IfErr outcome IsReason

@@ -27,7 +27,8 @@ report_with limits tables bytes = report_on (strict_terms limits) (findings_with
 -- the known wrong cases of such a file, up to the first malformed line: before its end those of the final lines, which
 -- no bytes after these change; at its end those of all lines
 abbrev pub cases_known : LimitsOf → Option TablesOf → Bool → List ℕ → List WrongCase
-cases_known limits tables false bytes = wrong_cases_from (strict_terms limits) 0 (sound_lines (findings_with tables (decided_lines bytes)))
+cases_known limits tables false bytes =
+    wrong_cases_from (strict_terms limits) 0 (sound_lines (findings_with tables (decided_lines bytes)))
 cases_known limits tables true bytes = (report_with limits tables bytes).wrong
 
 -- the wrong cases of the last line that the report has not yet returned
@@ -39,11 +40,17 @@ cases_left report = drop report.returned report.state.lines.found
 abbrev pub HasCome : LimitsOf → Option TablesOf → Bool → StateOf → List WrongCase → List ℕ → Type 0
 HasCome limits tables false state cases bytes = HasReportedFor (strict_terms limits) tables state cases bytes
 HasCome limits tables true state cases bytes =
-    report_with limits tables bytes ≡ record { wrong = cases; case_counts = state.lines.case_counts; malformed = state.malformed }
+    report_with limits tables bytes ≡ record {
+      wrong = cases;
+      case_counts = state.lines.case_counts;
+      malformed =
+          state.malformed;
+    }
 
 -- the report lays out with these limits and tables, or without tables; it has taken these bytes, in any pieces, and if
 -- `ended` the end of the file; the wrong cases that it has returned and those that remain are all that it has found
-pub record HasReported (limits : LimitsOf) (tables : Option TablesOf) (ended : Bool) (report : TableReport) (returned : List WrongCase) (bytes : List ℕ) : Type 0 where
+pub record HasReported (limits : LimitsOf) (tables : Option TablesOf) (ended : Bool) (report : TableReport)
+    (returned : List WrongCase) (bytes : List ℕ) : Type 0 where
   pub by : option_map arc_value report.tables ≡ tables
   pub ends : report.ended ≡ ended
   pub so_far : HasCome limits tables ended report.state (returned ++ cases_left report) bytes
@@ -52,5 +59,7 @@ pub record HasReported (limits : LimitsOf) (tables : Option TablesOf) (ended : B
 -- taken
 abbrev pub ReturnsAll : Type 0
 ReturnsAll =
-    (limits : LimitsOf) (tables : Option TablesOf) (ended : Bool) (report : TableReport) (returned : List WrongCase) (bytes : List ℕ)
-    → HasReported limits tables ended report returned bytes → returned ++ cases_left report ≡ cases_known limits tables ended bytes
+    (limits : LimitsOf) (tables : Option TablesOf) (ended : Bool) (report : TableReport) (returned : List WrongCase)
+    (bytes : List ℕ)
+    → HasReported limits tables ended report returned bytes →
+    returned ++ cases_left report ≡ cases_known limits tables ended bytes

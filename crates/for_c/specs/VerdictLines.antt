@@ -46,7 +46,8 @@ RejectsVerdictText numbers most error =
 -- a call that writes the line of these numbers: if it succeeds, the line is at the front of the output; else the output
 -- is unchanged, for a reason. If the numbers encode a verdict and memory suffices, the length that is written is that
 -- of the line, 72 at most; else it is unchanged
-pub record WritesVerdictLine (numbers : BidiVerdict) (old new : List ℕ) (before after : ℕ) (outcome : Outcome) : Type 0 where
+pub record WritesVerdictLine (numbers : BidiVerdict) (old new : List ℕ) (before after : ℕ) (outcome : Outcome) :
+    Type 0 where
   pub fits : OnOk outcome ((line : List ℕ) × IsVerdictLine numbers line × (length line ≤ length old))
   pub written : OnOk outcome ((line : List ℕ) → IsVerdictLine numbers line → new ≡ line ++ drop (length line) old)
   pub unchanged : OnErr outcome (new ≡ old)

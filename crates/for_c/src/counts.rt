@@ -50,7 +50,10 @@ fn malformed_for_c(malformed: Option<(u64, Cause)>) -> (u64, u32)
 }
 
 /// Returns counts as C gets them, with the first malformed line and its cause.
-pub(crate) fn counts_for_c(case_counts: &CaseCounts, first_malformed: Option<(u64, Cause)>) -> BidiCounts
+pub(crate) fn counts_for_c(
+    case_counts: &CaseCounts,
+    first_malformed: Option<(u64, Cause)>,
+) -> BidiCounts
     ensures { result ≡ counts_for_c case_counts.now first_malformed }
 {
     let (malformed, cause) = malformed_for_c(first_malformed);

@@ -5,7 +5,7 @@ ghost use Rattle.std.specs.Prelude.{◌≡◌, OnOk};
 use crate::given::{levels, numbers, shows, unit, units_of};
 use lines::alone::{SEARCH_STEPS, SpanFault};
 use lines::breaks::{BreakFault, Breaks};
-use lines::lay_out::{TooLong, set_lines_into, lay_out_into, line_alone_into};
+use lines::lay_out::{TooLong, lay_out_into, line_alone_into, set_lines_into};
 use lines::layout::Layout;
 use lines::scratch::{RoomFault, Scratch};
 use std::alloc::Global;

@@ -14,8 +14,11 @@ is_break_at (b ∷ at) (suc k) p h e =
 pub is_break_none : (at : List ℕ) (p : ℕ) → ((k : ℕ) → k < length at → slice_index at k ≢ p) → is_break at p ≡ false
 is_break_none [] p none = refl
 is_break_none (b ∷ at) p none =
-    ap (λ t. t || is_break at p) (ne_eqb b p (none 0 (omega arith))) ∙ is_break_none at p (λ k h. none (suc k) (omega arith))
+    ap (λ t. t || is_break at p) (ne_eqb b p (none 0 (omega arith))) ∙
+    is_break_none at p (λ k h. none (suc k) (omega arith))
 
-pub rising_le : (at : List ℕ) (len j d : ℕ) → AreBreaks at len → j + d < length at → slice_index at j ≤ slice_index at (j + d)
-rising_le at len j zero breaks h = let e : j ≡ j + 0 = omega arith in subst (λ n. slice_index at j ≤ slice_index at n) e (omega arith)
+pub rising_le : (at : List ℕ) (len j d : ℕ) → AreBreaks at len → j + d < length at →
+    slice_index at j ≤ slice_index at (j + d)
+rising_le at len j zero breaks h = let e : j ≡ j + 0 = omega arith in
+    subst (λ n. slice_index at j ≤ slice_index at n) e (omega arith)
 rising_le at len j (suc d) breaks h = grind (arith, rising_le at len j d breaks)

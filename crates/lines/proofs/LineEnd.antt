@@ -17,7 +17,8 @@ is_end own q = not (is_removed (class_at own q)) && not (is_trailing_space (clas
 abbrev pub resets_at : List Class → ℕ → ℕ → Bool
 resets_at own p count = ends_spaces own (first_from (is_end own) p count)
 
-class_ends : (c : Class) (later : Bool) → cond (not (is_removed c) && not (is_trailing_space c)) (is_line_separator c) later ≡ resets_before c later
+class_ends : (c : Class) (later : Bool) →
+    cond (not (is_removed c) && not (is_trailing_space c)) (is_line_separator c) later ≡ resets_before c later
 class_ends S later = refl
 class_ends B later = refl
 class_ends WS later = refl
@@ -33,19 +34,23 @@ class_ends PDF later = refl
 class_ends BN later = refl
 class_ends _ later = refl
 
-ends_if : (own : List Class) (p : ℕ) (b : Bool) (o : Option ℕ) → ends_spaces own (cond b (Some p) o) ≡ cond b (is_line_separator (class_at own p)) (ends_spaces own o)
+ends_if : (own : List Class) (p : ℕ) (b : Bool) (o : Option ℕ) →
+    ends_spaces own (cond b (Some p) o) ≡ cond b (is_line_separator (class_at own p)) (ends_spaces own o)
 ends_if own p true o = refl
 ends_if own p false o = refl
 
-pub resets_at-suc : (own : List Class) (p count : ℕ) → resets_at own p (suc count) ≡ resets_before (class_at own p) (resets_at own (p + 1) count)
+pub resets_at-suc : (own : List Class) (p count : ℕ) →
+    resets_at own p (suc count) ≡ resets_before (class_at own p) (resets_at own (p + 1) count)
 resets_at-suc own p count =
-    ends_if own p (is_end own p) (first_from (is_end own) (p + 1) count) ∙ class_ends (class_at own p) (resets_at own (p + 1) count)
+    ends_if own p (is_end own p) (first_from (is_end own) (p + 1) count) ∙
+    class_ends (class_at own p) (resets_at own (p + 1) count)
 
 -- whether a class can be reset
 abbrev pub may_reset : Class → Bool
 may_reset c = is_line_separator c || is_trailing_space c
 
-pub class_reset : (c : Class) (later : Bool) → (is_line_separator c || (is_trailing_space c && later)) ≡ (resets_before c later && may_reset c)
+pub class_reset : (c : Class) (later : Bool) →
+    (is_line_separator c || (is_trailing_space c && later)) ≡ (resets_before c later && may_reset c)
 class_reset S later = refl
 class_reset B later = refl
 class_reset WS true = refl

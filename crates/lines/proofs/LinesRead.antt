@@ -10,9 +10,11 @@ use Rattle.units.proofs.Positions.{length-positions_from, get_or-positions_from}
 
 pub length-lines_in : (orders : List ℕ) (bounds : List Bound) → length (lines_in orders bounds) ≡ length bounds - 1
 length-lines_in orders bounds =
-    length-map (positions_from 0 (length bounds - 1)) (line_in orders bounds) ∙ length-positions_from 0 (length bounds - 1)
+    length-map (positions_from 0 (length bounds - 1)) (line_in orders bounds) ∙
+    length-positions_from 0 (length bounds - 1)
 
-pub line_read : (orders : List ℕ) (bounds : List Bound) (k : ℕ) → k < length bounds - 1 → slice_index_or (lines_in orders bounds) k no_line ≡ line_in orders bounds k
+pub line_read : (orders : List ℕ) (bounds : List Bound) (k : ℕ) → k < length bounds - 1 →
+    slice_index_or (lines_in orders bounds) k no_line ≡ line_in orders bounds k
 line_read orders bounds k h =
     let n = length bounds - 1 in
     let e : 0 + k ≡ k = omega arith in

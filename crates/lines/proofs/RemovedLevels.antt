@@ -35,37 +35,44 @@ none-reset reset para (Some level) = refl
 
 module _ (limits : LimitsOf) (allowed : AreAllowed limits) (direction : Direction) where
   -- in a paragraph, exactly the removed positions have no level
-  none_in_para : (us : List BidiUnit) → SeparatorOnlyLast us → map is_none (para_levels limits direction us) ≡ map is_removed (classes_of us)
+  none_in_para : (us : List BidiUnit) → SeparatorOnlyLast us →
+      map is_none (para_levels limits direction us) ≡ map is_removed (classes_of us)
   none_in_para us only =
       let levels : List (Option ℕ) = para_levels limits direction us in
       let long : length levels ≡ length us = length-resolved_levels limits us (para_level direction us) in
       let classes : length (classes_of us) ≡ length us = length-map us (λ (u : BidiUnit). u.class) in
       let left : length (map is_none levels) ≡ length levels = length-map levels is_none in
-      let right : length (map is_removed (classes_of us)) ≡ length (classes_of us) = length-map (classes_of us) is_removed in
+      let right : length (map is_removed (classes_of us)) ≡ length (classes_of us) =
+      length-map (classes_of us) is_removed in
       ext_get_or true (map is_none levels) (map is_removed (classes_of us)) (omega arith)
       (λ p h.
       get_or-map is_none levels p None true (omega arith)
-      ∙ resolved_none limits allowed us (para_level direction us) (para_level-low (classes_of us) direction) only p (omega arith)
+      ∙ resolved_none limits allowed us (para_level direction us) (para_level-low (classes_of us) direction) only p
+      (omega arith)
       ∙ sym (get_or-map is_removed (classes_of us) p L true (omega arith)))
 
-  none_in_pieces : (pieces : List (List BidiUnit)) → IsCut pieces → map is_none (flat_map (para_levels limits direction) pieces) ≡ map is_removed (classes_of (joined pieces))
+  none_in_pieces : (pieces : List (List BidiUnit)) → IsCut pieces →
+      map is_none (flat_map (para_levels limits direction) pieces) ≡ map is_removed (classes_of (joined pieces))
   none_in_pieces [] cut = refl
   none_in_pieces (us ∷ pieces) cut = grind (arith, map-append, none_in_para, none_in_pieces pieces cut.3)
 
-  none_in_text : (text : List BidiUnit) → map is_none (text_levels limits text direction) ≡ map is_removed (classes_of text)
+  none_in_text : (text : List BidiUnit) →
+      map is_none (text_levels limits text direction) ≡ map is_removed (classes_of text)
   none_in_text text =
       none_in_pieces (paragraphs_of text) (IsCut-paragraphs_of text)
       ∙ ap (λ (us : List BidiUnit). map is_removed (classes_of us)) (joined-paragraphs_of text)
 
   -- X9: in a layout, exactly the removed positions have no level
   pub none_in_layout : (text : List BidiUnit) (breaks : List ℕ) (p : ℕ) → p < length text →
-      is_none (slice_index_or (layout_of limits text direction breaks).levels p None) ≡ is_removed (class_at (classes_of text) p)
+      is_none (slice_index_or (layout_of limits text direction breaks).levels p None) ≡
+      is_removed (class_at (classes_of text) p)
   unfolding layout_of
   none_in_layout text breaks p h =
       let own : List Class = classes_of text in
       let levels : List (Option ℕ) = text_levels limits text direction in
       let classes : length own ≡ length text = length-map text (λ (u : BidiUnit). u.class) in
-      let long : length levels ≡ length own = sym (length-map levels is_none) ∙ ap length (none_in_text text) ∙ length-map own is_removed in
+      let long : length levels ≡ length own = sym (length-map levels is_none) ∙ ap length (none_in_text text) ∙
+      length-map own is_removed in
       ap is_none (get_or-after_resets own breaks (para_levels_of text direction) levels p (omega arith))
       ∙ none-reset (is_reset own breaks p) (para_level_at own (para_levels_of text direction) p) (get_or levels p None)
       ∙ sym (get_or-map is_none levels p None true (omega arith))

@@ -21,9 +21,12 @@ use Rattle.lines.proofs.TextEnd.{Comes, Resetting, counted_step, resetting_end, 
 use mir.Val.{bool_byte}
 
 -- a search for a separator of lines passes one position more
-pub passes_one : (us : List BidiUnit) (p q end : ℕ) (d : BidiUnit) (separates : Bool) → p < length us → separates ≡ is_line_separator (get_or us p d).class → separates ≡ false → q ≡ p + 1 → SeparateNone (classes_of us) q end → SeparateNone (classes_of us) p end
+pub passes_one : (us : List BidiUnit) (p q end : ℕ) (d : BidiUnit) (separates : Bool) → p < length us →
+    separates ≡ is_line_separator (get_or us p d).class → separates ≡ false → q ≡ p + 1 →
+    SeparateNone (classes_of us) q end → SeparateNone (classes_of us) p end
 passes_one us p q end d separates within e off next passed =
-    let solid : is_line_separator (class_at (classes_of us) p) ≡ false = sym (e ∙ ap is_line_separator (sym (class_read us p d within))) ∙ off in
+    let solid : is_line_separator (class_at (classes_of us) p) ≡ false =
+    sym (e ∙ ap is_line_separator (sym (class_read us p d within))) ∙ off in
     record {
       none = λ k low high. elim (cases_eq k p) [
         | inl same ↦ subst (λ m. is_line_separator (class_at (classes_of us) m) ≡ false) (sym same) solid
@@ -42,29 +45,42 @@ len us = length-map us (λ u. u.class)
 
 module _ (us : List BidiUnit) (paras : List ParaLevel) {at : List ℕ} {old : List (Option ℕ)} where
   -- before the first step
-  pub pass_start : (separators : ℕ) → length old ≡ length us → AreBreaks at (length us) → separators ≡ count_by is_separator (classes_of us) → Resetting (classes_of us) at (map level_of_para paras) old (length old) (length at) separators true old
-  pass_start separators all breaks count = resetting_start (classes_of us) at (map level_of_para paras) old separators (len us ∙ sym all) (subst (AreBreaks at) (sym (len us)) breaks) count
+  pub pass_start : (separators : ℕ) → length old ≡ length us → AreBreaks at (length us) →
+      separators ≡ count_by is_separator (classes_of us) →
+      Resetting (classes_of us) at (map level_of_para paras) old (length old) (length at) separators true old
+  pass_start separators all breaks count =
+      resetting_start (classes_of us) at (map level_of_para paras) old separators (len us ∙
+      sym all) (subst (AreBreaks at) (sym (len us)) breaks) count
 
-  module _ {position ahead paragraph : ℕ} {resets : Bool} {levels : List (Option ℕ)} (before : Resetting (classes_of us) at (map level_of_para paras) old position ahead paragraph resets levels) where
+  module _ {position ahead paragraph : ℕ} {resets : Bool} {levels : List (Option ℕ)}
+      (before : Resetting (classes_of us) at (map level_of_para paras) old position ahead paragraph resets levels) where
     -- after the last step
     pub pass_end : (breaks : List ℕ) → position ≡ 0 → at ≡ breaks → levels ≡ levels_reset us breaks paras old
     pass_end breaks none same =
-        resetting_end (classes_of us) at (map level_of_para paras) old ahead paragraph resets levels (subst (λ n. Resetting (classes_of us) at (map level_of_para paras) old n ahead paragraph resets levels) none before)
+        resetting_end (classes_of us) at (map level_of_para paras) old ahead paragraph resets levels
+        (subst (λ n. Resetting (classes_of us) at (map level_of_para paras) old n ahead paragraph resets levels)
+        none before)
         ∙ ap (λ bs. after_resets (classes_of us) bs (map level_of_para paras) old) same
 
     module _ (some : 0 < position) (within : position ≤ length us) where
-      lower : Resetting (classes_of us) at (map level_of_para paras) old (position - 1 + 1) ahead paragraph resets levels
+      lower : Resetting (classes_of us) at (map level_of_para paras) old
+          (position - 1 + 1) ahead paragraph resets levels
       lower =
           let there : position - 1 + 1 ≡ position = omega (arith, some) in
-          subst (λ n. Resetting (classes_of us) at (map level_of_para paras) old n ahead paragraph resets levels) (sym there) before
+          subst (λ n. Resetting (classes_of us) at (map level_of_para paras) old n ahead paragraph resets levels)
+          (sym there) before
 
-      read_at : (test : Class → Bool) (d : BidiUnit) (outcome : Bool) → outcome ≡ test (get_or us (position - 1) d).class → outcome ≡ test (class_at (classes_of us) (position - 1))
+      read_at : (test : Class → Bool) (d : BidiUnit) (outcome : Bool) →
+          outcome ≡ test (get_or us (position - 1) d).class → outcome ≡ test (class_at (classes_of us) (position - 1))
       read_at test d outcome e = e ∙ ap test (sym (class_read us (position - 1) d (omega (arith, some, within))))
 
       -- the separators before the position are those that were counted, without the position itself
-      pub counted_back : (d : BidiUnit) (less : ℕ) (ends : Bool) → ends ≡ is_separator (get_or us (position - 1) d).class → less ≡ bool_byte ends → less + count_by is_separator (take (position - 1) (classes_of us)) ≡ paragraph
+      pub counted_back : (d : BidiUnit) (less : ℕ) (ends : Bool) →
+          ends ≡ is_separator (get_or us (position - 1) d).class → less ≡ bool_byte ends →
+          less + count_by is_separator (take (position - 1) (classes_of us)) ≡ paragraph
       counted_back d less ends e b =
-          let n = counted_step (classes_of us) (position - 1) ends (omega (arith, len us, some, within)) (read_at is_separator d ends e) in
+          let n = counted_step (classes_of us) (position - 1) ends (omega (arith, len us, some, within))
+          (read_at is_separator d ends e) in
           let b' : less ≡ cond ends 1 0 = b ∙ bool_byte-is ends in
           omega (arith, lower.counted)
 
@@ -73,15 +89,21 @@ module _ (us : List BidiUnit) (paras : List ParaLevel) {at : List ℕ} {old : Li
         counted_here = paragraph_at us (length paras) (position - 1) same (omega (arith, some, within))
 
         -- the number of the paragraph of the position is below the number of paragraphs
-        pub paragraph_here : (d : BidiUnit) (less : ℕ) (ends : Bool) → ends ≡ is_separator (get_or us (position - 1) d).class → less ≡ bool_byte ends → paragraph - less < length paras
+        pub paragraph_here : (d : BidiUnit) (less : ℕ) (ends : Bool) →
+            ends ≡ is_separator (get_or us (position - 1) d).class → less ≡ bool_byte ends →
+            paragraph - less < length paras
         paragraph_here d less ends e b = omega (arith, counted_back d less ends e b, counted_here)
 
         -- a position that separates lines, or after which a line begins or spaces are reset
-        pub resets_one : (d : BidiUnit) (less passed : ℕ) (ends broken resets2 may : Bool) (level put : Option ℕ) → AreBreaks at (length us) → ends ≡ is_separator (get_or us (position - 1) d).class
+        pub resets_one : (d : BidiUnit) (less passed : ℕ) (ends broken resets2 may : Bool) (level put : Option ℕ) →
+            AreBreaks at (length us) → ends ≡ is_separator (get_or us (position - 1) d).class
             → (broken ≡ true → Comes at ahead (position - 1 + 1)) → (Comes at ahead (position - 1 + 1) → broken ≡ true)
-            → resets2 ≡ resets_before (get_or us (position - 1) d).class (ends || broken || resets) → may ≡ may_reset (get_or us (position - 1) d).class → level ≡ get_or levels (position - 1) level
-            → put ≡ reset_to (resets2 && may) (level_of_para (slice_index_or paras (paragraph - less) Zero)) level → less ≡ bool_byte ends → passed ≡ bool_byte broken
-            → Resetting (classes_of us) at (map level_of_para paras) old (position - 1) (ahead - passed) (paragraph - less) resets2 (set levels (position - 1) put)
+            → resets2 ≡ resets_before (get_or us (position - 1) d).class (ends || broken || resets) →
+            may ≡ may_reset (get_or us (position - 1) d).class → level ≡ get_or levels (position - 1) level
+            → put ≡ reset_to (resets2 && may) (level_of_para (slice_index_or paras (paragraph - less) Zero)) level →
+            less ≡ bool_byte ends → passed ≡ bool_byte broken
+            → Resetting (classes_of us) at (map level_of_para paras) old (position - 1) (ahead - passed)
+            (paragraph - less) resets2 (set levels (position - 1) put)
         resets_one d less passed ends broken resets2 may level put breaks e says hit flag m read is fewer comes =
             let own : List Class = classes_of us in
             let ps : List ℕ = map level_of_para paras in
@@ -90,18 +112,36 @@ module _ (us : List BidiUnit) (paras : List ParaLevel) {at : List ℕ} {old : Li
             let back = counted_back d less ends e fewer in
             let index : paragraph - less ≡ count_by is_separator (take p own) = omega arith in
             let para : ℕ = level_of_para (slice_index_or paras (paragraph - less) Zero) in
-            let value : para ≡ para_level_at own ps p = ap (λ i. level_of_para (slice_index_or paras i Zero)) index ∙ sym (get_or-map level_of_para paras (count_by is_separator (take p own)) Zero 0 counted_here) in
-            let stored : level ≡ get_or levels p None = read ∙ get_or_default levels p level None (omega (arith, before.len, before.all, len us, some, within)) in
-            let written : set levels p put ≡ set levels p (reset_to (resets2 && may_reset (class_at own p)) para (get_or levels p None)) =
-            ap (set levels p) (is ∙ ap (λ b. reset_to (resets2 && b) para level) (m ∙ ap may_reset (sym class)) ∙ ap (reset_to (resets2 && may_reset (class_at own p)) para) stored) in
-            let more : Resetting own at ps old p (ahead - cond broken 1 0) (paragraph - cond ends 1 0) resets2 (set levels p put) =
-            resetting_more own at ps old p ahead paragraph para ends broken resets resets2 levels (set levels p put) (subst (AreBreaks at) (sym (len us)) breaks) (omega (arith, len us, some, within)) (read_at is_separator d ends e) says hit
+            let value : para ≡ para_level_at own ps p = ap (λ i. level_of_para (slice_index_or paras i Zero)) index ∙
+            sym (get_or-map level_of_para paras (count_by is_separator (take p own)) Zero 0 counted_here) in
+            let stored : level ≡ get_or levels p None =
+            read ∙ get_or_default levels p level None (omega (
+              arith,
+              before.len,
+              before.all,
+              len us,
+              some,
+              within,
+            )) in
+            let written : set levels p put ≡
+            set levels p (reset_to (resets2 && may_reset (class_at own p)) para (get_or levels p None)) =
+            ap (set levels p) (is ∙ ap (λ b. reset_to (resets2 && b) para level) (m ∙ ap may_reset (sym class)) ∙
+            ap (reset_to (resets2 && may_reset (class_at own p)) para) stored) in
+            let more : Resetting own at ps old p (ahead - cond broken 1 0) (paragraph - cond ends 1 0) resets2
+            (set levels p put) =
+            resetting_more own at ps old p ahead paragraph para ends broken resets resets2 levels (set levels p put)
+            (subst (AreBreaks at) (sym (len us)) breaks) (omega (arith, len us, some, within))
+            (read_at is_separator d ends e) says hit
             (flag ∙ ap (λ k. resets_before k (ends || broken || resets)) (sym class)) value written lower in
-            subst (λ a. Resetting own at ps old p (ahead - a) (paragraph - less) resets2 (set levels p put)) (sym (comes ∙ bool_byte-is broken))
-            (subst (λ a. Resetting own at ps old p (ahead - cond broken 1 0) (paragraph - a) resets2 (set levels p put)) (sym (fewer ∙ bool_byte-is ends)) more)
+            subst (λ a. Resetting own at ps old p (ahead - a) (paragraph - less) resets2 (set levels p put))
+            (sym (comes ∙ bool_byte-is broken))
+            (subst (λ a. Resetting own at ps old p (ahead - cond broken 1 0) (paragraph - a) resets2 (set levels p put))
+            (sym (fewer ∙ bool_byte-is ends)) more)
 
       -- a position that does not separate lines, and after which no line begins and no spaces are reset
-      module _ (d : BidiUnit) (broken separates : Bool) (none : ((resets || broken) || separates) ≡ false) (is : separates ≡ is_line_separator (get_or us (position - 1) d).class) (hit : Comes at ahead (position - 1 + 1) → broken ≡ true) where
+      module _ (d : BidiUnit) (broken separates : Bool) (none : ((resets || broken) || separates) ≡ false)
+          (is : separates ≡ is_line_separator (get_or us (position - 1) d).class)
+          (hit : Comes at ahead (position - 1 + 1) → broken ≡ true) where
         pub solid : is_line_separator (class_at (classes_of us) (position - 1)) ≡ false
         solid = sym (read_at is_line_separator d separates is) ∙ (none_holds resets broken separates none).2
 
@@ -109,7 +149,8 @@ module _ (us : List BidiUnit) (paras : List ParaLevel) {at : List ℕ} {old : Li
         whole comes = let z : false ≡ true = sym (none_holds resets broken separates none).1 ∙ hit comes in cc
 
         -- the next break towards the start is not after it
-        pub last_before : (last : ℕ) → (0 < ahead → last ≡ slice_index at (ahead - 1)) → (ahead ≡ 0 → last ≡ 0) → last ≤ position - 1
+        pub last_before : (last : ℕ) → (0 < ahead → last ≡ slice_index at (ahead - 1)) → (ahead ≡ 0 → last ≡ 0) →
+            last ≤ position - 1
         last_before last from first =
             elim (cases_lt 0 ahead) [
               | inl more ↦
@@ -121,19 +162,28 @@ module _ (us : List BidiUnit) (paras : List ParaLevel) {at : List ℕ} {old : Li
             ]
 
         module _ (breaks : AreBreaks at (length us)) where
-          pub passed_one : Resetting (classes_of us) at (map level_of_para paras) old (position - 1) ahead paragraph false levels
+          pub passed_one : Resetting (classes_of us) at (map level_of_para paras) old
+              (position - 1) ahead paragraph false levels
           passed_one =
-              resetting_on (classes_of us) at (map level_of_para paras) old (position - 1) ahead paragraph levels (subst (AreBreaks at) (sym (len us)) breaks) (omega (arith, len us, some, within)) solid whole
-              (subst (λ b. Resetting (classes_of us) at (map level_of_para paras) old (position - 1 + 1) ahead paragraph b levels) (none_holds resets broken separates none).0 lower)
+              resetting_on (classes_of us) at (map level_of_para paras) old (position - 1) ahead paragraph levels
+              (subst (AreBreaks at) (sym (len us)) breaks) (omega (arith, len us, some, within)) solid whole
+              (subst (λ b. Resetting (classes_of us) at (map level_of_para paras) old
+              (position - 1 + 1) ahead paragraph b levels) (none_holds resets broken separates none).0 lower)
 
           -- the positions before it are passed too, if none of them separates lines
-          pub passed_to : (q last : ℕ) → (0 < ahead → last ≡ slice_index at (ahead - 1)) → last ≤ q → q ≤ position - 1 → SeparateNone (classes_of us) q (position - 1) → Resetting (classes_of us) at (map level_of_para paras) old q ahead paragraph resets levels
+          pub passed_to : (q last : ℕ) → (0 < ahead → last ≡ slice_index at (ahead - 1)) → last ≤ q → q ≤ position - 1 →
+              SeparateNone (classes_of us) q (position - 1) →
+              Resetting (classes_of us) at (map level_of_para paras) old q ahead paragraph resets levels
           passed_to q last from le low free =
               let own : List Class = classes_of us in
               let ps : List ℕ = map level_of_para paras in
               let count : ℕ = position - 1 - q in
               let back : q + count ≡ position - 1 = omega (arith, low) in
-              let coming : 0 < ahead → slice_index at (ahead - 1) ≤ q = λ more. let e : last ≡ slice_index at (ahead - 1) = from more in omega (arith, le) in
-              let one : Resetting own at ps old (q + count) ahead paragraph false levels = subst (λ n. Resetting own at ps old n ahead paragraph false levels) (sym back) passed_one in
-              subst (λ b. Resetting own at ps old q ahead paragraph b levels) (sym (none_holds resets broken separates none).0)
-              (resetting_over own at ps old q count ahead paragraph levels (subst (AreBreaks at) (sym (len us)) breaks) (omega (arith, len us, some, within, back)) (subst (SeparateNone own q) (sym back) free) coming one)
+              let coming : 0 < ahead → slice_index at (ahead - 1) ≤ q =
+              λ more. let e : last ≡ slice_index at (ahead - 1) = from more in omega (arith, le) in
+              let one : Resetting own at ps old (q + count) ahead paragraph false levels =
+              subst (λ n. Resetting own at ps old n ahead paragraph false levels) (sym back) passed_one in
+              subst (λ b. Resetting own at ps old q ahead paragraph b levels)
+              (sym (none_holds resets broken separates none).0)
+              (resetting_over own at ps old q count ahead paragraph levels (subst (AreBreaks at) (sym (len us)) breaks)
+              (omega (arith, len us, some, within, back)) (subst (SeparateNone own q) (sym back) free) coming one)

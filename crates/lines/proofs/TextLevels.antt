@@ -23,14 +23,17 @@ abbrev pub para_levels : LimitsOf → Direction → List BidiUnit → List (Opti
 para_levels limits direction us = resolved_levels limits us (para_level direction us)
 
 -- the paragraphs before start are written, and those of `rest` are not
-pub record IsWritten (limits : LimitsOf) (text : List BidiUnit) (direction : Direction) (start : ℕ) (paras : List ParaLevel) (levels : List (Option ℕ)) (rest : List (List BidiUnit)) : Type 0 where
+pub record IsWritten (limits : LimitsOf) (text : List BidiUnit) (direction : Direction) (start : ℕ)
+    (paras : List ParaLevel) (levels : List (Option ℕ)) (rest : List (List BidiUnit)) : Type 0 where
   pub cut : IsCut rest
   pub ahead : start + length (joined rest) ≡ length text
   pub few : length paras ≤ start
   pub all_para_levels : map level_of_para paras ++ map (para_level direction) rest ≡ para_levels_of text direction
-  pub computed_levels : take start levels ++ flat_map (para_levels limits direction) rest ≡ text_levels limits text direction
+  pub computed_levels : take start levels ++ flat_map (para_levels limits direction) rest ≡
+      text_levels limits text direction
 
-pub written_none : (limits : LimitsOf) (text : List BidiUnit) (direction : Direction) (levels : List (Option ℕ)) → IsWritten limits text direction 0 [] levels (paragraphs_of text)
+pub written_none : (limits : LimitsOf) (text : List BidiUnit) (direction : Direction) (levels : List (Option ℕ)) →
+    IsWritten limits text direction 0 [] levels (paragraphs_of text)
 written_none limits text direction levels = record {
   cut = IsCut-paragraphs_of text;
   ahead = omega (arith, ap length (joined-paragraphs_of text));
@@ -39,12 +42,15 @@ written_none limits text direction levels = record {
   computed_levels = refl;
 }
 
-map-push : (paras : List ParaLevel) (level : ParaLevel) (rest : List ℕ) → map level_of_para (paras ++ (level ∷ [])) ++ rest ≡ map level_of_para paras ++ (level_of_para level ∷ rest)
+map-push : (paras : List ParaLevel) (level : ParaLevel) (rest : List ℕ) → map level_of_para (paras ++ (level ∷ [])) ++
+    rest ≡ map level_of_para paras ++ (level_of_para level ∷ rest)
 map-push [] level rest = refl
 map-push (para ∷ paras) level rest = ap (λ (xs : List ℕ). level_of_para para ∷ xs) (map-push paras level rest)
 
-module _ {limits : LimitsOf} {text : List BidiUnit} {direction : Direction} {start : ℕ} {paras : List ParaLevel} {levels : List (Option ℕ)} where
-  module _ {para : List BidiUnit} {rest : List (List BidiUnit)} (w : IsWritten limits text direction start paras levels (para ∷ rest)) where
+module _ {limits : LimitsOf} {text : List BidiUnit} {direction : Direction} {start : ℕ} {paras : List ParaLevel}
+    {levels : List (Option ℕ)} where
+  module _ {para : List BidiUnit} {rest : List (List BidiUnit)} (w : IsWritten limits text direction start paras levels
+      (para ∷ rest)) where
     pub separator_last : SeparatorOnlyLast para
     separator_last = w.cut.1
 
@@ -54,7 +60,8 @@ module _ {limits : LimitsOf} {text : List BidiUnit} {direction : Direction} {sta
     written_next level now at put = grind (arith, length-append, map-push, append_assoc)
 
     -- the same, with the end of the paragraph
-    pub written_to : (end : ℕ) (level : ParaLevel) (now : List (Option ℕ)) → end ≡ start + length para → level_of_para level ≡ para_level direction para →
+    pub written_to : (end : ℕ) (level : ParaLevel) (now : List (Option ℕ)) → end ≡ start + length para →
+        level_of_para level ≡ para_level direction para →
         take end now ≡ take start levels ++ para_levels limits direction para →
         IsWritten limits text direction end (paras ++ (level ∷ [])) now rest
     written_to end level now e at put =
@@ -69,12 +76,16 @@ module _ {limits : LimitsOf} {text : List BidiUnit} {direction : Direction} {sta
     written_paras = sym (append-nil (map level_of_para paras)) ∙ w.all_para_levels
 
     pub written_levels : take (length text) levels ≡ text_levels limits text direction
-    written_levels = ap (λ (n : ℕ). take n levels) (sym all_written) ∙ sym (append-nil (take start levels)) ∙ w.computed_levels
+    written_levels = ap (λ (n : ℕ). take n levels) (sym all_written) ∙ sym (append-nil (take start levels)) ∙
+        w.computed_levels
 
 -- the written parts are those of the layout
-pub laid_out : (limits : LimitsOf) (text : List BidiUnit) (direction : Direction) (breaks : List ℕ) (paras : List ℕ) (resolved levels front : List (Option ℕ)) (lines : List LineLayout) →
-    front ≡ levels → paras ≡ para_levels_of text direction → resolved ≡ text_levels limits text direction → levels ≡ after_resets (classes_of text) breaks paras resolved →
+pub laid_out : (limits : LimitsOf) (text : List BidiUnit) (direction : Direction) (breaks : List ℕ) (paras : List ℕ)
+    (resolved levels front : List (Option ℕ)) (lines : List LineLayout) →
+    front ≡ levels → paras ≡ para_levels_of text direction → resolved ≡ text_levels limits text direction →
+    levels ≡ after_resets (classes_of text) breaks paras resolved →
     lines ≡ lines_cut_at levels (cuts_of (classes_of text) breaks) →
-    (let shown : TextLayout = record { paras = paras; levels = front; lines = lines } in shown ≡ layout_of limits text direction breaks)
+    (let shown : TextLayout = record { paras = paras; levels = front; lines = lines } in
+    shown ≡ layout_of limits text direction breaks)
 unfolding layout_of
 laid_out limits text direction breaks paras resolved levels front lines e p r l w = grind arith

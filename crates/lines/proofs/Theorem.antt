@@ -57,43 +57,54 @@ level_from_some : (o : Option ℕ) → IsSome o → (v : ℕ) × (o ≡ Some v)
 level_from_some None h = cc
 level_from_some (Some w) h = (w, refl)
 
-pub line_order_from : (levels : List (Option ℕ)) (start end : ℕ) (xs : List ℕ) → InOrder levels start end xs → IsLineOrder levels start end xs
+pub line_order_from : (levels : List (Option ℕ)) (start end : ℕ) (xs : List ℕ) → InOrder levels start end xs →
+    IsLineOrder levels start end xs
 line_order_from levels start end xs t =
     record {
       remaining = λ p. (
-        λ c. let s = t.holds.sound p (has_from_contains xs p c) in (s.0, s.1, some_from_level (slice_index_or levels p None) s.2.0 s.2.1),
-        λ s. let v = level_from_some (slice_index_or levels p None) s.2 in contains_from_has xs p (t.holds.complete p v.0 s.0 s.1 v.1),
+        λ c. let s = t.holds.sound p (has_from_contains xs p c) in
+            (s.0, s.1, some_from_level (slice_index_or levels p None) s.2.0 s.2.1),
+        λ s. let v = level_from_some (slice_index_or levels p None) s.2 in
+            contains_from_has xs p (t.holds.complete p v.0 s.0 s.1 v.1),
       );
-      pairs = pairs_from_ordered (StandAs levels) xs (ordered_weaker (Before levels 1) (StandAs levels) xs (λ x y hx hy b. stand_as levels x y b) t.ordered);
+      pairs = pairs_from_ordered (StandAs levels) xs (ordered_weaker (Before levels 1) (StandAs levels) xs
+          (λ x y hx hy b. stand_as levels x y b) t.ordered);
     }
 
-pub in_order_from : (levels : List (Option ℕ)) (start end : ℕ) (xs : List ℕ) → IsLineOrder levels start end xs → InOrder levels start end xs
+pub in_order_from : (levels : List (Option ℕ)) (start end : ℕ) (xs : List ℕ) → IsLineOrder levels start end xs →
+    InOrder levels start end xs
 in_order_from levels start end xs t =
     record {
       holds = record {
         sound = λ p h.
             let s = (t.remaining p).0 (contains_from_has xs p h) in
             (s.0, s.1, level_from_some (slice_index_or levels p None) s.2);
-        complete = λ p v a b hv. has_from_contains xs p ((t.remaining p).1 (a, b, some_from_level (slice_index_or levels p None) v hv));
+        complete = λ p v a b hv.
+            has_from_contains xs p ((t.remaining p).1 (a, b, some_from_level (slice_index_or levels p None) v hv));
       };
-      ordered = ordered_weaker (StandAs levels) (Before levels 1) xs (λ x y hx hy s. before_from_stand levels x y s) (ordered_from_pairs (StandAs levels) xs t.pairs);
+      ordered = ordered_weaker (StandAs levels) (Before levels 1) xs (λ x y hx hy s. before_from_stand levels x y s)
+          (ordered_from_pairs (StandAs levels) xs t.pairs);
     }
 
 -- the defined order is such a list
-pub line_order-is : (levels : List (Option ℕ)) (start end : ℕ) → start ≤ end → IsLineOrder levels start end (line_order levels start end)
+pub line_order-is : (levels : List (Option ℕ)) (start end : ℕ) → start ≤ end →
+    IsLineOrder levels start end (line_order levels start end)
 line_order-is levels start end le =
     line_order_from levels start end (line_order levels start end) (line_order-in_order levels start end le)
 
 -- it is the only one
-pub line_order-only : (levels : List (Option ℕ)) (start end : ℕ) (xs : List ℕ) → start ≤ end → IsLineOrder levels start end xs → xs ≡ line_order levels start end
+pub line_order-only : (levels : List (Option ℕ)) (start end : ℕ) (xs : List ℕ) → start ≤ end →
+    IsLineOrder levels start end xs → xs ≡ line_order levels start end
 line_order-only levels start end xs le t =
     in_order_same levels start end xs (line_order levels start end)
     (in_order_from levels start end xs t)
     (line_order-in_order levels start end le)
 
 -- its positions are in the text
-pub line_order-places : (levels : List (Option ℕ)) (start end : ℕ) → start ≤ end → end ≤ length levels → All (λ p. p < length levels) (line_order levels start end)
+pub line_order-places : (levels : List (Option ℕ)) (start end : ℕ) → start ≤ end → end ≤ length levels →
+    All (λ p. p < length levels) (line_order levels start end)
 line_order-places levels start end le fits =
     let o = line_order-in_order levels start end le in
     All-from_get_or (λ p. p < length levels) (line_order levels start end) 0
-    (λ i h. let s = o.holds.sound (get_or (line_order levels start end) i 0) (has_at (line_order levels start end) i 0 h) in omega (arith, s.1))
+    (λ i h. let s = o.holds.sound (get_or (line_order levels start end) i 0)
+    (has_at (line_order levels start end) i 0 h) in omega (arith, s.1))

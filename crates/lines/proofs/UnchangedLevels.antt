@@ -14,7 +14,8 @@ reset_same : (b : Bool) (para : ℕ) (o : Option ℕ) → ((v : ℕ) → o ≡ S
 reset_same b para None h = refl
 reset_same b para (Some v) h = ap (λ n. Some n) (either_same b para v (h v refl))
 
-pub levels_unchanged : (own : List Class) (breaks paras : List ℕ) (levels : List (Option ℕ)) → AreAtParas own paras levels → after_resets own breaks paras levels ≡ levels
+pub levels_unchanged : (own : List Class) (breaks paras : List ℕ) (levels : List (Option ℕ)) →
+    AreAtParas own paras levels → after_resets own breaks paras levels ≡ levels
 levels_unchanged own breaks paras levels h =
     ext_get_or None (after_resets own breaks paras levels) levels (length-after_resets own breaks paras levels)
     (λ k lt.

@@ -11,7 +11,8 @@ use Rattle.units.specs.declared.level.ParaLevel.TheVariants.{Zero, One}
 use Rattle.lines.specs.LinePositions.{IsAtOneLevel, is_remaining, remaining}
 use Rattle.lines.proofs.Uniform.{uniform-falling, uniform-rising}
 
-filter-all : (test : ℕ → Bool) (start count : ℕ) → ((p : ℕ) → start ≤ p → p < start + count → test p ≡ true) → filter test (positions_from start count) ≡ positions_from start count
+filter-all : (test : ℕ → Bool) (start count : ℕ) → ((p : ℕ) → start ≤ p → p < start + count → test p ≡ true) →
+    filter test (positions_from start count) ≡ positions_from start count
 filter-all test start zero all = refl
 filter-all test start (suc count) all = grind (arith, filter-all test (start + 1) count)
 
@@ -19,7 +20,9 @@ filter-all test start (suc count) all = grind (arith, filter-all test (start + 1
 pub record AllRemain (levels : List (Option ℕ)) (start end : ℕ) : Type 0 where
   pub here : (p : ℕ) → start ≤ p → p < end → is_remaining levels p ≡ true
 
-pub all_in_line : (levels : List (Option ℕ)) (start end : ℕ) → end ≤ length levels → ((k : ℕ) → k < length (slice_range levels start end) → is_some (slice_index_or (slice_range levels start end) k None) ≡ true) → AllRemain levels start end
+pub all_in_line : (levels : List (Option ℕ)) (start end : ℕ) → end ≤ length levels →
+    ((k : ℕ) → k < length (slice_range levels start end) →
+    is_some (slice_index_or (slice_range levels start end) k None) ≡ true) → AllRemain levels start end
 all_in_line levels start end within all =
     record {
       here = λ p low high.
@@ -30,7 +33,8 @@ all_in_line levels start end within all =
           ∙ all (p - start) (omega (arith, long));
     }
 
-remaining-all : (levels : List (Option ℕ)) (start end : ℕ) → start ≤ end → AllRemain levels start end → remaining levels start end ≡ positions_from start (end - start)
+remaining-all : (levels : List (Option ℕ)) (start end : ℕ) → start ≤ end → AllRemain levels start end →
+    remaining levels start end ≡ positions_from start (end - start)
 remaining-all levels start end le all =
     filter-all (is_remaining levels) start (end - start) (λ p low high. all.here p low (omega arith))
 
@@ -39,6 +43,10 @@ zero_or_one Zero = inl refl
 zero_or_one One = inr refl
 
 -- all positions, rising at level 0 and falling at level 1
-pub whole-order : (levels : List (Option ℕ)) (start end : ℕ) (level : ParaLevel) (written : List ℕ) → start ≤ end → IsAtOneLevel levels start end (level_of_para level) → AllRemain levels start end → (level_of_para level ≡ 0 → written ≡ positions_from start (end - start)) → (level_of_para level ≡ 1 → written ≡ reverse (positions_from start (end - start))) → written ≡ line_order levels start end
+pub whole-order : (levels : List (Option ℕ)) (start end : ℕ) (level : ParaLevel) (written : List ℕ) → start ≤ end →
+    IsAtOneLevel levels start end (level_of_para level) → AllRemain levels start end →
+    (level_of_para level ≡ 0 → written ≡ positions_from start (end - start)) →
+    (level_of_para level ≡ 1 → written ≡ reverse (positions_from start (end - start))) →
+    written ≡ line_order levels start end
 whole-order levels start end level written le u all even odd =
     grind (arith, zero_or_one, remaining-all, uniform-rising, uniform-falling)

@@ -15,7 +15,12 @@ bound_at bounds k = slice_index_or bounds k first_bound
 
 -- L2: the line between two bounds, with its order
 abbrev pub line_between : List ℕ → Bound → Bound → LineLayout
-line_between orders from to = record { start = from.position; end = to.position; order = slice_range orders from.order to.order }
+line_between orders from to = record {
+  start = from.position;
+  end = to.position;
+  order =
+      slice_range orders from.order to.order;
+}
 
 -- the line with the number k
 abbrev pub line_in : List ℕ → List Bound → ℕ → LineLayout

@@ -25,7 +25,8 @@ para_ends_filled paragraphs columns = take paragraphs (boxed_slice_items columns
 -- P1 to I2: the column with the resolved levels before L1; L1 changes no level of a uniform text, so that it is then
 -- the column of levels
 abbrev pub resolved_column : Bool → TextColumns → List (Option ℕ)
-resolved_column uniform columns = if uniform then boxed_slice_items columns.levels else boxed_slice_items columns.resolved
+resolved_column uniform columns =
+    if uniform then boxed_slice_items columns.levels else boxed_slice_items columns.resolved
 
 -- the resolved levels of the first `units` positions
 abbrev pub resolved_filled : ℕ → Bool → TextColumns → List (Option ℕ)

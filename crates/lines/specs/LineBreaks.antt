@@ -35,4 +35,5 @@ abbrev pub IsFirstBreakFault : List ℕ → ℕ → BreakFault → Type 0
 IsFirstBreakFault at len (OutOfRange index) =
     (index < length at) × AreBreaksBelow at len index × ((slice_index at index ≡ 0) ⊎ (len ≤ slice_index at index))
 IsFirstBreakFault at len (NotRising index) =
-    (index < length at) × AreBreaksBelow at len index × IsInside at len index × (0 < index) × (slice_index at index ≤ slice_index at (index - 1))
+    (index < length at) × AreBreaksBelow at len index × IsInside at len index × (0 < index) ×
+    (slice_index at index ≤ slice_index at (index - 1))

@@ -34,7 +34,8 @@ pub record IsLineOfParagraph (text : List BidiUnit) (ends : List ℕ) (start end
   pub line : IsLineIn text (breaks_around start end) start end
 
 -- L1, L2: the levels and the order of the line from start up to end, in the layout of its text
-pub record IsLineLaidOut (layout : TextLayout) (start end : ℕ) (levels : List (Option ℕ)) (order : List ℕ) : Type 0 where
+pub record IsLineLaidOut (layout : TextLayout) (start end : ℕ) (levels : List (Option ℕ))
+    (order : List ℕ) : Type 0 where
   pub leveled : levels ≡ slice_range layout.levels start end
   pub ordered : order ≡ line_order layout.levels start end
 

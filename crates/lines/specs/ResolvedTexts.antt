@@ -13,7 +13,8 @@ use Rattle.lines.specs.declared.columns.TextColumns.{TextColumns}
 use Rattle.lines.specs.declared.resolving.ResolvedText.{ResolvedText}
 
 -- P1 to I2: the levels of its paragraphs, their ends, the resolved levels of its positions, and the ends of its lines
-pub record IsResolved (limits : LimitsOf) (text : List BidiUnit) (direction : Direction) (breaks : List ℕ) (resolved : ResolvedText) (columns : TextColumns) (bounds : List Bound) : Type 0 where
+pub record IsResolved (limits : LimitsOf) (text : List BidiUnit) (direction : Direction) (breaks : List ℕ)
+    (resolved : ResolvedText) (columns : TextColumns) (bounds : List Bound) : Type 0 where
   pub paras : map level_of_para (paras_filled resolved.paragraphs columns) ≡ para_levels_of text direction
   pub para_ends : AreAllParagraphEnds text (para_ends_filled resolved.paragraphs columns)
   pub few : resolved.paragraphs ≤ length text

@@ -50,7 +50,8 @@ abbrev pub resolved_in : Scratch → List (Option ℕ)
 resolved_in scratch = resolved_filled scratch.used.units scratch.used.uniform scratch.text
 
 -- P1 to I2: it contains the results for this text under the direction with the limits, for any breaks
-pub record HoldsText (limits : LimitsOf) (text : List BidiUnit) (direction : Direction) (scratch : Scratch) : Type 0 where
+pub record HoldsText (limits : LimitsOf) (text : List BidiUnit) (direction : Direction) (scratch : Scratch) :
+    Type 0 where
   pub units : text_len_of scratch ≡ length text
   pub ends : AreAllParagraphEnds text (para_ends_in scratch)
   pub paras : map level_of_para (paras_in scratch) ≡ para_levels_of text direction
@@ -59,7 +60,8 @@ pub record HoldsText (limits : LimitsOf) (text : List BidiUnit) (direction : Dir
 
 -- after a text is laid out: the scratch has the same capacity, and contains the layout; if the text is longer than the
 -- capacity, the scratch is unchanged
-pub record LeavesLayout {T E : Type 0} (limits : LimitsOf) (text : List BidiUnit) (direction : Direction) (breaks : List ℕ) (old new : Scratch) (done : Result T E) : Type 0 where
+pub record LeavesLayout {T E : Type 0} (limits : LimitsOf) (text : List BidiUnit) (direction : Direction)
+    (breaks : List ℕ) (old new : Scratch) (done : Result T E) : Type 0 where
   pub room : room_of new ≡ room_of old
   pub too_long : IsErr done ↔ (room_of old < length text)
   pub unchanged : OnErr done (new ≡ old)
@@ -74,18 +76,21 @@ HoldsSomeLayoutOf text scratch = (limits : LimitsOf) × (direction : Direction) 
 -- it contains this text, and each paragraph of the text keeps its level
 abbrev pub HoldsUniformText : List BidiUnit → Scratch → Type 0
 HoldsUniformText text scratch =
-    (limits : LimitsOf) × (direction : Direction) × HoldsText limits text direction scratch × (each_keeps_level text direction ≡ true)
+    (limits : LimitsOf) × (direction : Direction) × HoldsText limits text direction scratch ×
+    (each_keeps_level text direction ≡ true)
 
 -- for each direction and all limits: if the old one contained this text, so does the new one
 abbrev pub StillHoldsText : List BidiUnit → Scratch → Scratch → Type 0
 StillHoldsText text old new =
-    (limits : LimitsOf) (direction : Direction) → HoldsText limits text direction old → HoldsText limits text direction new
+    (limits : LimitsOf) (direction : Direction) → HoldsText limits text direction old →
+    HoldsText limits text direction new
 
 -- L1, L2: for each direction and all limits: if the old scratch contained this text, the layout is that with these
 -- breaks
 abbrev pub HasSetLines : List BidiUnit → List ℕ → Scratch → TextLayout → Type 0
 HasSetLines text breaks old layout =
-    (limits : LimitsOf) (direction : Direction) → HoldsText limits text direction old → layout ≡ layout_of limits text direction breaks
+    (limits : LimitsOf) (direction : Direction) → HoldsText limits text direction old →
+    layout ≡ layout_of limits text direction breaks
 
 -- after a text is rebroken: the scratch has the same capacity, a layout with these breaks, and the same text
 pub record LeavesLines (text : List BidiUnit) (breaks : List ℕ) (old new : Scratch) : Type 0 where
@@ -112,7 +117,8 @@ pub record HoldsTheSame (old new : Scratch) : Type 0 where
 
 -- a line of the text that the scratch contains is written to the fronts of two lists, and the rest of the lists is
 -- unchanged; the order has `shown` positions
-pub record WritesLine (text : List BidiUnit) (start end : ℕ) (scratch : Scratch) (levels levels2 : List (Option ℕ)) (order order2 : List ℕ) (shown : ℕ) : Type 0 where
+pub record WritesLine (text : List BidiUnit) (start end : ℕ) (scratch : Scratch) (levels levels2 : List (Option ℕ))
+    (order order2 : List ℕ) (shown : ℕ) : Type 0 where
   pub taken : IsLineIn text (breaks_around start end) start end
   pub line : IsLineAlone text start end scratch (take (end - start) levels2) (take shown order2)
   pub few : shown ≤ end - start
@@ -121,7 +127,8 @@ pub record WritesLine (text : List BidiUnit) (start end : ℕ) (scratch : Scratc
 
 -- after a line is laid out alone: it is written, or there is an error and nothing is written; the scratch contains the
 -- same as before
-pub record LeavesLine (text : List BidiUnit) (start end : ℕ) (old new : Scratch) (levels levels2 : List (Option ℕ)) (order order2 : List ℕ) (shown : Result ℕ SpanFault) : Type 0 where
+pub record LeavesLine (text : List BidiUnit) (start end : ℕ) (old new : Scratch) (levels levels2 : List (Option ℕ))
+    (order order2 : List ℕ) (shown : Result ℕ SpanFault) : Type 0 where
   pub line : MatchResult shown (WritesLine text start end old levels levels2 order order2) (RejectsSpan text start end)
   pub levels_stay : OnErr shown (levels2 ≡ levels)
   pub order_stays : OnErr shown (order2 ≡ order)

@@ -98,12 +98,7 @@ fn pass_blocks<L: Ledger>(own: &[Unit], start: usize, end: usize, steps: &mut St
 /// Returns the position after the last separator of lines from `start` up to `end`, or `start` if there is none. A pass
 /// of L1 from the end continues there if before `end` it resets nothing but a separator and what comes before it. Takes
 /// one step for each position that it passes.
-fn after_separator<L: Ledger>(
-    own: &[Unit],
-    start: usize,
-    end: usize,
-    steps: &mut Steps<L>,
-) -> usize
+fn after_separator<L: Ledger>(own: &[Unit], start: usize, end: usize, steps: &mut Steps<L>) -> usize
     requires order { start ≤ end }
     requires within { end ≤ length own.now }
     ensures back { PassesBack (classes_of own.now) start end result }

@@ -31,7 +31,8 @@ use Rattle.paragraph.specs.Covering.{AreDisjoint, HasLevelsBy}
 use Rattle.resolve.specs.Wanted.{AreOwn}
 
 -- the sequences of a paragraph share no position
-module _ (depth : ℕ) (deep : depth ≤ 125) (us : List BidiUnit) (para : ℕ) (low : para ≤ 1) (only : SeparatorOnlyLast us) where
+module _ (depth : ℕ) (deep : depth ≤ 125) (us : List BidiUnit) (para : ℕ) (low : para ≤ 1)
+    (only : SeparatorOnlyLast us) where
   abbrev leveled_here : LeveledView
   leveled_here = leveled_of depth (classes_of us) para
 
@@ -46,57 +47,92 @@ module _ (depth : ℕ) (deep : depth ≤ 125) (us : List BidiUnit) (para : ℕ) 
       All-filter (begins_sequence leveled_here) (λ p. p < size_of leveled_here) (positions_of leveled_here.levels)
       (All-from_get_or (λ p. p < size_of leveled_here) (positions_of leveled_here.levels) 0
       (λ i h.
-      let n : length (positions_of leveled_here.levels) ≡ size_of leveled_here = length-positions_from 0 (size_of leveled_here) in
+      let n : length (positions_of leveled_here.levels) ≡ size_of leveled_here =
+      length-positions_from 0 (size_of leveled_here) in
       omega (arith, get_or-positions_from 0 (size_of leveled_here) i 0 (omega arith))))
 
   inside : (p : ℕ) → p < size_of leveled_here → All (λ q. q < length us) (sequence_from leveled_here p)
   inside p h =
       let are : ArePositions (sequence_from leveled_here p) (size_of leveled_here) =
       rising_positions (size_of leveled_here) (sequence_from leveled_here p)
-      (followed_rises (successor leveled_here) (size_of leveled_here) (successor_later leveled_here (leveled depth (classes_of us) para deep low)) p h) in
-      All-from_get_or (λ q. q < length us) (sequence_from leveled_here p) 0 (λ i g. omega (arith, are.within i g, size_here))
+      (followed_rises (successor leveled_here) (size_of leveled_here)
+      (successor_later leveled_here (leveled depth (classes_of us) para deep low)) p h) in
+      All-from_get_or (λ q. q < length us) (sequence_from leveled_here p) 0 (λ i g. omega (
+        arith,
+        are.within i g,
+        size_here,
+      ))
 
   pub sequences_are_apart : AreDisjoint (length us) (sequences_of leveled_here)
   sequences_are_apart =
       let l = leveled depth (classes_of us) para deep low in
-      let once : HoldsOnce leveled_here (sequences_of leveled_here) = sequences_hold_once leveled_here l (nested depth us para only) in
+      let once : HoldsOnce leveled_here (sequences_of leveled_here) =
+      sequences_hold_once leveled_here l (nested depth us para only) in
       let count : length (sequences_of leveled_here) ≡ length firsts = length-map firsts (sequence_at leveled_here) in
-      let n : length (positions_of leveled_here.levels) ≡ size_of leveled_here = length-positions_from 0 (size_of leveled_here) in
+      let n : length (positions_of leveled_here.levels) ≡ size_of leveled_here =
+      length-positions_from 0 (size_of leveled_here) in
       record {
         extents = All-map (λ (s : SequenceView). s.extent ≡ length us) (sequence_at leveled_here) firsts
-            (All-weaker (λ p. p < size_of leveled_here) (λ p. size_of leveled_here ≡ length us) (λ p h. size_here) firsts firsts_below);
+            (All-weaker (λ p. p < size_of leveled_here) (λ p. size_of leveled_here ≡ length us) (λ p h.
+            size_here) firsts firsts_below);
         within = All-map (λ (s : SequenceView). All (λ q. q < length us) s.positions) (sequence_at leveled_here) firsts
-            (All-weaker (λ p. p < size_of leveled_here) (λ p. All (λ q. q < length us) (sequence_from leveled_here p)) inside firsts firsts_below);
-        once = λ p h. omega (arith, once p (omega (arith, size_here)), at_most_one (Rattle.units.specs.Runs.remains leveled_here p));
-        few = omega (arith, count, length-filter (begins_sequence leveled_here) (positions_of leveled_here.levels), count_by-le-length (begins_sequence leveled_here) (positions_of leveled_here.levels), n, size_here);
-        fit = omega (arith, length-flat (sequences_of leveled_here), sequences_fit leveled_here l (nested depth us para only), size_here);
+            (All-weaker (λ p. p < size_of leveled_here) (λ p.
+            All (λ q. q < length us) (sequence_from leveled_here p)) inside firsts firsts_below);
+        once = λ p h. omega (
+          arith,
+          once p (omega (arith, size_here)),
+          at_most_one (Rattle.units.specs.Runs.remains leveled_here p),
+        );
+        few = omega (
+          arith,
+          count,
+          length-filter (begins_sequence leveled_here) (positions_of leveled_here.levels),
+          count_by-le-length (begins_sequence leveled_here) (positions_of leveled_here.levels),
+          n,
+          size_here,
+        );
+        fit = omega (
+          arith,
+          length-flat (sequences_of leveled_here),
+          sequences_fit leveled_here l (nested depth us para only),
+          size_here,
+        );
       }
 
 -- the current classes are the own ones, except for overrides and removed positions
-pub classes_are_unchanged : (depth : ℕ) (us : List BidiUnit) (para : ℕ) (ps : List ℕ) → AreOwn ps us (current_of (explicit_of depth (classes_of us) para))
+pub classes_are_unchanged : (depth : ℕ) (us : List BidiUnit) (para : ℕ) (ps : List ℕ) →
+    AreOwn ps us (current_of (explicit_of depth (classes_of us) para))
 classes_are_unchanged depth us para ps = λ p within. current-own depth (classes_of us) para p
 
-pub levels_are_resolved : (limits : LimitsOf) (us : List BidiUnit) (para : ℕ) (levels : List (Option ℕ)) → length levels ≡ length us →
-    HasLevelsBy limits.brackets us (current_of (explicit_of limits.depth (classes_of us) para)) (sequences_of (leveled_of limits.depth (classes_of us) para)) levels → levels ≡ resolved_levels limits us para
+pub levels_are_resolved : (limits : LimitsOf) (us : List BidiUnit) (para : ℕ) (levels : List (Option ℕ)) →
+    length levels ≡ length us →
+    HasLevelsBy limits.brackets us (current_of (explicit_of limits.depth (classes_of us) para))
+    (sequences_of (leveled_of limits.depth (classes_of us) para)) levels → levels ≡ resolved_levels limits us para
 unfolding resolved_levels
 levels_are_resolved limits us para levels n has =
     let cs : List Class = classes_of us in
-    let found : ℕ → Option ℕ = value_beside (flat_map (levels_in limits.brackets us (current_of (explicit_of limits.depth cs para))) (sequences_of (leveled_of limits.depth cs para))) in
+    let found : ℕ → Option ℕ =
+    value_beside (flat_map (levels_in limits.brackets us (current_of (explicit_of limits.depth cs para)))
+    (sequences_of (leveled_of limits.depth cs para))) in
     let m : length (positions_of us) ≡ length us = length-positions_from 0 (length us) in
     let k : length (map found (positions_of us)) ≡ length (positions_of us) = length-map (positions_of us) found in
     ext_get_or None levels (map found (positions_of us)) (omega arith)
     (λ i h.
-    let at : slice_index (positions_of us) i ≡ i = omega (arith, get_or-positions_from 0 (length us) i 0 (omega arith)) in
+    let at : slice_index (positions_of us) i ≡ i =
+    omega (arith, get_or-positions_from 0 (length us) i 0 (omega arith)) in
     has i (omega arith) ∙ ap found (sym at) ∙ sym (get_or-map found (positions_of us) i 0 None (omega arith)))
 
 -- a paragraph whose explicit levels are known
-module _ (limits : LimitsOf) (us : List BidiUnit) (para : ℕ) (explicit : List (Option (ℕ × Class))) (holds : HoldsLevels explicit limits.depth (classes_of us) para) where
+module _ (limits : LimitsOf) (us : List BidiUnit) (para : ℕ) (explicit : List (Option (ℕ × Class)))
+    (holds : HoldsLevels explicit limits.depth (classes_of us) para) where
   front : current_of (take (length us) explicit) ≡ current_of (explicit_of limits.depth (classes_of us) para)
   front = grind (arith, length-map, computed_front)
 
   pub computed_own : (ps : List ℕ) → AreOwn ps us (current_of (take (length us) explicit))
   computed_own ps = subst (AreOwn ps us) (sym front) (classes_are_unchanged limits.depth us para ps)
 
-  pub computed_levels : (all : List SequenceView) (levels : List (Option ℕ)) → all ≡ sequences_of (leveled_of limits.depth (classes_of us) para) → length levels ≡ length us →
-      HasLevelsBy limits.brackets us (current_of (take (length us) explicit)) all levels → levels ≡ resolved_levels limits us para
+  pub computed_levels : (all : List SequenceView) (levels : List (Option ℕ)) →
+      all ≡ sequences_of (leveled_of limits.depth (classes_of us) para) → length levels ≡ length us →
+      HasLevelsBy limits.brackets us (current_of (take (length us) explicit)) all levels →
+      levels ≡ resolved_levels limits us para
   computed_levels all levels e n has = grind (arith, levels_are_resolved, front)

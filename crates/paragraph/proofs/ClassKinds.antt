@@ -23,7 +23,8 @@ or_6 false true c d e f = refl
 or_6 false false true d e f = refl
 or_6 false false false d e f = or_3 d e f
 
-or_7 : (a b c d e f g : Bool) → ((((((a || b) || c) || d) || e) || f) || g) ≡ (a || (b || (c || (d || (e || (f || (g || false)))))))
+or_7 : (a b c d e f g : Bool) →
+    ((((((a || b) || c) || d) || e) || f) || g) ≡ (a || (b || (c || (d || (e || (f || (g || false)))))))
 or_7 true b c d e f g = refl
 or_7 false b c d e f g = or_6 b c d e f g
 
@@ -49,28 +50,62 @@ rising_at_odd_is L = refl
 rising_at_odd_is _ = refl
 
 module _ (cs : List Class) where
-  pub any_initiator : (a b c d e f g : Bool) → a ≡ list_any (is_class LRE) cs → b ≡ list_any (is_class RLE) cs → c ≡ list_any (is_class LRO) cs → d ≡ list_any (is_class RLO) cs →
-      e ≡ list_any (is_class LRI) cs → f ≡ list_any (is_class RLI) cs → g ≡ list_any (is_class FSI) cs → ((((((a || b) || c) || d) || e) || f) || g) ≡ list_any is_initiator cs
+  pub any_initiator : (a b c d e f g : Bool) → a ≡ list_any (is_class LRE) cs → b ≡ list_any (is_class RLE) cs →
+      c ≡ list_any (is_class LRO) cs → d ≡ list_any (is_class RLO) cs →
+      e ≡ list_any (is_class LRI) cs → f ≡ list_any (is_class RLI) cs → g ≡ list_any (is_class FSI) cs →
+      ((((((a || b) || c) || d) || e) || f) || g) ≡ list_any is_initiator cs
   any_initiator a b c d e f g ha hb hc hd he hf hg =
-      or_7 a b c d e f g ∙ rw (ha, hb, hc, hd, he, hf, hg) (tested_by is_initiator (LRE ∷ RLE ∷ LRO ∷ RLO ∷ LRI ∷ RLI ∷ FSI ∷ []) initiator_is cs)
+      or_7 a b c d e f g ∙
+      rw (
+        ha,
+        hb,
+        hc,
+        hd,
+        he,
+        hf,
+        hg,
+      ) (tested_by is_initiator (LRE ∷ RLE ∷ LRO ∷ RLO ∷ LRI ∷ RLI ∷ FSI ∷ []) initiator_is cs)
 
-  pub any_removed : (a b c d e f : Bool) → a ≡ list_any (is_class LRE) cs → b ≡ list_any (is_class RLE) cs → c ≡ list_any (is_class LRO) cs → d ≡ list_any (is_class RLO) cs →
-      e ≡ list_any (is_class PDF) cs → f ≡ list_any (is_class BN) cs → (((((a || b) || c) || d) || e) || f) ≡ list_any is_removed cs
+  pub any_removed : (a b c d e f : Bool) → a ≡ list_any (is_class LRE) cs → b ≡ list_any (is_class RLE) cs →
+      c ≡ list_any (is_class LRO) cs → d ≡ list_any (is_class RLO) cs →
+      e ≡ list_any (is_class PDF) cs → f ≡ list_any (is_class BN) cs →
+      (((((a || b) || c) || d) || e) || f) ≡ list_any is_removed cs
   any_removed a b c d e f ha hb hc hd he hf =
-      or_6 a b c d e f ∙ rw (ha, hb, hc, hd, he, hf) (tested_by is_removed (LRE ∷ RLE ∷ LRO ∷ RLO ∷ PDF ∷ BN ∷ []) removed_is cs)
+      or_6 a b c d e f ∙ rw (
+        ha,
+        hb,
+        hc,
+        hd,
+        he,
+        hf,
+      ) (tested_by is_removed (LRE ∷ RLE ∷ LRO ∷ RLO ∷ PDF ∷ BN ∷ []) removed_is cs)
 
-  pub any_weak : (a b c d e f : Bool) → a ≡ list_any (is_class AL) cs → b ≡ list_any (is_class EN) cs → c ≡ list_any (is_class ES) cs → d ≡ list_any (is_class ET) cs →
-      e ≡ list_any (is_class CS) cs → f ≡ list_any (is_class NSM) cs → (((((a || b) || c) || d) || e) || f) ≡ list_any may_weaken cs
+  pub any_weak : (a b c d e f : Bool) → a ≡ list_any (is_class AL) cs → b ≡ list_any (is_class EN) cs →
+      c ≡ list_any (is_class ES) cs → d ≡ list_any (is_class ET) cs →
+      e ≡ list_any (is_class CS) cs → f ≡ list_any (is_class NSM) cs →
+      (((((a || b) || c) || d) || e) || f) ≡ list_any may_weaken cs
   any_weak a b c d e f ha hb hc hd he hf =
-      or_6 a b c d e f ∙ rw (ha, hb, hc, hd, he, hf) (tested_by may_weaken (AL ∷ EN ∷ ES ∷ ET ∷ CS ∷ NSM ∷ []) weak_is cs)
+      or_6 a b c d e f ∙ rw (
+        ha,
+        hb,
+        hc,
+        hd,
+        he,
+        hf,
+      ) (tested_by may_weaken (AL ∷ EN ∷ ES ∷ ET ∷ CS ∷ NSM ∷ []) weak_is cs)
 
-  pub any_rising_at_even : (a b c : Bool) → a ≡ list_any (is_class R) cs → b ≡ list_any (is_class AL) cs → c ≡ list_any (is_class AN) cs → ((a || b) || c) ≡ list_any may_rise_at_even cs
-  any_rising_at_even a b c ha hb hc = or_3 a b c ∙ rw (ha, hb, hc) (tested_by may_rise_at_even (R ∷ AL ∷ AN ∷ []) rising_at_even_is cs)
+  pub any_rising_at_even : (a b c : Bool) → a ≡ list_any (is_class R) cs → b ≡ list_any (is_class AL) cs →
+      c ≡ list_any (is_class AN) cs → ((a || b) || c) ≡ list_any may_rise_at_even cs
+  any_rising_at_even a b c ha hb hc =
+      or_3 a b c ∙ rw (ha, hb, hc) (tested_by may_rise_at_even (R ∷ AL ∷ AN ∷ []) rising_at_even_is cs)
 
-  pub any_rising_at_odd : (a b c : Bool) → a ≡ list_any (is_class L) cs → b ≡ list_any (is_class EN) cs → c ≡ list_any (is_class AN) cs → ((a || b) || c) ≡ list_any may_rise_at_odd cs
-  any_rising_at_odd a b c ha hb hc = or_3 a b c ∙ rw (ha, hb, hc) (tested_by may_rise_at_odd (L ∷ EN ∷ AN ∷ []) rising_at_odd_is cs)
+  pub any_rising_at_odd : (a b c : Bool) → a ≡ list_any (is_class L) cs → b ≡ list_any (is_class EN) cs →
+      c ≡ list_any (is_class AN) cs → ((a || b) || c) ≡ list_any may_rise_at_odd cs
+  any_rising_at_odd a b c ha hb hc =
+      or_3 a b c ∙ rw (ha, hb, hc) (tested_by may_rise_at_odd (L ∷ EN ∷ AN ∷ []) rising_at_odd_is cs)
 
 -- not any class passes the test exactly if each class fails it
-pub none_where_not_any : (test : Class → Bool) (cs : List Class) → not (list_any test cs) ≡ list_all (λ c. not (test c)) cs
+pub none_where_not_any : (test : Class → Bool) (cs : List Class) →
+    not (list_any test cs) ≡ list_all (λ c. not (test c)) cs
 none_where_not_any test [] = refl
 none_where_not_any test (c ∷ cs) = grind (arith, none_where_not_any test cs)

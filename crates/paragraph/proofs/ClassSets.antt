@@ -28,6 +28,8 @@ any_of-cons : (ds cs : List Class) (c : Class) → any_of ds (c ∷ cs) ≡ (any
 any_of-cons [] cs c = refl
 any_of-cons (d ∷ ds) cs c = grind (arith, or_swap, or_false, any_of-cons ds cs c)
 
-pub tested_by : (test : Class → Bool) (ds : List Class) → ((c : Class) → test c ≡ any_of ds (c ∷ [])) → (cs : List Class) → any_of ds cs ≡ list_any test cs
+pub tested_by : (test : Class → Bool) (ds : List Class) → ((c : Class) → test c ≡ any_of ds (c ∷ [])) →
+    (cs : List Class) → any_of ds cs ≡ list_any test cs
 tested_by test ds e [] = any_of-nil ds
-tested_by test ds e (c ∷ cs) = any_of-cons ds cs c ∙ ap (λ b. b || any_of ds cs) (sym (e c)) ∙ ap (λ b. test c || b) (tested_by test ds e cs)
+tested_by test ds e (c ∷ cs) = any_of-cons ds cs c ∙ ap (λ b. b || any_of ds cs) (sym (e c)) ∙
+    ap (λ b. test c || b) (tested_by test ds e cs)

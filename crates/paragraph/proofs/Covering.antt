@@ -28,34 +28,53 @@ times_some (x ∷ ps) p (suc k, within, e) = omega (arith, times-cons x ps p, ti
 
 module _ (most_open : ℕ) (us : List BidiUnit) (before : List Class) where
   -- sequences that do not contain a position give it no level
-  pub unfound : (all : List SequenceView) (p : ℕ) → times (positions_in all) p ≡ 0 → value_beside (flat_map (levels_in most_open us before) all) p ≡ None
+  pub unfound : (all : List SequenceView) (p : ℕ) → times (positions_in all) p ≡ 0 →
+      value_beside (flat_map (levels_in most_open us before) all) p ≡ None
   unfound =
-      none_beside (levels_in most_open us before) (λ s p none. zip_none s.positions (levels_of_sequence most_open s us (classes_at before s.positions)) p none)
+      none_beside (levels_in most_open us before) (λ s p none.
+      zip_none s.positions (levels_of_sequence most_open s us (classes_at before s.positions)) p none)
 
 -- the result of these sequences: their positions have their levels, all others still have their classes before W1
-pub record IsCovered (most_open : ℕ) (us : List BidiUnit) (before : List Class) (done : List SequenceView) (classes : List Class) (levels : List (Option ℕ)) : Type 0 where
+pub record IsCovered (most_open : ℕ) (us : List BidiUnit) (before : List Class) (done : List SequenceView)
+    (classes : List Class) (levels : List (Option ℕ)) : Type 0 where
   pub found : HasLevelsBy most_open us before done levels
   pub unchanged : (p : ℕ) → times (positions_in done) p ≡ 0 → class_at classes p ≡ class_at before p
 
-pub covered_none : (most_open : ℕ) (us : List BidiUnit) (before : List Class) (levels : List (Option ℕ)) → ((p : ℕ) → resolved_at levels p ≡ None) → IsCovered most_open us before [] before levels
+pub covered_none : (most_open : ℕ) (us : List BidiUnit) (before : List Class) (levels : List (Option ℕ)) →
+    ((p : ℕ) → resolved_at levels p ≡ None) → IsCovered most_open us before [] before levels
 covered_none most_open us before levels fresh = record { found = λ p h. fresh p; unchanged = λ p h. refl }
 
-times_in-append : (xs ys : List SequenceView) (p : ℕ) → times (positions_in (xs ++ ys)) p ≡ times (positions_in xs) p + times (positions_in ys) p
+times_in-append : (xs ys : List SequenceView) (p : ℕ) →
+    times (positions_in (xs ++ ys)) p ≡ times (positions_in xs) p + times (positions_in ys) p
 times_in-append [] ys p = omega arith
 times_in-append (x ∷ xs) ys p =
-    omega (arith, times-append x.positions (positions_in (xs ++ ys)) p, times-append x.positions (positions_in xs) p, times_in-append xs ys p)
+    omega (
+      arith,
+      times-append x.positions (positions_in (xs ++ ys)) p,
+      times-append x.positions (positions_in xs) p,
+      times_in-append xs ys p,
+    )
 
-times_in-push : (xs : List SequenceView) (s : SequenceView) (p : ℕ) → times (positions_in (xs ++ (s ∷ []))) p ≡ times (positions_in xs) p + times s.positions p
+times_in-push : (xs : List SequenceView) (s : SequenceView) (p : ℕ) →
+    times (positions_in (xs ++ (s ∷ []))) p ≡ times (positions_in xs) p + times s.positions p
 times_in-push xs s p = omega (arith, times_in-append xs (s ∷ []) p, times-append s.positions [] p)
 
-length_in-push : (xs : List SequenceView) (s : SequenceView) → length (positions_in (xs ++ (s ∷ []))) ≡ length (positions_in xs) + length s.positions
+length_in-push : (xs : List SequenceView) (s : SequenceView) →
+    length (positions_in (xs ++ (s ∷ []))) ≡ length (positions_in xs) + length s.positions
 length_in-push [] s = omega (arith, length-append s.positions [])
 length_in-push (x ∷ xs) s =
-    omega (arith, length-append x.positions (positions_in (xs ++ (s ∷ []))), length-append x.positions (positions_in xs), length_in-push xs s)
+    omega (
+      arith,
+      length-append x.positions (positions_in (xs ++ (s ∷ []))),
+      length-append x.positions (positions_in xs),
+      length_in-push xs s,
+    )
 
-times_in-take : (xs : List SequenceView) (k : ℕ) (p : ℕ) → times (positions_in (take k xs)) p ≤ times (positions_in xs) p
+times_in-take : (xs : List SequenceView) (k : ℕ) (p : ℕ) →
+    times (positions_in (take k xs)) p ≤ times (positions_in xs) p
 times_in-take xs k p =
-    let whole : times (positions_in (take k xs ++ drop k xs)) p ≡ times (positions_in xs) p = ap (λ (ys : List SequenceView). times (positions_in ys) p) (take-append-drop k xs) in
+    let whole : times (positions_in (take k xs ++ drop k xs)) p ≡ times (positions_in xs) p =
+    ap (λ (ys : List SequenceView). times (positions_in ys) p) (take-append-drop k xs) in
     omega (arith, whole, times_in-append (take k xs) (drop k xs) p)
 
 -- two functions that agree on the elements of a list give the same list
@@ -66,17 +85,22 @@ map_where {B} f g (p ∷ ps) same =
     let rest : map f ps ≡ map g ps = map_where f g ps (λ q c. same q (suc c.0, omega (arith, c.1), c.2)) in
     ap (λ (x : B). x ∷ map f ps) here ∙ ap (λ (xs : List B). g p ∷ xs) rest
 
-contained : (all : List SequenceView) (k : ℕ) (d : SequenceView) → k < length all → (p : ℕ) → Contains (get_or all k d).positions p → Contains (positions_in all) p
+contained : (all : List SequenceView) (k : ℕ) (d : SequenceView) → k < length all → (p : ℕ) →
+    Contains (get_or all k d).positions p → Contains (positions_in all) p
 contained [] k d h p c = absurd (omega arith)
 contained (s ∷ all) zero d h p c = Contains-append_left s.positions (positions_in all) p c
-contained (s ∷ all) (suc k) d h p c = Contains-append_right s.positions (positions_in all) p (contained all k d (omega arith) p c)
+contained (s ∷ all) (suc k) d h p c =
+    Contains-append_right s.positions (positions_in all) p (contained all k d (omega arith) p c)
 
 -- no position of the sequence is in an earlier one
-module _ {extent : ℕ} {all : List SequenceView} (apart : AreDisjoint extent all) {k : ℕ} {s : SequenceView} (at : slice_get all k ≡ Some s) (inside : k < length all) where
+module _ {extent : ℕ} {all : List SequenceView} (apart : AreDisjoint extent all) {k : ℕ} {s : SequenceView}
+    (at : slice_get all k ≡ Some s) (inside : k < length all) where
   pub take_next : take (k + 1) all ≡ take k all ++ (s ∷ [])
-  take_next = take_more all k s inside ∙ ap (λ (x : SequenceView). take k all ++ (x ∷ [])) (get_or_from_slice_get all k s s at)
+  take_next = take_more all k s inside ∙
+      ap (λ (x : SequenceView). take k all ++ (x ∷ [])) (get_or_from_slice_get all k s s at)
 
-  times_next : (p : ℕ) → times (positions_in (take (k + 1) all)) p ≡ times (positions_in (take k all)) p + times s.positions p
+  times_next : (p : ℕ) →
+      times (positions_in (take (k + 1) all)) p ≡ times (positions_in (take k all)) p + times s.positions p
   times_next p = ap (λ (xs : List SequenceView). times (positions_in xs) p) take_next ∙ times_in-push (take k all) s p
 
   -- the positions that come before its own
@@ -94,14 +118,16 @@ module _ {extent : ℕ} {all : List SequenceView} (apart : AreDisjoint extent al
       let P : SequenceView → Type 0 = λ x. Contains x.positions p in
       contained all k s inside p (subst P (sym (get_or_from_slice_get all k s s at)) c)
 
-  pub copied : (classes before : List Class) → ((p : ℕ) → times (positions_in (take k all)) p ≡ 0 → class_at classes p ≡ class_at before p) →
+  pub copied : (classes before : List Class) → ((p : ℕ) → times (positions_in (take k all)) p ≡ 0 →
+      class_at classes p ≡ class_at before p) →
       classes_at classes s.positions ≡ classes_at before s.positions
   copied classes before same =
       let one : (p : ℕ) → Contains s.positions p → class_at classes p ≡ class_at before p =
       λ p c. same p (apart_from_earlier p (within_extent p c) (times_some s.positions p c)) in
       map_where (class_at classes) (class_at before) s.positions one
 
-  pub covered_next : (most_open : ℕ) (us : List BidiUnit) (before classes now_classes : List Class) (levels now_levels : List (Option ℕ)) → length us ≡ extent →
+  pub covered_next : (most_open : ℕ) (us : List BidiUnit) (before classes now_classes : List Class)
+      (levels now_levels : List (Option ℕ)) → length us ≡ extent →
       IsCovered most_open us before (take k all) classes levels →
       Resolves most_open s us before classes now_classes levels now_levels →
       IsCovered most_open us before (take (k + 1) all) now_classes now_levels
@@ -109,16 +135,22 @@ module _ {extent : ℕ} {all : List SequenceView} (apart : AreDisjoint extent al
       let own : List (ℕ × ℕ) = levels_in most_open us before s in
       let earlier : List (ℕ × ℕ) = flat_map (levels_in most_open us before) (take k all) in
       let joined : flat_map (levels_in most_open us before) (take (k + 1) all) ≡ earlier ++ own =
-      ap (flat_map (levels_in most_open us before)) take_next ∙ flat_map-append (levels_in most_open us before) (take k all) (s ∷ []) ∙ ap (λ (xs : List (ℕ × ℕ)). earlier ++ xs) (append-nil own) in
+      ap (flat_map (levels_in most_open us before)) take_next ∙
+      flat_map-append (levels_in most_open us before) (take k all) (s ∷ []) ∙
+      ap (λ (xs : List (ℕ × ℕ)). earlier ++ xs) (append-nil own) in
       let values : List ℕ = levels_of_sequence most_open s us (classes_at before s.positions) in
-      let long : length values ≡ length s.positions = length-levels_of_sequence most_open s us (classes_at before s.positions) ∙ length-map s.positions (class_at before) in
+      let long : length values ≡ length s.positions =
+      length-levels_of_sequence most_open s us (classes_at before s.positions) ∙
+      length-map s.positions (class_at before) in
       record {
         found = λ p h.
             elim (cases_lt 0 (times s.positions p)) [
               | inl some ↦
                   (let w = zip_some s.positions values p long some 0 in
-                  let none : value_beside earlier p ≡ None = unfound most_open us before (take k all) p (apart_from_earlier p (omega (arith, h, n)) some) in
-                  ap (resolved_at now_levels) (sym w.2) ∙ resolved.levels w.0 w.1 ∙ sym w.3 ∙ sym (found-append earlier own p none))
+                  let none : value_beside earlier p ≡ None =
+                  unfound most_open us before (take k all) p (apart_from_earlier p (omega (arith, h, n)) some) in
+                  ap (resolved_at now_levels) (sym w.2) ∙ resolved.levels w.0 w.1 ∙ sym w.3 ∙
+                  sym (found-append earlier own p none))
               | inr others ↦
                   (let none : times s.positions p ≡ 0 = omega arith in
                   resolved.other_levels p (λ c. let t = times_some s.positions p c in absurd (omega arith))
@@ -126,5 +158,6 @@ module _ {extent : ℕ} {all : List SequenceView} (apart : AreDisjoint extent al
                   ∙ sym (found-append_none earlier own p (zip_none s.positions values p none)))
             ]
             ∙ sym (ap (λ (xs : List (ℕ × ℕ)). value_beside xs p) joined);
-        unchanged = λ p e. resolved.other_classes p (λ c. let t = times_some s.positions p c in absurd (omega (arith, times_next p))) ∙ covered.unchanged p (omega (arith, times_next p));
+        unchanged = λ p e. resolved.other_classes p (λ c. let t = times_some s.positions p c in
+            absurd (omega (arith, times_next p))) ∙ covered.unchanged p (omega (arith, times_next p));
       }

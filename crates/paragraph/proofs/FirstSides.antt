@@ -14,7 +14,8 @@ by_strong : (o : Option Class) (otherwise : ℕ) → level_by_side (side_by o) o
 by_strong None otherwise = refl
 by_strong (Some c) otherwise = level_of_side (is_right_to_left c) otherwise
 
-pub level_under-flat : (cs : List Class) (direction : Direction) → level_under direction (side_by (find is_strong cs)) ≡ flat_para_level cs direction
+pub level_under-flat : (cs : List Class) (direction : Direction) →
+    level_under direction (side_by (find is_strong cs)) ≡ flat_para_level cs direction
 level_under-flat cs Auto = by_strong (find is_strong cs) 0
 level_under-flat cs Ltr = refl
 level_under-flat cs Rtl = refl

@@ -35,12 +35,17 @@ pub none_from : (test : Class → Bool) (cs : List Class) → has_none test cs �
 none_from test cs h = λ k d lt. not-true (test (get_or cs k d)) (AllPass-from_list_all (λ c. not (test c)) cs h k d lt)
 
 -- if the classes keep the paragraph's level, the resolved levels are this level at each position that remains
-pub levels_are_unchanged : (limits : LimitsOf) (us : List BidiUnit) (para : ℕ) → keeps_level para (classes_of us) ≡ true → map (λ (u : BidiUnit). level_unless_removed_at para u.class) us ≡ resolved_levels limits us para
+pub levels_are_unchanged : (limits : LimitsOf) (us : List BidiUnit) (para : ℕ) →
+    keeps_level para (classes_of us) ≡ true → map (λ (u : BidiUnit). level_unless_removed_at para u.class) us ≡
+    resolved_levels limits us para
 levels_are_unchanged limits us para keeps = grind (arith, and_parts, resolved_levels-uniform, flat_from, none_from)
 
 -- the levels that the sequences of a flat paragraph give, from its own classes, are its resolved levels
-pub flat_levels : (limits : LimitsOf) (us : List BidiUnit) (para : ℕ) (all : List SequenceView) (levels : List (Option ℕ)) → IsFlat (classes_of us) → all ≡ sequences_of (leveled_of limits.depth (classes_of us) para) →
-    length levels ≡ length us → HasLevelsBy limits.brackets us (classes_of us) all levels → levels ≡ resolved_levels limits us para
+pub flat_levels : (limits : LimitsOf) (us : List BidiUnit) (para : ℕ) (all : List SequenceView)
+    (levels : List (Option ℕ)) → IsFlat (classes_of us) →
+    all ≡ sequences_of (leveled_of limits.depth (classes_of us) para) →
+    length levels ≡ length us → HasLevelsBy limits.brackets us (classes_of us) all levels →
+    levels ≡ resolved_levels limits us para
 flat_levels limits us para all levels flat are n has =
     let cs : List Class = classes_of us in
     let found : ℕ → Option ℕ = value_beside (flat_map (levels_in limits.brackets us cs) (flat_sequences para cs)) in
@@ -49,7 +54,8 @@ flat_levels limits us para all levels flat are n has =
     let one : all ≡ flat_sequences para cs = are ∙ sequences_of-flat limits.depth cs para flat in
     ext_get_or None levels (map found (positions_of us)) (omega arith)
     (λ i h.
-    let at : slice_index (positions_of us) i ≡ i = get_or-positions_from 0 (length us) i 0 (omega arith) ∙ omega arith in
+    let at : slice_index (positions_of us) i ≡ i = get_or-positions_from 0 (length us) i 0 (omega arith) ∙
+    omega arith in
     has i (omega arith)
     ∙ ap (λ (ss : List SequenceView). value_beside (flat_map (levels_in limits.brackets us cs) ss) i) one
     ∙ ap found (sym at)
@@ -57,21 +63,30 @@ flat_levels limits us para all levels flat are n has =
     ∙ sym (resolved_levels-flat limits us para flat)
 
 -- the levels that the sequences give from the classes before W1, in a flat paragraph and in any other
-pub own_before : (limits : LimitsOf) (us : List BidiUnit) (para : ℕ) (explicit : List (Option (ℕ × Class))) (flat : Bool) → (flat ≡ false → HoldsLevels explicit limits.depth (classes_of us) para) →
+pub own_before : (limits : LimitsOf) (us : List BidiUnit) (para : ℕ) (explicit : List (Option (ℕ × Class)))
+    (flat : Bool) → (flat ≡ false → HoldsLevels explicit limits.depth (classes_of us) para) →
     (ps : List ℕ) → AreOwn ps us (classes_before flat us explicit)
 own_before limits us para explicit true holds ps = λ p represents free. refl
 own_before limits us para explicit false holds ps = computed_own limits us para explicit (holds refl) ps
 
-pub levels_before : (limits : LimitsOf) (us : List BidiUnit) (para : ℕ) (explicit : List (Option (ℕ × Class))) (flat : Bool) → (flat ≡ true → IsFlat (classes_of us)) →
-    (flat ≡ false → HoldsLevels explicit limits.depth (classes_of us) para) → (all : List SequenceView) (levels : List (Option ℕ)) → all ≡ sequences_of (leveled_of limits.depth (classes_of us) para) →
-    length levels ≡ length us → HasLevelsBy limits.brackets us (classes_before flat us explicit) all levels → levels ≡ resolved_levels limits us para
-levels_before limits us para explicit true is holds all levels are n has = flat_levels limits us para all levels (is refl) are n has
-levels_before limits us para explicit false is holds all levels are n has = computed_levels limits us para explicit (holds refl) all levels are n has
+pub levels_before : (limits : LimitsOf) (us : List BidiUnit) (para : ℕ) (explicit : List (Option (ℕ × Class)))
+    (flat : Bool) → (flat ≡ true → IsFlat (classes_of us)) →
+    (flat ≡ false → HoldsLevels explicit limits.depth (classes_of us) para) →
+    (all : List SequenceView) (levels : List (Option ℕ)) →
+    all ≡ sequences_of (leveled_of limits.depth (classes_of us) para) →
+    length levels ≡ length us → HasLevelsBy limits.brackets us (classes_before flat us explicit) all levels →
+    levels ≡ resolved_levels limits us para
+levels_before limits us para explicit true is holds all levels are n has =
+    flat_levels limits us para all levels (is refl) are n has
+levels_before limits us para explicit false is holds all levels are n has =
+    computed_levels limits us para explicit (holds refl) all levels are n has
 
 -- if no class of a paragraph is removed, the class of a position isn't
-pub unit_remains : (us : List BidiUnit) (p : ℕ) → p < length us → HasNone is_removed (classes_of us) → is_removed (get_or us p no_unit).class ≡ false
+pub unit_remains : (us : List BidiUnit) (p : ℕ) → p < length us → HasNone is_removed (classes_of us) →
+    is_removed (get_or us p no_unit).class ≡ false
 unit_remains us p lt none =
-    let e : get_or (classes_of us) p L ≡ (get_or us p no_unit).class = get_or-map (λ (u : BidiUnit). u.class) us p no_unit L lt in
+    let e : get_or (classes_of us) p L ≡ (get_or us p no_unit).class =
+    get_or-map (λ (u : BidiUnit). u.class) us p no_unit L lt in
     ap is_removed (sym e) ∙ none p L (omega (arith, length-map us (λ (u : BidiUnit). u.class)))
 
 -- no more positions remain than there are
@@ -79,7 +94,8 @@ pub remaining_few : (us : List BidiUnit) → length (remaining_of (classes_of us
 remaining_few us = grind (arith, length-map, length-positions_from, length-filter, count_by-le-length)
 
 -- if the classes keep the level, each position that has a level has this one
-pub unchanged_stays : (us : List BidiUnit) (level : ℕ) (levels : List (Option ℕ)) → levels ≡ map (λ (u : BidiUnit). level_unless_removed_at level u.class) us → StaysAt level levels
+pub unchanged_stays : (us : List BidiUnit) (level : ℕ) (levels : List (Option ℕ)) →
+    levels ≡ map (λ (u : BidiUnit). level_unless_removed_at level u.class) us → StaysAt level levels
 unchanged_stays us level levels e p v found =
     let keep : BidiUnit → Option ℕ = λ u. level_unless_removed_at level u.class in
     let here : get_or (map keep us) p None ≡ Some v = ap (λ (xs : List (Option ℕ)). get_or xs p None) (sym e) ∙ found in
@@ -87,7 +103,8 @@ unchanged_stays us level levels e p v found =
       | inl inside ↦
           let unchanged : keep (get_or us p no_unit) ≡ Some v = sym (get_or-map keep us p no_unit None inside) ∙ here in
           one_level (is_removed (get_or us p no_unit).class) unchanged
-      | inr past ↦ absurd (none-some v (sym (get_or_past (map keep us) p None (omega (arith, length-map us keep))) ∙ here))
+      | inr past ↦ absurd (none-some v (sym (get_or_past (map keep us) p None (omega (arith, length-map us keep))) ∙
+          here))
     ]
   where
     one_level : (removed : Bool) → cond removed None (Some level) ≡ Some v → v ≡ level

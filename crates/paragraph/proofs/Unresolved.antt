@@ -27,25 +27,31 @@ use Rattle.paragraph.proofs.ComputedBeside.{found-append, found-append_some, zip
 
 -- a position of one of the sequences gets a level
 module _ (most_open : ℕ) (us : List BidiUnit) (before : List Class) where
-  position_has_level : (all : List SequenceView) (p : ℕ) → 0 < times (positions_in all) p → is_none (value_beside (flat_map (levels_in most_open us before) all) p) ≡ false
+  position_has_level : (all : List SequenceView) (p : ℕ) → 0 < times (positions_in all) p →
+      is_none (value_beside (flat_map (levels_in most_open us before) all) p) ≡ false
   position_has_level [] p some = absurd (omega (arith, some))
   position_has_level (s ∷ all) p some =
       let values : List ℕ = levels_of_sequence most_open s us (classes_at before s.positions) in
-      let long : length values ≡ length s.positions = length-levels_of_sequence most_open s us (classes_at before s.positions) ∙ length-map s.positions (class_at before) in
+      let long : length values ≡ length s.positions =
+      length-levels_of_sequence most_open s us (classes_at before s.positions) ∙
+      length-map s.positions (class_at before) in
       let t = times-append s.positions (positions_in all) p in
       let later : List (ℕ × ℕ) = flat_map (levels_in most_open us before) all in
       elim (cases_lt 0 (times s.positions p)) [
         | inl here ↦
-            (let w = zip_some s.positions values p long here 0 in ap is_none (found-append_some (levels_in most_open us before s) later p (slice_index values w.0) w.3))
+            (let w = zip_some s.positions values p long here 0 in
+            ap is_none (found-append_some (levels_in most_open us before s) later p (slice_index values w.0) w.3))
         | inr none ↦
-            ap is_none (found-append (levels_in most_open us before s) later p (zip_none s.positions values p (omega arith))) ∙ position_has_level all p (omega arith)
+            ap is_none (found-append (levels_in most_open us before s) later p
+            (zip_none s.positions values p (omega arith))) ∙ position_has_level all p (omega arith)
       ]
 
 some-map : (leveled : Option (ℕ × Class)) → is_some (option_map (λ x. x.0) leveled) ≡ not (is_none leveled)
 some-map None = refl
 some-map (Some x) = refl
 
-module _ (limits : LimitsOf) (allowed : AreAllowed limits) (us : List BidiUnit) (para_level : ℕ) (low : para_level ≤ 1) (only : SeparatorOnlyLast us) (p : ℕ) (within : p < length us) where
+module _ (limits : LimitsOf) (allowed : AreAllowed limits) (us : List BidiUnit) (para_level : ℕ) (low : para_level ≤ 1)
+    (only : SeparatorOnlyLast us) (p : ℕ) (within : p < length us) where
   abbrev here : LeveledView
   here = leveled_of limits.depth (classes_of us) para_level
 
@@ -60,7 +66,8 @@ module _ (limits : LimitsOf) (allowed : AreAllowed limits) (us : List BidiUnit) 
 
   stored : times (positions_in (sequences_of here)) p ≡ (if remains here p then 1 else 0)
   stored =
-      sequences_hold_once here (leveled limits.depth (classes_of us) para_level allowed.depth_within low) (nested limits.depth us para_level only) p
+      sequences_hold_once here (leveled limits.depth (classes_of us) para_level allowed.depth_within low)
+      (nested limits.depth us para_level only) p
       (omega (arith, size-is limits.depth (classes_of us) para_level, inside))
 
   abbrev current : List Class
@@ -72,10 +79,15 @@ module _ (limits : LimitsOf) (allowed : AreAllowed limits) (us : List BidiUnit) 
   no_level_if : (removed : Bool) → is_removed (class_at (classes_of us) p) ≡ removed → is_none (value_at p) ≡ removed
   no_level_if true e =
       let gone : remains here p ≡ false = remains_is ∙ ap not e in
-      ap is_none (unfound limits.brackets us current (sequences_of here) p (stored ∙ cond-false {A = ℕ} (remains here p) 1 0 gone))
+      ap is_none (unfound limits.brackets us current (sequences_of here) p (stored ∙
+      cond-false {A = ℕ} (remains here p) 1 0 gone))
   no_level_if false e =
       let stays : remains here p ≡ true = remains_is ∙ ap not e in
-      position_has_level limits.brackets us current (sequences_of here) p (omega (arith, stored, cond-true {A = ℕ} (remains here p) 1 0 stays))
+      position_has_level limits.brackets us current (sequences_of here) p (omega (
+        arith,
+        stored,
+        cond-true {A = ℕ} (remains here p) 1 0 stays,
+      ))
 
   resolved_is : slice_index_or (resolved_levels limits us para_level) p None ≡ value_at p
   unfolding resolved_levels
@@ -85,5 +97,6 @@ module _ (limits : LimitsOf) (allowed : AreAllowed limits) (us : List BidiUnit) 
       get_or-map value_at (positions_of us) p 0 None (omega arith) ∙ ap value_at at
 
   -- X9: none exactly if the position is removed
-  pub resolved_none : is_none (slice_index_or (resolved_levels limits us para_level) p None) ≡ is_removed (class_at (classes_of us) p)
+  pub resolved_none : is_none (slice_index_or (resolved_levels limits us para_level) p None) ≡
+      is_removed (class_at (classes_of us) p)
   resolved_none = ap is_none resolved_is ∙ no_level_if (is_removed (class_at (classes_of us) p)) refl

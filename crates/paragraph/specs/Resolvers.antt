@@ -31,7 +31,8 @@ abbrev pub StaysAt : ℕ → List (Option ℕ) → Type 0
 StaysAt level levels = (p v : ℕ) → slice_index_or levels p None ≡ Some v → v ≡ level
 
 -- P2 to I2: these are the known properties of the paragraph, and its levels
-pub record IsResolved (limits : LimitsOf) (us : List BidiUnit) (direction : Direction) (para : Resolved) (column : List (Option ℕ)) : Type 0 where
+pub record IsResolved (limits : LimitsOf) (us : List BidiUnit) (direction : Direction) (para : Resolved)
+    (column : List (Option ℕ)) : Type 0 where
   pub level : level_of_para para.level ≡ para_level_of (classes_of us) direction
   pub levels : column ≡ resolved_levels limits us (para_level_of (classes_of us) direction)
   pub known : para.uniform ≡ keeps_level (level_of_para para.level) (classes_of us)

@@ -15,7 +15,7 @@ use crate::contents::Contents;
 use crate::rooms::{RoomToFind, RoomToResolve};
 use explicit::leveled_class::LeveledClass;
 use resolve::pairs::Pairs;
-use resolve::sequence::{Wanted, Unresolved, resolve_sequence};
+use resolve::sequence::{Unresolved, Wanted, resolve_sequence};
 use sequences::sequences::Sequences;
 use std::sync::ledger::Ledger;
 use units::bracket::{Bracket, Unit};

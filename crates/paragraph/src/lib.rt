@@ -3,9 +3,9 @@
 
 mod class_set;
 pub mod contents;
-mod found;
 mod fast_paths;
-pub mod theorems;
+mod found;
 pub mod one_unit;
 pub mod resolver;
 mod rooms;
+pub mod theorems;

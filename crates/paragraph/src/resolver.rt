@@ -7,8 +7,8 @@ ghost use Rattle.paragraph.specs.Resolvers.{IsResolved};
 ghost use Rattle.paragraph.specs.StepBounds.{driver_steps, paragraph_steps};
 
 use crate::contents::{Contents, FirstParagraph};
-use crate::found::resolve_sequences;
 use crate::fast_paths::{find_level, find_sequences, write_level};
+use crate::found::resolve_sequences;
 use crate::rooms::{RoomToFind, RoomToResolve};
 use std::alloc::Global;
 use std::marker::Model;

@@ -26,7 +26,13 @@ pub struct RoomToFind {
 impl Model for RoomToFind {
     ghost Value = { Results };
 
-    ghost view = { λ r. record { room = length r.explicit; isolates = r.isolates; explicit = r.explicit; sequences = r.sequences.all } };
+    ghost view = { λ r. record {
+      room = length r.explicit;
+      isolates = r.isolates;
+      explicit = r.explicit;
+      sequences =
+          r.sequences.all;
+    } };
 
     ghost invariant = { λ r. (room r.isolates ≡ length r.explicit) × (r.sequences.room ≡ length r.explicit) };
 }
@@ -63,9 +69,15 @@ pub struct RoomToResolve {
 impl Model for RoomToResolve {
     ghost Value = { Work };
 
-    ghost view = { λ r. record { room = length r.pairs; before = boxed_slice_items r.before; classes = boxed_slice_items r.classes } };
+    ghost view = { λ r. record {
+      room = length r.pairs;
+      before = boxed_slice_items r.before;
+      classes =
+          boxed_slice_items r.classes;
+    } };
 
-    ghost invariant = { λ r. (boxed_slice_len r.before ≡ length r.pairs) × (boxed_slice_len r.classes ≡ length r.pairs) };
+    ghost invariant = { λ r. (boxed_slice_len r.before ≡ length r.pairs) ×
+        (boxed_slice_len r.classes ≡ length r.pairs) };
 }
 
 impl RoomToResolve {

@@ -1,5 +1,5 @@
 //! The bytes that a failing writer takes of a printed text, compared with those of the first implementation.
-use crate::failing_writer::{FailingWriter, CAPACITY, Manner};
+use crate::failing_writer::{CAPACITY, FailingWriter, Manner};
 use printing::fault::PrintFault;
 use std::io::ErrorKind;
 use std::process::Abort;

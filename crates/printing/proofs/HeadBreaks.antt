@@ -72,7 +72,8 @@ module _ (own rest : List Class) (bs cs : List ℕ) where
       list_any-append (λ b. b == n + j) bs (following n cs)
       ∙ ap (λ t. t || is_break (following n cs) (n + j)) (none_past n j bs all) ∙ break_moved n j cs
 
-  pub begins_in_first : (p : ℕ) → p < length own → begins_line (own ++ rest) (bs ++ following (length own) cs) p ≡ begins_line own bs p
+  pub begins_in_first : (p : ℕ) → p < length own → begins_line (own ++ rest) (bs ++ following (length own) cs) p ≡
+      begins_line own bs p
   begins_in_first p low =
       ap (λ c. (p == 0) || is_separator c || is_break at p) (class_in_first (p - 1) (omega arith))
       ∙ ap (λ t. (p == 0) || is_separator (class_at own (p - 1)) || t) (break_in_first p low)
@@ -90,9 +91,11 @@ module _ (own rest : List Class) (bs cs : List ℕ) where
       let some = h.some in
       let e : n + suc i - 1 ≡ n + i = omega arith in
       let f : suc i - 1 ≡ i = omega arith in
-      ap (λ t. t || is_separator (class_at whole (n + suc i - 1)) || is_break at (n + suc i)) (ne_eqb (n + suc i) 0 (omega arith))
+      ap (λ t. t || is_separator (class_at whole (n + suc i - 1)) || is_break at (n + suc i))
+      (ne_eqb (n + suc i) 0 (omega arith))
       ∙ ap (λ q. is_separator (class_at whole q) || is_break at (n + suc i)) e
       ∙ ap (λ c. is_separator c || is_break at (n + suc i)) (class_in_second i)
       ∙ ap (λ t. is_separator (class_at rest i) || t) (break_in_second (suc i) all)
       ∙ sym (ap (λ q. is_separator (class_at rest q) || is_break cs (suc i)) f)
-      ∙ sym (ap (λ t. t || is_separator (class_at rest (suc i - 1)) || is_break cs (suc i)) (ne_eqb (suc i) 0 (omega arith)))
+      ∙ sym (ap (λ t. t || is_separator (class_at rest (suc i - 1)) || is_break cs (suc i))
+      (ne_eqb (suc i) 0 (omega arith)))

@@ -13,13 +13,16 @@ use Rattle.printing.specs.Columns.{column_breaks_of, is_column_break, paragraph_
 use Rattle.printing.proofs.HeadBreaks.{following}
 use Rattle.printing.proofs.HeadLines.{positions_split}
 
-filter_same : (f g : ℕ → Bool) (s count n : ℕ) → s + count ≡ n → ((q : ℕ) → q < n → f q ≡ g q) → filter f (positions_from s count) ≡ filter g (positions_from s count)
+filter_same : (f g : ℕ → Bool) (s count n : ℕ) → s + count ≡ n → ((q : ℕ) → q < n → f q ≡ g q) →
+    filter f (positions_from s count) ≡ filter g (positions_from s count)
 filter_same f g s zero n e same = refl
 filter_same f g s (suc count) n e same =
-    ap (λ t. cond t (s ∷ filter f (positions_from (s + 1) count)) (filter f (positions_from (s + 1) count))) (same s (omega arith))
+    ap (λ t. cond t (s ∷ filter f (positions_from (s + 1) count)) (filter f (positions_from (s + 1) count)))
+    (same s (omega arith))
     ∙ ap (λ qs. cond (g s) (s ∷ qs) qs) (filter_same f g (s + 1) count n (omega arith) same)
 
-filter_moved : (f g : ℕ → Bool) (n s count : ℕ) → ((q : ℕ) → f (n + q) ≡ g q) → filter f (positions_from (n + s) count) ≡ following n (filter g (positions_from s count))
+filter_moved : (f g : ℕ → Bool) (n s count : ℕ) → ((q : ℕ) → f (n + q) ≡ g q) →
+    filter f (positions_from (n + s) count) ≡ following n (filter g (positions_from s count))
 filter_moved f g n s zero same = refl
 filter_moved f g n s (suc count) same =
     let e : n + s + 1 ≡ n + (s + 1) = omega arith in
@@ -54,12 +57,14 @@ module _ (us vs : List BidiUnit) where
   last_in_first zero low = refl
   last_in_first (suc p) low = rw (separates_in_first p (omega arith), last_in_first p (omega arith)) refl
 
-  start_right : EndsWithSeparator us → (p : ℕ) → paragraph_start (us ++ vs) (length us + p) ≡ length us + paragraph_start vs p
+  start_right : EndsWithSeparator us → (p : ℕ) →
+      paragraph_start (us ++ vs) (length us + p) ≡ length us + paragraph_start vs p
   start_right h zero =
       let last = ends_last us h in
       let some = last.0 in
       let e : length us + 0 ≡ suc (length us - 1) = omega arith in
-      let t : separates_at (us ++ vs) (length us - 1) ≡ true = separates_in_first (length us - 1) (omega arith) ∙ last.1 in
+      let t : separates_at (us ++ vs) (length us - 1) ≡ true = separates_in_first (length us - 1) (omega arith) ∙
+      last.1 in
       ap (paragraph_start (us ++ vs)) e
       ∙ ap (λ b. start_after (cond b (Some (length us - 1)) (last_below (separates_at (us ++ vs)) (length us - 1)))) t
       ∙ omega arith
@@ -75,17 +80,22 @@ module _ (us vs : List BidiUnit) where
     break_in_first : (p : ℕ) → p < length us → is_column_break (us ++ vs) columns p ≡ is_column_break us columns p
     break_in_first p low = rw (separates_in_first p low, last_in_first p (omega arith)) refl
 
-    break_in_second : EndsWithSeparator us → (p : ℕ) → is_column_break (us ++ vs) columns (length us + p) ≡ is_column_break vs columns p
+    break_in_second : EndsWithSeparator us → (p : ℕ) →
+        is_column_break (us ++ vs) columns (length us + p) ≡ is_column_break vs columns p
     break_in_second h p =
         let s : ℕ = paragraph_start vs p in
         let e : length us + p - (length us + s) ≡ p - s = omega arith in
-        ap (λ t. not t && (nat_lt (paragraph_start (us ++ vs) (length us + p)) (length us + p) && ((length us + p - paragraph_start (us ++ vs) (length us + p)) % columns == 0))) (separates_in_second p)
-        ∙ ap (λ q. not (separates_at vs p) && (nat_lt q (length us + p) && ((length us + p - q) % columns == 0))) (start_right h p)
-        ∙ ap (λ t. not (separates_at vs p) && (t && ((length us + p - (length us + s)) % columns == 0))) (lt_moved (length us) s p)
+        ap (λ t. not t && (nat_lt (paragraph_start (us ++ vs) (length us + p)) (length us + p) &&
+        ((length us + p - paragraph_start (us ++ vs) (length us + p)) % columns == 0))) (separates_in_second p)
+        ∙ ap (λ q. not (separates_at vs p) && (nat_lt q (length us + p) && ((length us + p - q) % columns == 0)))
+        (start_right h p)
+        ∙ ap (λ t. not (separates_at vs p) && (t && ((length us + p - (length us + s)) % columns == 0)))
+        (lt_moved (length us) s p)
         ∙ ap (λ q. not (separates_at vs p) && (nat_lt s p && (q % columns == 0))) e
 
     -- the breaks of the paragraph, and after them those of the rest
-    pub columns_joined : EndsWithSeparator us → column_breaks_of (us ++ vs) columns ≡ column_breaks_of us columns ++ following (length us) (column_breaks_of vs columns)
+    pub columns_joined : EndsWithSeparator us → column_breaks_of (us ++ vs) columns ≡ column_breaks_of us columns ++
+        following (length us) (column_breaks_of vs columns)
     columns_joined h =
         let test : ℕ → Bool = is_column_break (us ++ vs) columns in
         let z : length us + 0 ≡ length us = omega arith in
@@ -93,6 +103,9 @@ module _ (us vs : List BidiUnit) where
         ap (λ k. filter test (positions_from 0 k)) (length-append us vs)
         ∙ ap (filter test) (positions_split 0 (length us) (length vs))
         ∙ filter-append test (positions_from 0 (length us)) (positions_from (0 + length us) (length vs))
-        ∙ ap (λ qs. qs ++ filter test (positions_from (0 + length us) (length vs))) (filter_same test (is_column_break us columns) 0 (length us) (length us) y break_in_first)
-        ∙ ap (λ k. filter (is_column_break us columns) (positions_from 0 (length us)) ++ filter test (positions_from k (length vs))) (y ∙ sym z)
-        ∙ ap (λ qs. filter (is_column_break us columns) (positions_from 0 (length us)) ++ qs) (filter_moved test (is_column_break vs columns) (length us) 0 (length vs) (break_in_second h))
+        ∙ ap (λ qs. qs ++ filter test (positions_from (0 + length us) (length vs)))
+        (filter_same test (is_column_break us columns) 0 (length us) (length us) y break_in_first)
+        ∙ ap (λ k. filter (is_column_break us columns) (positions_from 0 (length us)) ++
+        filter test (positions_from k (length vs))) (y ∙ sym z)
+        ∙ ap (λ qs. filter (is_column_break us columns) (positions_from 0 (length us)) ++
+        qs) (filter_moved test (is_column_break vs columns) (length us) 0 (length vs) (break_in_second h))

@@ -25,7 +25,8 @@ abbrev pub joined_layouts : ℕ → TextLayout → TextLayout → TextLayout
 joined_layouts n a b =
     record { paras = a.paras ++ b.paras; levels = a.levels ++ b.levels; lines = a.lines ++ map (moved_line n) b.lines }
 
-pub plain_at : (us : List BidiUnit) → SeparatorOnlyLast us → (j : ℕ) → j + 1 < length (classes_of us) → is_separator (class_at (classes_of us) j) ≡ false
+pub plain_at : (us : List BidiUnit) → SeparatorOnlyLast us → (j : ℕ) → j + 1 < length (classes_of us) →
+    is_separator (class_at (classes_of us) j) ≡ false
 plain_at [] h j low = absurd (omega arith)
 plain_at (u ∷ []) h j low = absurd (omega arith)
 plain_at (u ∷ v ∷ us) h zero low = h.0
@@ -35,7 +36,8 @@ ends_some : (us : List BidiUnit) → EndsWithSeparator us → 0 < length us
 ends_some [] h = absurd h
 ends_some (u ∷ us) h = omega arith
 
-ends_at : (us : List BidiUnit) → EndsWithSeparator us → is_separator (class_at (classes_of us) (length (classes_of us) - 1)) ≡ true
+ends_at : (us : List BidiUnit) → EndsWithSeparator us →
+    is_separator (class_at (classes_of us) (length (classes_of us) - 1)) ≡ true
 ends_at [] h = absurd h
 ends_at (u ∷ []) h = h
 ends_at (u ∷ v ∷ us) h =
@@ -50,9 +52,15 @@ as_paragraph us only ends = record {
 }
 
 -- P1: such units are the first paragraph of a text that begins with them
-pub paragraphs_joined : (us vs : List BidiUnit) → 0 < length us → SeparatorOnlyLast us → (0 < length vs → EndsWithSeparator us) → paragraphs_of (us ++ vs) ≡ us ∷ paragraphs_of vs
+pub paragraphs_joined : (us vs : List BidiUnit) → 0 < length us → SeparatorOnlyLast us →
+    (0 < length vs → EndsWithSeparator us) → paragraphs_of (us ++ vs) ≡ us ∷ paragraphs_of vs
 paragraphs_joined us vs some only ends =
-    sym (one_cutting (us ++ vs) (us ∷ paragraphs_of vs) (some, only, (λ more. ends (follows vs more)), IsCut-paragraphs_of vs)
+    sym (one_cutting (us ++ vs) (us ∷ paragraphs_of vs) (
+      some,
+      only,
+      (λ more. ends (follows vs more)),
+      IsCut-paragraphs_of vs,
+    )
     (ap (λ ws. us ++ ws) (joined-paragraphs_of vs)))
   where
     follows : (ws : List BidiUnit) → 0 < length (paragraphs_of ws) → 0 < length ws
@@ -67,8 +75,10 @@ abbrev filter_by : (ℕ → Bool) → ℕ → List ℕ
 filter_by test count = filter test (positions_from 1 count)
 
 -- the layout of a text is that of its first paragraph, and after it that of the rest
-pub layout_joined : (limits : LimitsOf) (direction : Direction) (us vs : List BidiUnit) (bs cs : List ℕ) → SeparatorOnlyLast us → EndsWithSeparator us → AreBelow (length us) bs → 0 < length vs →
-    layout_of limits (us ++ vs) direction (bs ++ following (length us) cs) ≡ joined_layouts (length us) (layout_of limits us direction bs) (layout_of limits vs direction cs)
+pub layout_joined : (limits : LimitsOf) (direction : Direction) (us vs : List BidiUnit) (bs cs : List ℕ) →
+    SeparatorOnlyLast us → EndsWithSeparator us → AreBelow (length us) bs → 0 < length vs →
+    layout_of limits (us ++ vs) direction (bs ++ following (length us) cs) ≡
+    joined_layouts (length us) (layout_of limits us direction bs) (layout_of limits vs direction cs)
 unfolding layout_of
 layout_joined limits direction us vs bs cs only ends all more =
     let own : List Class = classes_of us in
@@ -88,11 +98,15 @@ layout_joined limits direction us vs bs cs only ends all more =
     let both : classes_of (us ++ vs) ≡ own ++ rest = map-append (λ (u : BidiUnit). u.class) us vs in
     let cut : paragraphs_of (us ++ vs) ≡ us ∷ paragraphs_of vs = paragraphs_joined us vs some only (λ _. ends) in
     let alone : paragraphs_of us ≡ us ∷ [] = paragraph_alone us some only in
-    let paras : para_levels_of (us ++ vs) direction ≡ level ∷ levels = ap (λ pieces. map (λ ws. para_level_of (classes_of ws) direction) pieces) cut in
-    let para : para_levels_of us direction ≡ level ∷ [] = ap (λ pieces. map (λ ws. para_level_of (classes_of ws) direction) pieces) alone in
-    let f : List BidiUnit → List (Option ℕ) = λ ws. resolved_levels limits ws (para_level_of (classes_of ws) direction) in
+    let paras : para_levels_of (us ++ vs) direction ≡ level ∷ levels =
+    ap (λ pieces. map (λ ws. para_level_of (classes_of ws) direction) pieces) cut in
+    let para : para_levels_of us direction ≡ level ∷ [] =
+    ap (λ pieces. map (λ ws. para_level_of (classes_of ws) direction) pieces) alone in
+    let f : List BidiUnit → List (Option ℕ) =
+    λ ws. resolved_levels limits ws (para_level_of (classes_of ws) direction) in
     let one : xs ≡ f us = ap (flat_map f) alone ∙ append-nil (f us) in
-    let resolved : text_levels limits (us ++ vs) direction ≡ xs ++ ys = ap (flat_map f) cut ∙ ap (λ ls. ls ++ ys) (sym one) in
+    let resolved : text_levels limits (us ++ vs) direction ≡ xs ++ ys = ap (flat_map f) cut ∙
+    ap (λ ls. ls ++ ys) (sym one) in
     let remaining : List (Option ℕ) = after_resets own bs (level ∷ []) xs in
     let right : List (Option ℕ) = after_resets rest cs levels ys in
     let c : length remaining ≡ length us = length-after_resets own bs (level ∷ []) xs ∙ a in
@@ -100,20 +114,34 @@ layout_joined limits direction us vs bs cs only ends all more =
     let reset : after_resets (own ++ rest) at (level ∷ levels) (xs ++ ys) ≡ remaining ++ right =
     ap (λ k. after_resets (own ++ rest) (bs ++ following k cs) (level ∷ levels) (xs ++ ys)) (sym n)
     ∙ resets_joined own rest bs cs h below (omega arith) level levels xs ys (omega arith) (omega arith) in
-    let test_is : begins_line (own ++ rest) at ≡ begins_line (own ++ rest) (bs ++ following (length own) cs) = ap (λ k. begins_line (own ++ rest) (bs ++ following k cs)) (sym n) in
+    let test_is : begins_line (own ++ rest) at ≡ begins_line (own ++ rest) (bs ++ following (length own) cs) =
+    ap (λ k. begins_line (own ++ rest) (bs ++ following k cs)) (sym n) in
     let same_in_first : (q : ℕ) → q < length remaining → begins_line (own ++ rest) at q ≡ begins_line own bs q =
     λ q low. ap (λ t. t q) test_is ∙ begins_in_first own rest bs cs q (omega arith) in
-    let same_in_second : (q : ℕ) → q < length right → begins_line (own ++ rest) at (length remaining + q) ≡ begins_line rest cs q =
-    λ q low. ap (λ t. t (length remaining + q)) test_is ∙ ap (λ k. begins_line (own ++ rest) (bs ++ following (length own) cs) (k + q)) (c ∙ sym n) ∙ begins_right own rest bs cs q h below in
+    let same_in_second : (q : ℕ) → q < length right →
+    begins_line (own ++ rest) at (length remaining + q) ≡ begins_line rest cs q =
+    λ q low. ap (λ t. t (length remaining + q)) test_is ∙
+    ap (λ k. begins_line (own ++ rest) (bs ++ following (length own) cs) (k + q)) (c ∙ sym n) ∙
+    begins_right own rest bs cs q h below in
     let z : length remaining ≡ length remaining + 0 = omega arith in
-    let begins : begins_line (own ++ rest) at (length remaining) ≡ true = ap (begins_line (own ++ rest) at) z ∙ same_in_second 0 (omega arith) in
-    let lines : lines_cut_at (remaining ++ right) (cuts_of (own ++ rest) at) ≡ lines_cut_at remaining (cuts_of own bs) ++ map (moved_line (length us)) (lines_cut_at right (cuts_of rest cs)) =
-    cuts_by remaining right own rest at (length us) (omega (arith, length-append own rest)) (c ∙ sym n) (d ∙ sym m) c bs cs
-    (lines_joined remaining right (begins_line (own ++ rest) at) (begins_line own bs) (begins_line rest cs) (omega arith) (omega arith) begins same_in_first same_in_second) in
+    let begins : begins_line (own ++ rest) at (length remaining) ≡ true = ap (begins_line (own ++ rest) at) z ∙
+    same_in_second 0 (omega arith) in
+    let lines : lines_cut_at (remaining ++ right) (cuts_of (own ++ rest) at) ≡
+    lines_cut_at remaining (cuts_of own bs) ++ map (moved_line (length us)) (lines_cut_at right (cuts_of rest cs)) =
+    cuts_by remaining right own rest at (length us) (omega (arith, length-append own rest)) (c ∙ sym n) (d ∙
+    sym m) c bs cs
+    (lines_joined remaining right (begins_line (own ++ rest) at) (begins_line own bs) (begins_line rest cs)
+    (omega arith) (omega arith) begins same_in_first same_in_second) in
     rw (both, paras, para, resolved, reset, lines) refl
   where
-    cuts_by : (remaining right : List (Option ℕ)) (own rest : List Class) (at : List ℕ) (k : ℕ) → length (own ++ rest) ≡ length own + length rest → length remaining ≡ length own → length right ≡ length rest → length remaining ≡ k →
-        (bs cs : List ℕ) → lines_cut_at (remaining ++ right) (filter_by (begins_line (own ++ rest) at) (length remaining + length right - 1))
-        ≡ lines_cut_at remaining (filter_by (begins_line own bs) (length remaining - 1)) ++ map (moved_line (length remaining)) (lines_cut_at right (filter_by (begins_line rest cs) (length right - 1))) →
-        lines_cut_at (remaining ++ right) (cuts_of (own ++ rest) at) ≡ lines_cut_at remaining (cuts_of own bs) ++ map (moved_line k) (lines_cut_at right (cuts_of rest cs))
+    cuts_by : (remaining right : List (Option ℕ)) (own rest : List Class) (at : List ℕ) (k : ℕ) →
+        length (own ++ rest) ≡ length own + length rest → length remaining ≡ length own → length right ≡ length rest →
+        length remaining ≡ k →
+        (bs cs : List ℕ) → lines_cut_at (remaining ++
+        right) (filter_by (begins_line (own ++ rest) at) (length remaining + length right - 1))
+        ≡ lines_cut_at remaining (filter_by (begins_line own bs) (length remaining - 1)) ++
+        map (moved_line (length remaining))
+        (lines_cut_at right (filter_by (begins_line rest cs) (length right - 1))) →
+        lines_cut_at (remaining ++ right) (cuts_of (own ++ rest) at) ≡ lines_cut_at remaining (cuts_of own bs) ++
+        map (moved_line k) (lines_cut_at right (cuts_of rest cs))
     cuts_by remaining right own rest at k long a b c bs cs e = rw (long, ← a, ← b, ← c) e

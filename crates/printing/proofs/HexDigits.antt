@@ -11,7 +11,8 @@ last_digit n = digit_glyph true (n % 16)
 last : (k n : ℕ) (rest : List ℕ) → n < 16 → digits_onto (suc k) 16 true n rest ≡ last_digit n ∷ rest
 last k n rest small = rw (eq-eqb (n / 16) 0 (omega arith)) refl
 
-more : (k n : ℕ) (rest : List ℕ) → 16 ≤ n → digits_onto (suc k) 16 true n rest ≡ digits_onto k 16 true (n / 16) (last_digit n ∷ rest)
+more : (k n : ℕ) (rest : List ℕ) → 16 ≤ n →
+    digits_onto (suc k) 16 true n rest ≡ digits_onto k 16 true (n / 16) (last_digit n ∷ rest)
 more k n rest large = rw (ne_eqb (n / 16) 0 (λ e. omega (arith, large, e))) refl
 
 one : (n : ℕ) → n < 16 → digits 16 true n ≡ last_digit n ∷ []
@@ -39,12 +40,14 @@ four_are n rest =
     ap (λ d. digits_of_four d (n / 16 / 16 / 16) n rest) a ∙ ap (λ d. digits_of_four (n / 256) d n rest) b
 
 three_more : (k n : ℕ) (rest : List ℕ) → 4096 ≤ n
-    → digits_onto (suc (suc (suc k))) 16 true n rest ≡ digits_onto k 16 true (n / 16 / 16 / 16) (last_digit (n / 16 / 16) ∷ last_digit (n / 16) ∷ last_digit n ∷ rest)
+    → digits_onto (suc (suc (suc k))) 16 true n rest ≡
+    digits_onto k 16 true (n / 16 / 16 / 16) (last_digit (n / 16 / 16) ∷ last_digit (n / 16) ∷ last_digit n ∷ rest)
 three_more k n rest large =
     more (suc (suc k)) n rest (omega arith) ∙ more (suc k) (n / 16) (last_digit n ∷ rest) (omega arith)
     ∙ more k (n / 16 / 16) (last_digit (n / 16) ∷ last_digit n ∷ rest) (omega arith)
 
-four_more : (k n : ℕ) → 65536 ≤ n → digits_onto (suc (suc (suc (suc k)))) 16 true n [] ≡ digits_onto k 16 true (n / 65536) (last_digits n)
+four_more : (k n : ℕ) → 65536 ≤ n →
+    digits_onto (suc (suc (suc (suc k)))) 16 true n [] ≡ digits_onto k 16 true (n / 65536) (last_digits n)
 four_more k n large =
     let c : n / 16 / 16 / 16 / 16 ≡ n / 65536 = omega arith in
     three_more (suc k) n [] (omega arith)
@@ -55,22 +58,26 @@ four_more k n large =
 four : (n : ℕ) → 4096 ≤ n → n < 65536 → digits 16 true n ≡ last_digits n
 unfolding digits
 four n large small =
-    three_more 61 n [] large ∙ last 60 (n / 16 / 16 / 16) (last_digit (n / 16 / 16) ∷ last_digit (n / 16) ∷ last_digit n ∷ []) (omega arith)
+    three_more 61 n [] large ∙
+    last 60 (n / 16 / 16 / 16) (last_digit (n / 16 / 16) ∷ last_digit (n / 16) ∷ last_digit n ∷ []) (omega arith)
     ∙ four_are n []
 
 five : (n : ℕ) → 65536 ≤ n → n < 1048576 → digits 16 true n ≡ last_digit (n / 65536) ∷ last_digits n
 unfolding digits
 five n large small = four_more 60 n large ∙ last 59 (n / 65536) (last_digits n) (omega arith)
 
-six : (n : ℕ) → 1048576 ≤ n → n < 16777216 → digits 16 true n ≡ last_digit (n / 65536 / 16) ∷ last_digit (n / 65536) ∷ last_digits n
+six : (n : ℕ) → 1048576 ≤ n → n < 16777216 →
+    digits 16 true n ≡ last_digit (n / 65536 / 16) ∷ last_digit (n / 65536) ∷ last_digits n
 unfolding digits
 six n large small =
-    four_more 60 n (omega arith) ∙ more 59 (n / 65536) (last_digits n) (omega arith) ∙ last 58 (n / 65536 / 16) _ (omega arith)
+    four_more 60 n (omega arith) ∙ more 59 (n / 65536) (last_digits n) (omega arith) ∙
+    last 58 (n / 65536 / 16) _ (omega arith)
 
 pub front_of_one : (front : ℕ) → 0 < front → front < 16 → front_digits front ≡ last_digit front ∷ []
 front_of_one front some small = rw (ne_eqb front 0 (λ e. omega (arith, some, e))) (one front small)
 
-pub front_of_two : (front : ℕ) → 16 ≤ front → front < 256 → front_digits front ≡ last_digit (front / 16) ∷ last_digit front ∷ []
+pub front_of_two : (front : ℕ) → 16 ≤ front → front < 256 →
+    front_digits front ≡ last_digit (front / 16) ∷ last_digit front ∷ []
 front_of_two front large small = rw (ne_eqb front 0 (λ e. omega (arith, large, e))) (two front large small)
 
 no_front : (n : ℕ) → n < 65536 → front_digits (n / 65536) ≡ []

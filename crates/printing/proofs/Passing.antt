@@ -6,7 +6,8 @@ use Rattle.std.proofs.lemmas.List.{append-nil, flat_map_more}
 use Rattle.printing.proofs.Appending.{Appends-to, Appends-joined, Appends-nothing}
 
 -- known bytes grew by what is printed of the elements of a list before the rest
-pub record HasPrintedUpTo {A : Type 0} (old new : Option (List ℕ)) (text : A → List ℕ) (whole rest : List A) : Type 0 where
+pub record HasPrintedUpTo {A : Type 0} (old new : Option (List ℕ)) (text : A →
+    List ℕ) (whole rest : List A) : Type 0 where
   pub passed : List A
   pub joined : passed ++ rest ≡ whole
   pub grown : Appends old new (flat_map text passed)
@@ -23,5 +24,6 @@ module _ {A : Type 0} (text : A → List ℕ) where
     grown = Appends-to a c _ _ (flat_map_more text [] h.passed x) (Appends-joined a b c _ _ h.grown g);
   }
 
-  pub all_passed : (a b : Option (List ℕ)) (whole rest : List A) → rest ≡ [] → HasPrintedUpTo a b text whole rest → Appends a b (flat_map text whole)
+  pub all_passed : (a b : Option (List ℕ)) (whole rest : List A) → rest ≡ [] → HasPrintedUpTo a b text whole rest →
+      Appends a b (flat_map text whole)
   all_passed a b whole rest e h = grind (arith, append-nil)

@@ -16,8 +16,10 @@ printed_more text s p h =
     let step : suc (p - s) ≡ p + 1 - s = omega arith in
     let here : s + (p - s) ≡ p = omega arith in
     let last : printed text s p ++ text p ≡ flat_map text (positions_from s (p - s) ++ ((s + (p - s)) ∷ [])) =
-    sym (flat_map-append text (positions_from s (p - s)) ((s + (p - s)) ∷ []) ∙ (rw here (ap (λ v. printed text s p ++ v) (append-nil (text p))))) in
-    last ∙ ap (λ ps. flat_map text ps) (sym (one_more_position s (p - s))) ∙ ap (λ n. flat_map text (positions_from s n)) step
+    sym (flat_map-append text (positions_from s (p - s)) ((s + (p - s)) ∷ []) ∙
+    (rw here (ap (λ v. printed text s p ++ v) (append-nil (text p))))) in
+    last ∙ ap (λ ps. flat_map text ps) (sym (one_more_position s (p - s))) ∙
+    ap (λ n. flat_map text (positions_from s n)) step
 
 -- known bytes grew by what is printed of the positions from start up to end
 pub record HasPrinted (old new : Option (List ℕ)) (text : ℕ → List ℕ) (start end : ℕ) : Type 0 where

@@ -58,9 +58,18 @@ longest_than bs xs ys e is =
 pub none_remaining : (bs : List ℕ) → StartsWithNoChar (drop (utf8_valid_len bs) bs)
 none_remaining bs c rest scalar begins =
     let all : (utf8_front bs ++ encode_utf8 c) ++ rest ≡ bs =
-    append_assoc (utf8_front bs) (encode_utf8 c) rest ∙ ap (λ xs. utf8_front bs ++ xs) (sym begins) ∙ take-append-drop (utf8_valid_len bs) bs in
-    let longer = longest_than bs (utf8_front bs ++ encode_utf8 c) rest all (IsUtf8-append _ _ (front_is bs) (IsUtf8-encode c scalar)) in
-    absurd (omega (arith, length_front bs, longer, length-append (utf8_front bs) (encode_utf8 c), length-encode c, len_utf8_bounds c))
+    append_assoc (utf8_front bs) (encode_utf8 c) rest ∙ ap (λ xs. utf8_front bs ++ xs) (sym begins) ∙
+    take-append-drop (utf8_valid_len bs) bs in
+    let longer = longest_than bs (utf8_front bs ++ encode_utf8 c) rest all
+    (IsUtf8-append _ _ (front_is bs) (IsUtf8-encode c scalar)) in
+    absurd (omega (
+      arith,
+      length_front bs,
+      longer,
+      length-append (utf8_front bs) (encode_utf8 c),
+      length-encode c,
+      len_utf8_bounds c,
+    ))
 
 -- a text that is not empty begins with a character
 begins_by : (bs cs : List ℕ) → 0 < length bs → all_scalars cs ≡ true → encode_utf8_all cs ≡ bs
@@ -68,19 +77,22 @@ begins_by : (bs cs : List ℕ) → 0 < length bs → all_scalars cs ≡ true →
 begins_by bs [] some s e = absurd (omega (arith, some, ap length e))
 begins_by bs (c ∷ cs) some s e = (c, encode_utf8_all cs, (and_parts _ _ s).0, sym e)
 
-begins_with_char : (bs : List ℕ) → IsUtf8 bs → 0 < length bs → (c : ℕ) × (rest : List ℕ) × IsScalar c × (bs ≡ encode_utf8 c ++ rest)
+begins_with_char : (bs : List ℕ) → IsUtf8 bs → 0 < length bs → (c : ℕ) × (rest : List ℕ) × IsScalar c ×
+    (bs ≡ encode_utf8 c ++ rest)
 begins_with_char bs is some = begins_by bs is.0 some is.1.0 is.1.1
 
 -- the first bytes of the rest begin with no character either, and neither do four or more with others after them
 none_first : (xs : List ℕ) (n : ℕ) → StartsWithNoChar xs → StartsWithNoChar (take n xs)
 none_first xs n none c rest scalar begins =
-    none c (rest ++ drop n xs) scalar (sym (take-append-drop n xs) ∙ ap (λ ys. ys ++ drop n xs) begins ∙ append_assoc (encode_utf8 c) rest (drop n xs))
+    none c (rest ++ drop n xs) scalar (sym (take-append-drop n xs) ∙ ap (λ ys. ys ++ drop n xs) begins ∙
+    append_assoc (encode_utf8 c) rest (drop n xs))
 
 none_more : (xs ys : List ℕ) → 4 ≤ length xs → StartsWithNoChar xs → StartsWithNoChar (xs ++ ys)
 none_more xs ys four none c rest scalar begins =
     let n = length (encode_utf8 c) in
     let short : n ≤ length xs = omega (arith, length-encode c, len_utf8_bounds c) in
-    let front : take n xs ≡ encode_utf8 c = sym (take-append-le n xs ys short) ∙ ap (take n) begins ∙ take-append_seam (encode_utf8 c) rest in
+    let front : take n xs ≡ encode_utf8 c = sym (take-append-le n xs ys short) ∙ ap (take n) begins ∙
+    take-append_seam (encode_utf8 c) rest in
     none c (drop n xs) scalar (sym (take-append-drop n xs) ∙ ap (λ zs. zs ++ drop n xs) front)
 
 -- the bytes after a text, if the whole is UTF-8
@@ -93,7 +105,8 @@ utf8_after xs ys is both =
 
 no_text : (xs : List ℕ) → StartsWithNoChar xs → IsUtf8 xs → length xs ≡ 0
 no_text [] none is = refl
-no_text (x ∷ xs) none is = let begins = begins_with_char (x ∷ xs) is (omega arith) in absurd (none begins.0 begins.1 begins.2 begins.3)
+no_text (x ∷ xs) none is = let begins = begins_with_char (x ∷ xs) is (omega arith) in
+    absurd (none begins.0 begins.1 begins.2 begins.3)
 
 -- a text before a rest that begins with no character is the longest front
 pub front_of : (xs ys : List ℕ) → IsUtf8 xs → StartsWithNoChar ys → utf8_valid_len (xs ++ ys) ≡ length xs
@@ -119,7 +132,8 @@ pub nothing_cut : IsReadTo [] [] []
 nothing_cut = record { remaining = []; joined = refl; utf8 = IsUtf8-nil; none = none_of_none; first = refl }
 
 -- more bytes were read: the stored bytes are all of the rest, or begin no character whatever follows
-few_more : (bytes front stored more : List ℕ) (cut : IsReadTo bytes front stored) → length cut.remaining ≤ 4 → (let bs = stored ++ more in
+few_more : (bytes front stored more : List ℕ) (cut : IsReadTo bytes front stored) → length cut.remaining ≤ 4 →
+    (let bs = stored ++ more in
     IsReadTo (bytes ++ more) (front ++ utf8_front bs) (take 4 (drop (utf8_valid_len bs) bs)))
 few_more bytes front stored more cut few =
     let bs = stored ++ more in
@@ -127,33 +141,40 @@ few_more bytes front stored more cut few =
     record {
       remaining = drop (utf8_valid_len bs) bs;
       joined = append_assoc front (utf8_front bs) _ ∙ ap (λ xs. front ++ xs) (take-append-drop (utf8_valid_len bs) bs)
-          ∙ sym (append_assoc front stored more) ∙ ap (λ xs. (front ++ xs) ++ more) all ∙ ap (λ xs. xs ++ more) cut.joined;
+          ∙ sym (append_assoc front stored more) ∙ ap (λ xs. (front ++ xs) ++ more) all ∙
+          ap (λ xs. xs ++ more) cut.joined;
       utf8 = IsUtf8-append front (utf8_front bs) cut.utf8 (front_is bs);
       none = none_remaining bs;
       first = refl;
     }
 
-four_more : (bytes front stored more : List ℕ) (cut : IsReadTo bytes front stored) → 4 ≤ length cut.remaining → (let bs = stored ++ more in
+four_more : (bytes front stored more : List ℕ) (cut : IsReadTo bytes front stored) → 4 ≤ length cut.remaining →
+    (let bs = stored ++ more in
     IsReadTo (bytes ++ more) (front ++ utf8_front bs) (take 4 (drop (utf8_valid_len bs) bs)))
 four_more bytes front stored more cut four =
     let bs = stored ++ more in
     let four_bytes : length stored ≡ 4 = omega (arith, ap length cut.first, length-take 4 cut.remaining) in
-    let none : StartsWithNoChar bs = none_more stored more (omega (arith, four_bytes)) (subst StartsWithNoChar (sym cut.first) (none_first cut.remaining 4 cut.none)) in
+    let none : StartsWithNoChar bs =
+    none_more stored more (omega (arith, four_bytes))
+    (subst StartsWithNoChar (sym cut.first) (none_first cut.remaining 4 cut.none)) in
     let no_front : utf8_valid_len bs ≡ 0 = front_of [] bs IsUtf8-nil none in
     let same : front ++ utf8_front bs ≡ front = ap (λ n. front ++ take n bs) no_front ∙ append-nil front in
     record {
       remaining = cut.remaining ++ more;
-      joined = ap (λ xs. xs ++ (cut.remaining ++ more)) same ∙ sym (append_assoc front cut.remaining more) ∙ ap (λ xs. xs ++ more) cut.joined;
+      joined = ap (λ xs. xs ++ (cut.remaining ++ more)) same ∙ sym (append_assoc front cut.remaining more) ∙
+          ap (λ xs. xs ++ more) cut.joined;
       utf8 = subst IsUtf8 (sym same) cut.utf8;
       none = none_more cut.remaining more four cut.none;
       first = ap (λ n. take 4 (drop n bs)) no_front ∙ take-append-le 4 stored more (omega (arith, four_bytes))
-          ∙ ap (take 4) cut.first ∙ take-take 4 4 cut.remaining (omega arith) ∙ sym (take-append-le 4 cut.remaining more four);
+          ∙ ap (take 4) cut.first ∙ take-take 4 4 cut.remaining (omega arith) ∙
+          sym (take-append-le 4 cut.remaining more four);
     }
 
 pub more_cut : (bytes front stored more : List ℕ) → IsReadTo bytes front stored → (let bs = stored ++ more in
     IsReadTo (bytes ++ more) (front ++ utf8_front bs) (take 4 (drop (utf8_valid_len bs) bs)))
 more_cut bytes front stored more cut =
-    ⊎_elim (λ few. few_more bytes front stored more cut (omega arith)) (four_more bytes front stored more cut) (cases_lt (length cut.remaining) 4)
+    ⊎_elim (λ few. few_more bytes front stored more cut (omega arith)) (four_more bytes front stored more cut)
+    (cases_lt (length cut.remaining) 4)
 
 -- the first bytes before `filled` that were not taken, moved to the front
 least_first : (xs : List ℕ) (n m : ℕ) → m ≡ min 4 n → take m xs ≡ take 4 (take n xs)
@@ -164,7 +185,8 @@ least_first xs n m e = ⊎_elim
     (λ four. let same : m ≡ 4 = omega arith in ap (λ k. take k xs) same ∙ sym (take-take 4 n xs four))
     (cases_lt n 4)
 
-pub moved_first : (old new : List ℕ) (taken filled stored : ℕ) → taken ≤ filled → filled ≤ length old → stored ≡ min 4 (filled - taken)
+pub moved_first : (old new : List ℕ) (taken filled stored : ℕ) → taken ≤ filled → filled ≤ length old →
+    stored ≡ min 4 (filled - taken)
     → new ≡ copy_within old taken (taken + stored) 0 → take stored new ≡ take 4 (drop taken (take filled old))
 moved_first old new taken filled stored below within least moved =
     let rest = drop taken old in
@@ -172,7 +194,8 @@ moved_first old new taken filled stored below within least moved =
     let count : taken + stored - taken ≡ stored = omega arith in
     let of_rest : take stored (copy_within old taken (taken + stored) 0) ≡ take stored rest =
     ap (λ n. take stored (paste old 0 rest n)) count
-    ∙ ap (λ n. take n (paste old 0 rest stored)) (let e : stored ≡ 0 + stored = omega arith in e) ∙ take-paste old 0 rest stored (omega arith) (omega (arith, length-drop taken old)) in
+    ∙ ap (λ n. take n (paste old 0 rest stored)) (let e : stored ≡ 0 + stored = omega arith in e) ∙
+    take-paste old 0 rest stored (omega arith) (omega (arith, length-drop taken old)) in
     let split : filled ≡ taken + remaining = omega arith in
     ap (take stored) moved ∙ of_rest ∙ least_first rest remaining stored least
     ∙ sym (ap (λ n. take 4 (drop taken (take n old))) split ∙ ap (take 4) (drop-take taken remaining old))
@@ -182,21 +205,34 @@ moved_first old new taken filled stored below within least moved =
 pub front_cut : (bytes front stored : List ℕ) → IsReadTo bytes front stored → utf8_front bytes ≡ front
 front_cut bytes front stored cut = ap utf8_front (sym cut.joined) ∙ utf8_front_of front cut.remaining cut.utf8 cut.none
 
-none_stored : (bytes front stored : List ℕ) (cut : IsReadTo bytes front stored) → length stored ≡ 0 → length cut.remaining ≡ 0
+none_stored : (bytes front stored : List ℕ) (cut : IsReadTo bytes front stored) → length stored ≡ 0 →
+    length cut.remaining ≡ 0
 none_stored bytes front stored cut none = omega (arith, none, ap length cut.first, length-take 4 cut.remaining)
 
 pub whole_cut : (bytes front stored : List ℕ) → IsReadTo bytes front stored → length stored ≡ 0 → front ≡ bytes
 whole_cut bytes front stored cut none =
-    sym (append-nil front) ∙ ap (λ xs. front ++ xs) (sym (nil_from_length cut.remaining (none_stored bytes front stored cut none))) ∙ cut.joined
+    sym (append-nil front) ∙
+    ap (λ xs. front ++ xs) (sym (nil_from_length cut.remaining (none_stored bytes front stored cut none))) ∙
+    cut.joined
 
 pub broken_cut : (bytes front stored : List ℕ) → IsReadTo bytes front stored → 0 < length stored → ¬ (IsUtf8 bytes)
 broken_cut bytes front stored cut some is =
     let whole : length bytes ≡ length front =
-    sym (utf8_valid_len-IsUtf8 bytes is) ∙ ap utf8_valid_len (sym cut.joined) ∙ front_of front cut.remaining cut.utf8 cut.none in
-    absurd (omega (arith, whole, ap length cut.joined, length-append front cut.remaining, some, ap length cut.first, length-take 4 cut.remaining))
+    sym (utf8_valid_len-IsUtf8 bytes is) ∙ ap utf8_valid_len (sym cut.joined) ∙
+    front_of front cut.remaining cut.utf8 cut.none in
+    absurd (omega (
+      arith,
+      whole,
+      ap length cut.joined,
+      length-append front cut.remaining,
+      some,
+      ap length cut.first,
+      length-take 4 cut.remaining,
+    ))
 
 -- bytes that were read after the stored ones
-pub filled_is : (xs ys : List ℕ) (a n k : ℕ) → a ≤ length xs → n ≤ length ys → take (a + n) (put_mid a k xs ys) ≡ take a xs ++ take n ys
+pub filled_is : (xs ys : List ℕ) (a n k : ℕ) → a ≤ length xs → n ≤ length ys →
+    take (a + n) (put_mid a k xs ys) ≡ take a xs ++ take n ys
 filled_is xs ys a n k within few =
     let stored : length (take a xs) ≡ a = omega (arith, length-take a xs, within) in
     ap (λ m. take m (put_mid a k xs ys)) (let e : a + n ≡ length (take a xs) + n = omega (arith, stored) in e)

@@ -30,7 +30,8 @@ use Rattle.printing.proofs.UnderWay.{all_came, chars_le, ended_came, more_came, 
 
 module _ (Failed Ended : Type 0) (form : Form) (tables : TablesOf) (direction : Direction) (a b : Option (List ℕ)) where
   -- a fault that ends the reading without printing ends the printing
-  unwritten_ends : (bytes : List ℕ) (fault : TextFault) → EndsUnwritten Failed Ended bytes fault → BreaksOff Failed Ended form tables direction bytes a b fault
+  unwritten_ends : (bytes : List ℕ) (fault : TextFault) → EndsUnwritten Failed Ended bytes fault →
+      BreaksOff Failed Ended form tables direction bytes a b fault
   unwritten_ends bytes (Read Whole) h = absurd h
   unwritten_ends bytes (Read CutOff) h = (h, tt)
   unwritten_ends bytes (NotUtf8 place Whole) h = absurd h
@@ -40,22 +41,31 @@ module _ (Failed Ended : Type 0) (form : Form) (tables : TablesOf) (direction : 
   unwritten_ends bytes Memory h = absurd h
 
   -- printing stopped after these bytes
-  pub stop_ends : {S : Type 0} (gives : S → List ℕ → S → Type 0) (start now next : S) (bytes : List ℕ) → gives start bytes now
+  pub stop_ends : {S : Type 0} (gives : S → List ℕ → S → Type 0) (start now next : S) (bytes : List ℕ) →
+      gives start bytes now
       → (why : PrintStop) (fault : TextFault)
-      → (why ≡ stop.NobodyReads → (fault ≡ NobodyReads) × (next ≡ now)) → (why ≡ stop.Memory → (fault ≡ Memory) × (next ≡ now))
+      → (why ≡ stop.NobodyReads → (fault ≡ NobodyReads) × (next ≡ now)) →
+      (why ≡ stop.Memory → (fault ≡ Memory) × (next ≡ now))
       → (why ≡ stop.Write → (given : List ℕ) × gives start given next × EndsUnwritten Failed Ended given fault)
       → (given : List ℕ) × gives start given next × BreaksOff Failed Ended form tables direction given a b fault
   stop_ends gives start now next bytes given stop.NobodyReads fault unread memory write =
-      let is = unread refl in
-      (bytes, subst (gives start bytes) (sym is.1) given, subst (BreaksOff Failed Ended form tables direction bytes a b) (sym is.0) tt)
+      let is = unread refl in (
+        bytes,
+        subst (gives start bytes) (sym is.1) given,
+        subst (BreaksOff Failed Ended form tables direction bytes a b) (sym is.0) tt,
+      )
   stop_ends gives start now next bytes given stop.Memory fault unread memory write =
-      let is = memory refl in
-      (bytes, subst (gives start bytes) (sym is.1) given, subst (BreaksOff Failed Ended form tables direction bytes a b) (sym is.0) tt)
+      let is = memory refl in (
+        bytes,
+        subst (gives start bytes) (sym is.1) given,
+        subst (BreaksOff Failed Ended form tables direction bytes a b) (sym is.0) tt,
+      )
   stop_ends gives start now next bytes given stop.Write fault unread memory write =
       let is = write refl in
       (is.0, is.1, unwritten_ends is.0 fault is.2)
 
-  stopped_ends : (bytes : List ℕ) → Ended → IsUtf8 bytes → (why : PrintStop) → BreaksOff Failed Ended form tables direction bytes a b (stopped_by why)
+  stopped_ends : (bytes : List ℕ) → Ended → IsUtf8 bytes → (why : PrintStop) →
+      BreaksOff Failed Ended form tables direction bytes a b (stopped_by why)
   stopped_ends bytes ended utf8 stop.NobodyReads = tt
   stopped_ends bytes ended utf8 stop.Write = (ended, utf8)
   stopped_ends bytes ended utf8 stop.Memory = tt
@@ -63,14 +73,21 @@ module _ (Failed Ended : Type 0) (form : Form) (tables : TablesOf) (direction : 
   -- printing stopped after all bytes
   pub last_ends : {A : Type 0} (Gave : List ℕ → Type 0) (bytes : List ℕ) → Gave bytes → Ended → IsUtf8 bytes
       → (result : Result A TextFault) (why : PrintStop) → IsErrAnd result (λ fault. fault ≡ stopped_by why)
-      → IfErr result (λ fault. (given : List ℕ) × Gave given × BreaksOff Failed Ended form tables direction given a b fault)
+      → IfErr result (λ fault. (given : List ℕ) × Gave given ×
+      BreaksOff Failed Ended form tables direction given a b fault)
   last_ends Gave bytes gave ended utf8 (Ok x) why e = tt
-  last_ends Gave bytes gave ended utf8 (Err fault) why e =
-      (bytes, gave, subst (BreaksOff Failed Ended form tables direction bytes a b) (sym e) (stopped_ends bytes ended utf8 why))
+  last_ends Gave bytes gave ended utf8 (Err fault) why e = (
+    bytes,
+    gave,
+    subst (BreaksOff Failed Ended form tables direction bytes a b) (sym e)
+        (stopped_ends bytes ended utf8 why),
+  )
 
 -- what a source returned, the bytes of it that are stored, and what was printed of it
-pub record HasRead {S : Type 0} (gives : S → List ℕ → S → Type 0) (room : S → ℕ) (form : Form) (tables : TablesOf) (direction : Direction)
-    (start now : S) (before after : Option (List ℕ)) (first begun : Begun) (stored : List ℕ) (place : TextPlace) : Type 0 where
+pub record HasRead {S : Type 0} (gives : S → List ℕ → S → Type 0) (room : S →
+    ℕ) (form : Form) (tables : TablesOf) (direction : Direction)
+    (start now : S) (before after : Option (List ℕ)) (first begun : Begun) (stored : List ℕ) (place : TextPlace) :
+    Type 0 where
   pub bytes : List ℕ
   pub front : List ℕ
   pub given : gives start bytes now
@@ -81,7 +98,8 @@ pub record HasRead {S : Type 0} (gives : S → List ℕ → S → Type 0) (room 
   pub printed : PrintsOn form tables direction (chars front) before after first begun
   pub place_is : place ≡ place_after front
 
-module _ {S : Type 0} (gives : S → List ℕ → S → Type 0) (room : S → ℕ) (form : Form) (tables : TablesOf) (direction : Direction)
+module _ {S : Type 0} (gives : S → List ℕ → S → Type 0) (room : S →
+    ℕ) (form : Form) (tables : TablesOf) (direction : Direction)
     (start : S) (before : Option (List ℕ)) (first : Begun) where
   pub nothing_read : gives start [] start → room start ≤ longest_text → IsBegun tables first → first.chars.items ≡ []
       → (let none : Passed = record { paragraphs = 0; characters = 0 } in first.passed ≡ none)
@@ -94,12 +112,15 @@ module _ {S : Type 0} (gives : S → List ℕ → S → Type 0) (room : S → �
     bound = omega arith;
     is = is;
     passed_in = omega (arith, ap (λ (p : Passed). p.characters) none, ap length empty, ap length chars-nil);
-    printed = subst (λ xs. PrintsOn form tables direction xs before before first first) (sym chars-nil) (nothing_came form tables direction before first);
+    printed = subst (λ xs. PrintsOn form tables direction xs before before first first) (sym chars-nil)
+        (nothing_came form tables direction before first);
     place_is = refl;
   }
 
-  module _ (now next : S) (after later : Option (List ℕ)) (begun then : Begun) (stored more : List ℕ) (place : TextPlace)
-      (read : HasRead gives room form tables direction start now before after first begun stored place) (falls : room next + length more ≤ room now) where
+  module _ (now next : S) (after later : Option (List ℕ)) (begun then : Begun) (stored more : List ℕ)
+      (place : TextPlace)
+      (read : HasRead gives room form tables direction start now before after first begun stored place)
+      (falls : room next + length more ≤ room now) where
     -- the characters so far and the bytes in the buffer are within the longest text
     pub more_fits : chars_so_far begun + length (stored ++ more) ≤ longest_text
     more_fits =
@@ -117,12 +138,15 @@ module _ {S : Type 0} (gives : S → List ℕ → S → Type 0) (room : S → �
           length-append stored more,
         )
 
-    more_read : gives start (read.bytes ++ more) next → IsBegun tables then → chars_so_far then ≡ chars_so_far begun + length (chars (utf8_front (stored ++ more)))
+    more_read : gives start (read.bytes ++ more) next → IsBegun tables then →
+        chars_so_far then ≡ chars_so_far begun + length (chars (utf8_front (stored ++ more)))
         → PrintsOn form tables direction (chars (utf8_front (stored ++ more))) after later begun then
         → (at : TextPlace) → IsAfter place at (utf8_front (stored ++ more))
-        → HasRead gives room form tables direction start next before later first then (take 4 (drop (utf8_valid_len (stored ++ more)) (stored ++ more))) at
+        → HasRead gives room form tables direction start next before later first then
+        (take 4 (drop (utf8_valid_len (stored ++ more)) (stored ++ more))) at
     more_read given is passed_in printed at passed =
-        let both : chars (read.front ++ utf8_front (stored ++ more)) ≡ chars read.front ++ chars (utf8_front (stored ++ more)) =
+        let both : chars (read.front ++ utf8_front (stored ++ more)) ≡ chars read.front ++
+        chars (utf8_front (stored ++ more)) =
         chars-append read.front (utf8_front (stored ++ more)) read.cut.utf8 in
         record {
           bytes = read.bytes ++ more;
@@ -131,43 +155,68 @@ module _ {S : Type 0} (gives : S → List ℕ → S → Type 0) (room : S → �
           cut = more_cut read.bytes read.front stored more read.cut;
           bound = omega (arith, falls, read.bound, length-append read.bytes more);
           is = is;
-          passed_in = omega (arith, passed_in, read.passed_in, ap length both, length-append (chars read.front) (chars (utf8_front (stored ++ more))));
+          passed_in = omega (
+            arith,
+            passed_in,
+            read.passed_in,
+            ap length both,
+            length-append (chars read.front) (chars (utf8_front (stored ++ more))),
+          );
           printed = subst (λ xs. PrintsOn form tables direction xs before later first then) (sym both)
               (more_came form tables direction _ _ _ _ _ _ _ _ read.printed printed);
           place_is = after_more place at read.front (utf8_front (stored ++ more)) read.place_is passed;
         }
 
     -- the same for a buffer with the stored and the new bytes, of which `taken` bytes were taken
-    pub read_more : (bs unchanged : List ℕ) (taken : ℕ) → bs ≡ stored ++ more → taken ≡ length (utf8_front bs) → unchanged ≡ take 4 (drop taken bs)
-        → gives start (read.bytes ++ more) next → IsBegun tables then → chars_so_far then ≡ chars_so_far begun + length (chars (utf8_front bs))
-        → PrintsOn form tables direction (chars (utf8_front bs)) after later begun then → (at : TextPlace) → IsAfter place at (utf8_front bs)
+    pub read_more : (bs unchanged : List ℕ) (taken : ℕ) → bs ≡ stored ++ more → taken ≡ length (utf8_front bs) →
+        unchanged ≡ take 4 (drop taken bs)
+        → gives start (read.bytes ++ more) next → IsBegun tables then →
+        chars_so_far then ≡ chars_so_far begun + length (chars (utf8_front bs))
+        → PrintsOn form tables direction (chars (utf8_front bs)) after later begun then → (at : TextPlace) →
+        IsAfter place at (utf8_front bs)
         → HasRead gives room form tables direction start next before later first then unchanged at
     read_more bs unchanged taken both front remaining given is passed_in printed at passed =
         let same : unchanged ≡ take 4 (drop (utf8_valid_len (stored ++ more)) (stored ++ more)) =
-        remaining ∙ ap (λ n. take 4 (drop n bs)) (front ∙ length_front bs) ∙ ap (λ xs. take 4 (drop (utf8_valid_len xs) xs)) both in
+        remaining ∙ ap (λ n. take 4 (drop n bs)) (front ∙ length_front bs) ∙
+        ap (λ xs. take 4 (drop (utf8_valid_len xs) xs)) both in
         subst (λ xs. HasRead gives room form tables direction start next before later first then xs at) (sym same)
-        (more_read given is (subst (λ xs. chars_so_far then ≡ chars_so_far begun + length (chars (utf8_front xs))) both passed_in)
-        (subst (λ xs. PrintsOn form tables direction (chars (utf8_front xs)) after later begun then) both printed) at (subst (λ xs. IsAfter place at (utf8_front xs)) both passed))
+        (more_read given is (subst (λ xs. chars_so_far then ≡ chars_so_far begun + length (chars (utf8_front xs))) both
+        passed_in)
+        (subst (λ xs. PrintsOn form tables direction (chars (utf8_front xs)) after later begun then) both printed) at
+        (subst (λ xs. IsAfter place at (utf8_front xs)) both passed))
 
   module _ (now : S) (after : Option (List ℕ)) (begun : Begun) (stored : List ℕ) (place : TextPlace)
       (read : HasRead gives room form tables direction start now before after first begun stored place)
-      (empty : first.chars.items ≡ []) (none : let nothing : Passed = record { paragraphs = 0; characters = 0 } in first.passed ≡ nothing) where
+      (empty : first.chars.items ≡ []) (none : let nothing : Passed = record { paragraphs = 0; characters = 0 } in
+      first.passed ≡ nothing) where
     -- what was read, without what was printed
     pub cut_of : HasCut gives start now place stored
-    cut_of = record { bytes = read.bytes; front = read.front; given = read.given; cut = read.cut; place_is = read.place_is }
+    cut_of = record {
+      bytes = read.bytes;
+      front = read.front;
+      given = read.given;
+      cut = read.cut;
+      place_is =
+          read.place_is;
+    }
 
     -- the paragraphs that have ended are printed
     pub ended_read : Appends before after (printed_ended form tables read.bytes direction)
-    ended_read = subst (λ xs. Appends before after (printed_as form tables (ended_paragraphs tables (chars xs)) direction))
-        (sym (front_cut read.bytes read.front stored read.cut)) (ended_came form tables direction (chars read.front) before after first begun empty none read.is read.printed)
+    ended_read = subst (λ xs.
+        Appends before after (printed_as form tables (ended_paragraphs tables (chars xs)) direction))
+        (sym (front_cut read.bytes read.front stored read.cut))
+        (ended_came form tables direction (chars read.front) before after first begun empty none read.is
+        read.printed)
 
     -- if no byte is stored, all paragraphs are printed once the last one is
-    pub whole_read : length stored ≡ 0 → (last : Option (List ℕ)) → Appends after last (printed_after form begun.passed tables begun.chars.items direction)
+    pub whole_read : length stored ≡ 0 → (last : Option (List ℕ)) →
+        Appends after last (printed_after form begun.passed tables begun.chars.items direction)
         → IsPrinted form tables direction read.bytes before last
     whole_read all last noted =
         let whole : read.front ≡ read.bytes = whole_cut read.bytes read.front stored read.cut all in
         record {
           utf8 = subst IsUtf8 whole read.cut.utf8;
           noted = subst (λ xs. Appends before last (printed_as form tables (chars xs) direction)) whole
-              (all_came form tables direction (chars read.front) before after last first begun empty none read.printed noted);
+              (all_came form tables direction (chars read.front) before after last first begun empty none read.printed
+              noted);
         }

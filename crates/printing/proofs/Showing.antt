@@ -13,7 +13,8 @@ use Rattle.printing.proofs.Passing.{HasPrintedUpTo, nothing_passed, one_more_pas
 
 -- the text of the positions before the rest was written; the rest are positions of the text, and `shown` are the
 -- characters that are shown for them
-pub record HasShown (images : ℕ → Option ℕ) (levels : List (Option ℕ)) (chars : List ℕ) (text : List BidiUnit) (old new : Option (List ℕ)) (order rest shown : List ℕ) : Type 0 where
+pub record HasShown (images : ℕ → Option ℕ) (levels : List (Option ℕ)) (chars : List ℕ) (text : List BidiUnit)
+    (old new : Option (List ℕ)) (order rest shown : List ℕ) : Type 0 where
   pub written : HasPrintedUpTo old new (shown_text images chars text levels) order rest
   pub beside : shown ≡ shown_of images levels chars rest
   pub places : All (λ p. p < length levels) rest
@@ -23,12 +24,15 @@ nil_from_map f [] e = refl
 nil_from_map f (x ∷ xs) e = cc
 
 module _ (images : ℕ → Option ℕ) (levels : List (Option ℕ)) (chars : List ℕ) (text : List BidiUnit) where
-  pub nothing_shown : (a : Option (List ℕ)) (order rest shown : List ℕ) → order ≡ rest → shown ≡ shown_of images levels chars order
+  pub nothing_shown : (a : Option (List ℕ)) (order rest shown : List ℕ) → order ≡ rest →
+      shown ≡ shown_of images levels chars order
       → All (λ p. p < length levels) rest → HasShown images levels chars text a a order rest shown
   nothing_shown a order rest shown e beside places = grind (arith, nothing_passed)
 
-  pub one_more_shown : (a b c : Option (List ℕ)) (order rest others shown remaining : List ℕ) (p character : ℕ) → rest ≡ p ∷ others → shown ≡ character ∷ remaining
-      → HasShown images levels chars text a b order rest shown → Appends b c (text_unless (is_separator (slice_index_or text p no_unit).class) character)
+  pub one_more_shown : (a b c : Option (List ℕ)) (order rest others shown remaining : List ℕ) (p character : ℕ) →
+      rest ≡ p ∷ others → shown ≡ character ∷ remaining
+      → HasShown images levels chars text a b order rest shown →
+      Appends b c (text_unless (is_separator (slice_index_or text p no_unit).class) character)
       → HasShown images levels chars text a c order others remaining
   one_more_shown a b c order rest others shown remaining p character e f h g =
       let both : character ∷ remaining ≡ shown_at images levels chars p ∷ shown_of images levels chars others =
@@ -40,11 +44,13 @@ module _ (images : ℕ → Option ℕ) (levels : List (Option ℕ)) (chars : Lis
         places = All-rest (λ q. q < length levels) p others rest e h.places;
       }
 
-  none_remaining : (a b : Option (List ℕ)) (order rest shown : List ℕ) → HasShown images levels chars text a b order rest shown
+  none_remaining : (a b : Option (List ℕ)) (order rest shown : List ℕ) →
+      HasShown images levels chars text a b order rest shown
       → (rest ≡ []) ⊎ (shown ≡ []) → rest ≡ []
   none_remaining a b order rest shown h (inl e) = e
   none_remaining a b order rest shown h (inr e) = nil_from_map _ rest (sym h.beside ∙ e)
 
-  pub all_shown : (a b : Option (List ℕ)) (order rest shown : List ℕ) → (rest ≡ []) ⊎ (shown ≡ []) → HasShown images levels chars text a b order rest shown
+  pub all_shown : (a b : Option (List ℕ)) (order rest shown : List ℕ) → (rest ≡ []) ⊎ (shown ≡ []) →
+      HasShown images levels chars text a b order rest shown
       → Appends a b (flat_map (shown_text images chars text levels) order)
   all_shown a b order rest shown e h = all_passed _ a b order rest (none_remaining a b order rest shown h e) h.written

@@ -16,13 +16,15 @@ pub record IsAfter (place next : TextPlace) (bytes : List ℕ) : Type 0 where
   pub offset : next.offset ≡ place.offset + length bytes
 
 -- the number of lines that end in both
-count_more : (front bytes : List ℕ) → count_by ends_line (front ++ bytes) ≡ count_by ends_line front + count_by ends_line bytes
+count_more : (front bytes : List ℕ) →
+    count_by ends_line (front ++ bytes) ≡ count_by ends_line front + count_by ends_line bytes
 count_more front bytes = sum_by-append (λ b. cond (ends_line b) 1 0) front bytes
 
 place_at : ℕ → ℕ → TextPlace
 place_at line offset = record { line = line; offset = offset }
 
-pub after_more : (place next : TextPlace) (front bytes : List ℕ) → place ≡ place_after front → IsAfter place next bytes → next ≡ place_after (front ++ bytes)
+pub after_more : (place next : TextPlace) (front bytes : List ℕ) → place ≡ place_after front →
+    IsAfter place next bytes → next ≡ place_after (front ++ bytes)
 unfolding place_at
 after_more place next front bytes e after =
     let line : next.line ≡ count_by ends_line (front ++ bytes) + 1 =
@@ -32,7 +34,8 @@ after_more place next front bytes e after =
     ap (λ n. place_at n next.offset) line ∙ ap (λ n. place_at (count_by ends_line (front ++ bytes) + 1) n) offset
 
 -- the bytes of a buffer that were taken are the longest front of those in it
-pub taken_is : (buffer : List ℕ) (filled taken : ℕ) → filled ≤ length buffer → taken ≡ length (utf8_front (take filled buffer))
+pub taken_is : (buffer : List ℕ) (filled taken : ℕ) → filled ≤ length buffer →
+    taken ≡ length (utf8_front (take filled buffer))
     → take taken buffer ≡ utf8_front (take filled buffer)
 taken_is buffer filled taken within e =
     let n = utf8_valid_len (take filled buffer) in
@@ -41,8 +44,10 @@ taken_is buffer filled taken within e =
     ap (λ k. take k buffer) same ∙ sym (take-take n filled buffer short)
 
 -- so the place after the taken bytes is the place after that front
-pub passed_is : (place next : TextPlace) (buffer : List ℕ) (filled taken : ℕ) → filled ≤ length buffer → taken ≡ length (utf8_front (take filled buffer))
-    → next.line ≡ place.line + count_by ends_line (take taken buffer) → next.offset ≡ place.offset + length (take taken buffer)
+pub passed_is : (place next : TextPlace) (buffer : List ℕ) (filled taken : ℕ) → filled ≤ length buffer →
+    taken ≡ length (utf8_front (take filled buffer))
+    → next.line ≡ place.line + count_by ends_line (take taken buffer) →
+    next.offset ≡ place.offset + length (take taken buffer)
     → IsAfter place next (utf8_front (take filled buffer))
 passed_is place next buffer filled taken within e line offset =
     let same = taken_is buffer filled taken within e in

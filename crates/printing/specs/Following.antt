@@ -20,7 +20,8 @@ printed_as (Reorder columns) tables chars direction = printed_reorder tables cha
 -- the line of the position p of a part
 abbrev pub position_after : Passed → List ℕ → List BidiUnit → List (Option ℕ) → ℕ → List ℕ
 position_after passed chars text levels p =
-    position_text (passed.characters + p) (slice_index chars p) (slice_index_or text p no_unit).class (slice_index_or levels p None)
+    position_text (passed.characters + p) (slice_index chars p) (slice_index_or text p no_unit).class
+    (slice_index_or levels p None)
 
 -- P1: the paragraph with the number k of a part: its line, and then the lines of its positions
 abbrev pub paragraph_after : Passed → List ℕ → List BidiUnit → TextLayout → ℕ → List ℕ
@@ -40,10 +41,12 @@ one_paragraph_after passed level chars text levels =
 
 -- what is printed of a part with these units in this form
 abbrev pub printed_units : Form → Passed → TablesOf → List ℕ → List BidiUnit → Direction → List ℕ
-printed_units Levels passed tables chars units direction = levels_after passed chars units (layout_of standard units direction [])
+printed_units Levels passed tables chars units direction =
+    levels_after passed chars units (layout_of standard units direction [])
 printed_units (Reorder columns) passed tables chars units direction =
     lines_text (mirror_by tables.mirrors) chars units direction (breaks_of units columns)
 
 -- what is printed of a part of a text in this form
 unfoldable pub printed_after : Form → Passed → TablesOf → List ℕ → Direction → List ℕ
-printed_after form passed tables chars direction = printed_units form passed tables chars (units_by tables chars) direction
+printed_after form passed tables chars direction =
+    printed_units form passed tables chars (units_by tables chars) direction

@@ -9,4 +9,5 @@ front_digits front = if front == 0 then [] else digits 16 true front
 -- the last four digits
 abbrev pub last_digits : ℕ → List ℕ
 last_digits code =
-    digit_glyph true (code / 4096 % 16) ∷ digit_glyph true (code / 256 % 16) ∷ digit_glyph true (code / 16 % 16) ∷ digit_glyph true (code % 16) ∷ []
+    digit_glyph true (code / 4096 % 16) ∷ digit_glyph true (code / 256 % 16) ∷ digit_glyph true (code / 16 % 16) ∷
+    digit_glyph true (code % 16) ∷ []

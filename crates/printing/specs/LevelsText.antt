@@ -25,7 +25,8 @@ level_text (Some level) = decimal level
 -- the line of a position: the position in the text, its code point, original class and level
 abbrev pub position_text : ℕ → ℕ → Class → Option ℕ → List ℕ
 position_text p c class level =
-    concat (decimal p ∷ codes " " ∷ code_text c ∷ codes " " ∷ short_name class ∷ codes " " ∷ level_text level ∷ line_feed ∷ [])
+    concat (decimal p ∷ codes " " ∷ code_text c ∷ codes " " ∷ short_name class ∷ codes " " ∷ level_text level ∷
+    line_feed ∷ [])
 
 -- the line before the positions of a paragraph: its number, counted from 0, and its level
 abbrev pub paragraph_text : ℕ → ℕ → List ℕ
@@ -44,7 +45,8 @@ text_at_position chars text levels p =
 abbrev pub text_of_paragraph : List ℕ → List BidiUnit → TextLayout → ℕ → List ℕ
 text_of_paragraph chars text layout k =
     let line = slice_index_or layout.lines k no_line in
-    paragraph_text k (slice_index_or layout.paras k 0) ++ printed (text_at_position chars text layout.levels) line.start line.end
+    paragraph_text k (slice_index_or layout.paras k 0) ++
+    printed (text_at_position chars text layout.levels) line.start line.end
 
 -- the paragraphs of a text, one after another
 abbrev pub levels_text : List ℕ → List BidiUnit → TextLayout → List ℕ

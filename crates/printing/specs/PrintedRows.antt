@@ -29,7 +29,8 @@ printed_whole chars classes direction = printed_with chars classes direction []
 
 -- the same, in columns
 abbrev pub printed_in : ℕ → List ℕ → List Class → Direction → List ℕ
-printed_in columns chars classes direction = printed_with chars classes direction (column_breaks_of (plain_units classes) columns)
+printed_in columns chars classes direction =
+    printed_with chars classes direction (column_breaks_of (plain_units classes) columns)
 
 -- a line breaks after two positions, so the white space takes the paragraph's level
 pub two_columns : printed_in 2 (1488 ∷ 32 ∷ 1489 ∷ []) (R ∷ WS ∷ R ∷ []) Ltr ≡ 215 ∷ 144 ∷ 32 ∷ 10 ∷ 215 ∷ 145 ∷ 10 ∷ []
@@ -37,12 +38,14 @@ unfolding layouts_compute encode_utf8
 two_columns = refl
 
 -- from left to right, with the mirrored character
-pub mirrored_in_a_line : printed_whole (1488 ∷ 60 ∷ 1489 ∷ []) (R ∷ ON ∷ R ∷ []) Auto ≡ 215 ∷ 145 ∷ 62 ∷ 215 ∷ 144 ∷ 10 ∷ []
+pub mirrored_in_a_line : printed_whole (1488 ∷ 60 ∷ 1489 ∷ []) (R ∷ ON ∷ R ∷ []) Auto ≡ 215 ∷ 145 ∷ 62 ∷ 215 ∷ 144 ∷
+    10 ∷ []
 unfolding layouts_compute encode_utf8
 mirrored_in_a_line = refl
 
 -- the second paragraph's columns are counted from its start
-pub columns_of_each_paragraph : printed_in 2 (97 ∷ 98 ∷ 10 ∷ 99 ∷ 100 ∷ 101 ∷ []) (L ∷ L ∷ B ∷ L ∷ L ∷ L ∷ []) Auto ≡ codes "ab\ncd\ne\n"
+pub columns_of_each_paragraph : printed_in 2 (97 ∷ 98 ∷ 10 ∷ 99 ∷ 100 ∷ 101 ∷ []) (L ∷ L ∷ B ∷ L ∷ L ∷ L ∷ []) Auto ≡
+    codes "ab\ncd\ne\n"
 unfolding layouts_compute encode_utf8
 columns_of_each_paragraph = refl
 

@@ -24,10 +24,12 @@ utf8_front bytes = take (utf8_valid_len bytes) bytes
 
 -- what is printed in this form of the paragraphs that have ended in the longest front of the bytes that is UTF-8
 abbrev pub printed_ended : Form → TablesOf → List ℕ → Direction → List ℕ
-printed_ended form tables bytes direction = printed_as form tables (ended_paragraphs tables (chars (utf8_front bytes))) direction
+printed_ended form tables bytes direction =
+    printed_as form tables (ended_paragraphs tables (chars (utf8_front bytes))) direction
 
 -- the bytes are UTF-8, and known bytes grew by what is printed of their text in this form
-pub record IsPrinted (form : Form) (tables : TablesOf) (direction : Direction) (bytes : List ℕ) (before after : Option (List ℕ)) : Type 0 where
+pub record IsPrinted (form : Form) (tables : TablesOf) (direction : Direction) (bytes : List ℕ)
+    (before after : Option (List ℕ)) : Type 0 where
   pub utf8 : IsUtf8 bytes
   pub noted : Appends before after (printed_as form tables (chars bytes) direction)
 
@@ -43,7 +45,8 @@ pub record IsNotUtf8 (bytes : List ℕ) (place : TextPlace) : Type 0 where
 
 -- a source gave bytes; the last of them are in a buffer and their characters were not taken yet, and this is the place
 -- after the text before them
-pub record IsReadUpTo {S : Type 0} (gives : S → List ℕ → S → Type 0) (start now : S) (place : TextPlace) (buffer : List ℕ) : Type 0 where
+pub record IsReadUpTo {S : Type 0} (gives : S → List ℕ → S →
+    Type 0) (start now : S) (place : TextPlace) (buffer : List ℕ) : Type 0 where
   pub bytes : List ℕ
   pub front : List ℕ
   pub stored : List ℕ
@@ -58,7 +61,8 @@ pub record IsReadUpTo {S : Type 0} (gives : S → List ℕ → S → Type 0) (st
 -- NotUtf8: the bytes are all and are not UTF-8, and the paragraphs that have ended are printed unless a write failed;
 -- Write: the bytes are all and are UTF-8, and a write failed;
 -- NobodyReads or Memory: nobody reads the output, or memory was refused
-abbrev pub BreaksOff : Type 0 → Type 0 → Form → TablesOf → Direction → List ℕ → Option (List ℕ) → Option (List ℕ) → TextFault → Type 0
+abbrev pub BreaksOff : Type 0 → Type 0 → Form → TablesOf → Direction → List ℕ → Option (List ℕ) → Option (List ℕ) →
+    TextFault → Type 0
 BreaksOff Failed Ended form tables direction bytes before after (Read written) =
     Failed × IsWritten written before after (printed_ended form tables bytes direction)
 BreaksOff Failed Ended form tables direction bytes before after (NotUtf8 place written) =

@@ -33,7 +33,8 @@ pub record Follows (passed : Passed) (characters : ℕ) (next : Passed) : Type 0
 
 -- after further characters, known bytes grew by what is printed of the paragraphs that ended, from the unfinished one
 -- on; the unfinished paragraph is now the one after them, and whatever follows is printed after them
-pub record PrintsOn (form : Form) (tables : TablesOf) (direction : Direction) (more : List ℕ) (before after : Option (List ℕ)) (old new : Begun) : Type 0 where
+pub record PrintsOn (form : Form) (tables : TablesOf) (direction : Direction) (more : List ℕ)
+    (before after : Option (List ℕ)) (old new : Begun) : Type 0 where
   pub ended : List ℕ
   pub joined : ended ++ new.chars.items ≡ old.chars.items ++ more
   pub whole : (rest : List ℕ) → ended_paragraphs tables (ended ++ rest) ≡ ended ++ ended_paragraphs tables rest

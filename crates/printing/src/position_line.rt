@@ -63,7 +63,8 @@ fn put_paragraph(number: usize, level: ParaLevel, line: &mut [u8; LONGEST_LINE])
 
 /// Writes the line before the positions of a paragraph: its number, counted from 0, and its level.
 pub fn print_paragraph<W: Write>(w: &mut W, number: usize, level: ParaLevel) -> io::Result<()>
-    ensures { OnOk result (Appends (W.contents w.old) (W.contents w.new) (paragraph_text number (level_of_para level))) }
+    ensures { OnOk result (Appends (W.contents w.old) (W.contents w.new) (paragraph_text number
+        (level_of_para level))) }
 {
     let mut line = [0; LONGEST_LINE];
     let start = put_paragraph(number, level, &mut line);

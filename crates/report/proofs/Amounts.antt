@@ -32,21 +32,28 @@ no_of_first-append : (a b : List WrongCase) → no_of_first (a ++ b) ≡ option_
 no_of_first-append [] b = refl
 no_of_first-append (w ∷ a) b = refl
 
-one-more : (n : ℕ) (expected : Expected) (d : Direction) (layout : TextLayout) (ws : List WrongCase) (o : Option Place) (rest : Option (Direction × Place))
-    → wrong_at n rest ≡ no_of_first ws → wrong_at n (option_or (with_place d o) rest) ≡ no_of_first (option_to_list (option_map (wrong_case_at n expected d layout) o) ++ ws)
+one-more : (n : ℕ) (expected : Expected) (d : Direction) (layout : TextLayout) (ws : List WrongCase) (o : Option Place)
+    (rest : Option (Direction × Place))
+    → wrong_at n rest ≡ no_of_first ws →
+    wrong_at n (option_or (with_place d o) rest) ≡
+    no_of_first (option_to_list (option_map (wrong_case_at n expected d layout) o) ++ ws)
 one-more n expected d layout ws None rest e = e
 one-more n expected d layout ws (Some place) rest e = refl
 
 module _ (limits : LimitsOf) where
   -- the first wrong case of a row
-  first-under : (n : ℕ) (expected : Expected) (ds : List Direction) → wrong_at n (wrong_case limits expected ds) ≡ no_of_first (wrong_cases_under (strict_terms limits) n expected ds)
+  first-under : (n : ℕ) (expected : Expected) (ds : List Direction) →
+      wrong_at n (wrong_case limits expected ds) ≡ no_of_first (wrong_cases_under (strict_terms limits) n expected ds)
   first-under n expected [] = refl
   first-under n expected (d ∷ ds) =
-      one-more n (read_under (strict_terms limits) expected d) d (layout_under limits expected d) (wrong_cases_under (strict_terms limits) n expected ds) (wrong_place_under limits expected d)
+      one-more n (read_under (strict_terms limits) expected d) d (layout_under limits expected d)
+      (wrong_cases_under (strict_terms limits) n expected ds) (wrong_place_under limits expected d)
       (wrong_case limits expected ds) (first-under n expected ds)
 
   -- the verdict of the first of these lines that is wrong or malformed
-  first-from : (k : ℕ) (fs : List Finding) → first_no limits k fs ≡ option_or (no_of_first (wrong_cases_from (strict_terms limits) k (sound_lines fs))) (no_of_malformed (first_malformed k fs))
+  first-from : (k : ℕ) (fs : List Finding) →
+      first_no limits k fs ≡ option_or (no_of_first (wrong_cases_from (strict_terms limits) k (sound_lines fs)))
+      (no_of_malformed (first_malformed k fs))
   first-from k [] = refl
   first-from k (Silent ∷ fs) = first-from (k + 1) fs
   first-from k (Faulty cause ∷ fs) = refl
@@ -60,7 +67,8 @@ module _ (limits : LimitsOf) where
       ∙ ap (λ o. option_or o malformed) (sym (no_of_first-append here following))
 
   by-first : (fs : List Finding) (ws : List WrongCase) (m : Option (ℕ × Cause)) → (m ≡ None → sound_lines fs ≡ fs)
-      → or_yes fs (option_or (no_of_first ws) (no_of_malformed m)) ≡ verdict_from ws m (rows_in (sound_lines fs)) (cases_in (sound_lines fs))
+      → or_yes fs (option_or (no_of_first ws) (no_of_malformed m)) ≡ verdict_from ws m (rows_in (sound_lines fs))
+      (cases_in (sound_lines fs))
   by-first fs (w ∷ ws) m sound = refl
   by-first fs [] (Some m) sound = refl
   by-first fs [] None sound = rw (sound refl) refl

@@ -32,18 +32,21 @@ order-none All levels = refl
 order-none Shown levels = refl
 
 module _ (compared : Positions) (levels : List (Option ℕ)) where
-  none-among : (order : List ℕ) → length order ≤ position_or_len (is_read compared levels) order → order_read compared levels order ≡ []
+  none-among : (order : List ℕ) → length order ≤ position_or_len (is_read compared levels) order →
+      order_read compared levels order ≡ []
   none-among [] le = order-none compared levels
   none-among (p ∷ ps) le = by (is_read compared levels p) refl (none-among ps) where
     by : (b : Bool) → is_read compared levels p ≡ b
-        → (length ps ≤ position_or_len (is_read compared levels) ps → order_read compared levels ps ≡ []) → order_read compared levels (p ∷ ps) ≡ []
+        → (length ps ≤ position_or_len (is_read compared levels) ps → order_read compared levels ps ≡ []) →
+        order_read compared levels (p ∷ ps) ≡ []
     by true e rest = let none : length (p ∷ ps) ≤ 0 = rw e at le in absurd (omega (arith, none))
     by false e rest =
         let later : length (p ∷ ps) ≤ 1 + position_or_len (is_read compared levels) ps = rw e at le in
         order-pass compared levels p ps e ∙ rest (omega (arith, later))
 
   -- none of them is read
-  pub none-read : (order : List ℕ) → position (is_read compared levels) order ≡ None → order_read compared levels order ≡ []
+  pub none-read : (order : List ℕ) → position (is_read compared levels) order ≡ None →
+      order_read compared levels order ≡ []
   none-read order e = none-among order (grind (arith, lt-ltb, none-some))
 
   first-at : (order : List ℕ) (i d : ℕ) → i < length order → is_read compared levels (get_or order i d) ≡ true
@@ -61,7 +64,8 @@ module _ (compared : Positions) (levels : List (Option ℕ)) where
   first-read order i d e =
       let at = position-Some (is_read compared levels) order i d e in
       let following : suc i ≡ i + 1 = omega arith in
-      first-at order i d at.0 at.1 at.2 ∙ ap (λ n. get_or order i d ∷ order_read compared levels (drop n order)) following
+      first-at order i d at.0 at.1 at.2 ∙
+      ap (λ n. get_or order i d ∷ order_read compared levels (drop n order)) following
 
 -- no more are read than there are
 filter-shorter : (test : ℕ → Bool) (ps : List ℕ) → length (filter test ps) ≤ length ps
@@ -71,6 +75,7 @@ filter-shorter test (p ∷ ps) = by (test p) refl (filter-shorter test ps) where
   by true e rest = rw e (omega (arith, rest))
   by false e rest = rw e (omega (arith, rest))
 
-pub no-more-read : (compared : Positions) (levels : List (Option ℕ)) (order : List ℕ) → length (order_read compared levels order) ≤ length order
+pub no-more-read : (compared : Positions) (levels : List (Option ℕ)) (order : List ℕ) →
+    length (order_read compared levels order) ≤ length order
 no-more-read All levels order = omega arith
 no-more-read Shown levels order = filter-shorter (is_read Shown levels) order

@@ -20,7 +20,8 @@ module _ (terms : Terms) (kind other : Kind) (same : tables_of other ≡ tables_
   report-as : (b : List ℕ) → report_of terms other b ≡ report_of terms kind b
   report-as b = ap (report_on terms) (sym (findings-as terms.limits kind other same (lines_of b)))
 
-  following-as : (s : LineReporting) (reported : List WrongCase) (lines : List (List ℕ)) → IsReportAfter terms kind s reported lines → IsReportAfter terms other s reported lines
+  following-as : (s : LineReporting) (reported : List WrongCase) (lines : List (List ℕ)) →
+      IsReportAfter terms kind s reported lines → IsReportAfter terms other s reported lines
   following-as s reported lines h =
       let e = findings-as terms.limits kind other same lines in
       record {
@@ -34,21 +35,32 @@ module _ (terms : Terms) (kind other : Kind) (same : tables_of other ≡ tables_
   reports-as : (m : Option (ℕ × Cause)) (cutting : Cutting) (s : LineReporting) (reported : List WrongCase) (b : List ℕ)
       → ReportsBy terms kind m cutting s reported b → ReportsBy terms other m cutting s reported b
   reports-as None cutting s reported b h =
-      record { splitter = h.splitter; lines = h.lines; rest = h.rest; cut = h.cut; following = following-as s reported h.lines h.following }
+      record {
+        splitter = h.splitter;
+        lines = h.lines;
+        rest = h.rest;
+        cut = h.cut;
+        following =
+            following-as s reported h.lines h.following;
+      }
   reports-as (Some m) cutting s reported b h = λ more. report-as (b ++ more) ∙ h more
 
 -- the state of a report on a file of one kind is one for each kind with the same tables
 pub reported-for : (terms : Terms) (kind : Kind) (state : StateOf) (reported : List WrongCase) (b : List ℕ)
-    → ReportsBy terms kind state.malformed state.cutting state.lines reported b → HasReportedFor terms (tables_of kind) state reported b
-reported-for terms kind state reported b h = λ other same. reports-as terms kind other same state.malformed state.cutting state.lines reported b h
+    → ReportsBy terms kind state.malformed state.cutting state.lines reported b →
+    HasReportedFor terms (tables_of kind) state reported b
+reported-for terms kind state reported b h =
+    λ other same. reports-as terms kind other same state.malformed state.cutting state.lines reported b h
 
 -- the state of a report of this kind
 pub state-of : (terms : Terms) (kind own : Kind) (state : StateOf) (reported : List WrongCase) (b : List ℕ)
     → Reports terms kind (reporting own state) reported b → HasReportedFor terms (tables_of own) state reported b
 state-of terms kind own state reported b h =
-    reported-for terms own state reported b (subst (λ (k : Kind). ReportsBy terms k state.malformed state.cutting state.lines reported b) (sym h.of) h.is)
+    reported-for terms own state reported b (subst (λ (k : Kind).
+    ReportsBy terms k state.malformed state.cutting state.lines reported b) (sym h.of) h.is)
 
 -- a report of this kind with this state
-pub reports-of : (terms : Terms) (kind own : Kind) (state : StateOf) (reported : List WrongCase) (b : List ℕ) → own ≡ kind
+pub reports-of : (terms : Terms) (kind own : Kind) (state : StateOf) (reported : List WrongCase) (b : List ℕ) →
+    own ≡ kind
     → HasReportedFor terms (tables_of own) state reported b → Reports terms kind (reporting own state) reported b
 reports-of terms kind own state reported b of holds = record { of = of; is = holds kind (ap tables_of (sym of)) }

@@ -23,7 +23,8 @@ HasReported before ws bytes after =
     → Reports terms kind before reported b → Reports terms kind after (reported ++ ws) (b ++ bytes)
 
 -- the known bytes grew by the lines of the first of these wrong cases, at most `most`; `remaining` more may follow
-pub record HasWrittenFirst (most : ℕ) (ws : List WrongCase) (before after : Option (List ℕ)) (remaining : ℕ) : Type 0 where
+pub record HasWrittenFirst (most : ℕ) (ws : List WrongCase) (before after : Option (List ℕ))
+    (remaining : ℕ) : Type 0 where
   pub lines : Appends before after (first_cases_text most ws)
   pub more : remaining + length (take most ws) ≡ most
 
@@ -57,8 +58,10 @@ PrintsKnownCases written report most bytes before after =
 
 -- a new report breaks off after these bytes: the source failed, and the wrong cases so far are printed unless a write
 -- failed; or the source ended, and a write failed; or nobody reads what is written
-abbrev pub BreaksOff : Type 0 → Type 0 → Reporting → ℕ → List ℕ → Option (List ℕ) → Option (List ℕ) → ReportFault → Type 0
-BreaksOff Failed Ended report most bytes before after (Read written) = Failed × PrintsKnownCases written report most bytes before after
+abbrev pub BreaksOff : Type 0 → Type 0 → Reporting → ℕ → List ℕ → Option (List ℕ) → Option (List ℕ) → ReportFault →
+    Type 0
+BreaksOff Failed Ended report most bytes before after (Read written) =
+    Failed × PrintsKnownCases written report most bytes before after
 BreaksOff Failed Ended report most bytes before after Write = Ended
 BreaksOff Failed Ended report most bytes before after NobodyReads = Unit {0}
 

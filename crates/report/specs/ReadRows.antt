@@ -23,14 +23,16 @@ pub removed_order_read : order_read positions.Shown embedded (0 ∷ 2 ∷ 1 ∷ 
 removed_order_read = refl
 
 -- a level that is shown stays, even if it is expected to be removed
-pub shown_levels_read : levels_read parts.All positions.Shown embedded (Some 0 ∷ None ∷ None ∷ []) ≡ None ∷ None ∷ None ∷ []
+pub shown_levels_read : levels_read parts.All positions.Shown embedded (Some 0 ∷ None ∷ None ∷ []) ≡
+    None ∷ None ∷ None ∷ []
 shown_levels_read = refl
 
 -- a list with another length than the text keeps its length
 pub short_levels_read : levels_read parts.All positions.Shown embedded (Some 0 ∷ []) ≡ None ∷ []
 short_levels_read = refl
 
-pub long_levels_read : levels_read parts.All positions.Shown embedded (None ∷ Some 1 ∷ None ∷ Some 0 ∷ []) ≡ None ∷ Some 1 ∷ None ∷ Some 0 ∷ []
+pub long_levels_read : levels_read parts.All positions.Shown embedded (None ∷ Some 1 ∷ None ∷ Some 0 ∷ []) ≡
+    None ∷ Some 1 ∷ None ∷ Some 0 ∷ []
 long_levels_read = refl
 
 -- positions after the text's end stay in an order
@@ -38,7 +40,8 @@ pub past_end_order_read : order_read positions.Shown embedded (2 ∷ 1 ∷ 3 ∷
 past_end_order_read = refl
 
 -- if only the order is compared, neither the paragraph's level nor the levels are read
-pub order_alone_levels_read : (compared : Positions) (claimed : List (Option ℕ)) → levels_read parts.OrderAlone compared embedded claimed ≡ embedded
+pub order_alone_levels_read : (compared : Positions) (claimed : List (Option ℕ)) →
+    levels_read parts.OrderAlone compared embedded claimed ≡ embedded
 order_alone_levels_read compared claimed = refl
 
 pub order_alone_para_read : (claimed : Option ℕ) → para_read parts.OrderAlone claimed ≡ None

@@ -35,19 +35,23 @@ wrong_case_text w =
 -- how many rows and cases there are, and how many of them are wrong
 abbrev pub totals_text : CaseCounts → List ℕ
 totals_text t =
-    concat (decimal t.rows ∷ codes " rows, " ∷ decimal t.wrong_rows ∷ codes " wrong; " ∷ decimal t.cases ∷ codes " cases, "
+    concat (decimal t.rows ∷ codes " rows, " ∷ decimal t.wrong_rows ∷ codes " wrong; " ∷ decimal t.cases ∷
+    codes " cases, "
     ∷ decimal t.wrong_cases ∷ codes " wrong\n" ∷ [])
 
 -- how many wrong cases there are under each direction
 abbrev pub directions_text : CaseCounts → List ℕ
 directions_text t =
-    concat (codes "wrong by direction: auto " ∷ decimal t.by_direction.auto ∷ codes ", ltr " ∷ decimal t.by_direction.ltr
-    ∷ codes ", rtl " ∷ decimal t.by_direction.rtl ∷ codes ", auto-rtl " ∷ decimal t.by_direction.auto_rtl ∷ codes "\n" ∷ [])
+    concat (codes "wrong by direction: auto " ∷ decimal t.by_direction.auto ∷ codes ", ltr " ∷
+    decimal t.by_direction.ltr
+    ∷ codes ", rtl " ∷ decimal t.by_direction.rtl ∷ codes ", auto-rtl " ∷ decimal t.by_direction.auto_rtl ∷ codes "\n" ∷
+    [])
 
 -- how many wrong cases there are by what differs first
 abbrev pub parts_text : CaseCounts → List ℕ
 parts_text t =
-    concat (codes "wrong by place: paragraph level " ∷ decimal t.by_part.para_level ∷ codes ", levels " ∷ decimal t.by_part.levels
+    concat (codes "wrong by place: paragraph level " ∷ decimal t.by_part.para_level ∷ codes ", levels " ∷
+    decimal t.by_part.levels
     ∷ codes ", order " ∷ decimal t.by_part.order ∷ codes "\n" ∷ [])
 
 -- the first malformed line, if there is one, in the words of the verdict

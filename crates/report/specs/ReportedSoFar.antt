@@ -23,14 +23,21 @@ reporting kind state = record { kind = kind; cutting = state.cutting; lines = st
 -- tables, or no tables
 abbrev pub HasReportedFor : Terms → Option TablesOf → StateOf → List WrongCase → List ℕ → Type 0
 HasReportedFor terms tables state reported bytes =
-    (kind : Kind) → tables_of kind ≡ tables → ReportsBy terms kind state.malformed state.cutting state.lines reported bytes
+    (kind : Kind) → tables_of kind ≡ tables →
+    ReportsBy terms kind state.malformed state.cutting state.lines reported bytes
 
 -- a report with the state `before` that is given this piece too has the state `after`, and reports what it found last
 abbrev pub TakesIn : Option TablesOf → StateOf → List ℕ → StateOf → Type 0
 TakesIn tables before piece after =
     (terms : Terms) (reported : List WrongCase) (b : List ℕ)
-    → HasReportedFor terms tables before reported b → HasReportedFor terms tables after (reported ++ after.lines.found) (b ++ piece)
+    → HasReportedFor terms tables before reported b →
+    HasReportedFor terms tables after (reported ++ after.lines.found) (b ++ piece)
 
 -- the report at the end of its file
 abbrev pub ended_in : StateOf → EndedReport
-ended_in state = record { found = state.lines.found; case_counts = state.lines.case_counts; malformed = state.malformed }
+ended_in state = record {
+  found = state.lines.found;
+  case_counts = state.lines.case_counts;
+  malformed =
+      state.malformed;
+}

@@ -55,7 +55,8 @@ pub record IsAfterLine (kind : Kind) (number : ℕ) (line : List ℕ) (before af
   pub terms : after.terms ≡ before.terms
   pub lists : IsAfterOneLine kind line before.reading after.reading
   pub found : after.found ≡ wrong_cases_in before.terms number (finding_after kind before.reading line)
-  pub case_counts : after.case_counts ≡ counts_after (finding_after kind before.reading line) after.found before.case_counts
+  pub case_counts : after.case_counts ≡
+      counts_after (finding_after kind before.reading line) after.found before.case_counts
 
 -- no more wrong cases or counts
 pub record HasNothingNew (before after : LineReporting) : Type 0 where
@@ -80,7 +81,8 @@ IsAfterCut kind (Line number text) before after = IsAfterLine kind number text.n
 IsAfterCut kind (TooLong number) before after = ⊤
 
 -- this is stored after these lines; none of them is malformed, and these are all of their wrong cases
-pub record IsReportAfter (terms : Terms) (kind : Kind) (s : LineReporting) (reported : List WrongCase) (lines : List (List ℕ)) : Type 0 where
+pub record IsReportAfter (terms : Terms) (kind : Kind) (s : LineReporting) (reported : List WrongCase)
+    (lines : List (List ℕ)) : Type 0 where
   pub under : s.terms ≡ terms
   pub sound : first_malformed 0 (findings_by kind lines) ≡ None
   pub lists : AreInForce kind (levels_in s.reading) (order_in s.reading) lines
@@ -96,7 +98,8 @@ pub record Reporting : Type 0 where
   pub malformed : Option (ℕ × Cause)
 
 -- no complete line is malformed
-pub record GoesOn (terms : Terms) (kind : Kind) (cutting : Cutting) (s : LineReporting) (reported : List WrongCase) (bytes : List ℕ) : Type 0 where
+pub record GoesOn (terms : Terms) (kind : Kind) (cutting : Cutting) (s : LineReporting) (reported : List WrongCase)
+    (bytes : List ℕ) : Type 0 where
   pub splitter : Represents cutting bytes
   pub lines : List (List ℕ)
   pub rest : List ℕ
@@ -108,11 +111,16 @@ pub record GoesOn (terms : Terms) (kind : Kind) (cutting : Cutting) (s : LineRep
 abbrev pub ReportsBy : Terms → Kind → Option (ℕ × Cause) → Cutting → LineReporting → List WrongCase → List ℕ → Type 0
 ReportsBy terms kind None cutting s reported bytes = GoesOn terms kind cutting s reported bytes
 ReportsBy terms kind (Some malformed) cutting s reported bytes =
-    (more : List ℕ) → report_of terms kind (bytes ++ more) ≡ record { wrong = reported; case_counts = s.case_counts; malformed = Some malformed }
+    (more : List ℕ) → report_of terms kind (bytes ++ more) ≡ record {
+      wrong = reported;
+      case_counts = s.case_counts;
+      malformed = Some malformed;
+    }
 
 -- the report is on a file of this kind with these terms, was given these bytes in any pieces, and reported these wrong
 -- cases
-pub record Reports (terms : Terms) (kind : Kind) (report : Reporting) (reported : List WrongCase) (bytes : List ℕ) : Type 0 where
+pub record Reports (terms : Terms) (kind : Kind) (report : Reporting) (reported : List WrongCase)
+    (bytes : List ℕ) : Type 0 where
   pub of : report.kind ≡ kind
   pub is : ReportsBy terms kind report.malformed report.cutting report.lines reported bytes
 

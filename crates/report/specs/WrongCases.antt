@@ -62,11 +62,13 @@ wrong_case_in leniency number expected d layout =
 
 -- the same for the layout under the direction
 abbrev pub wrong_case_under : Terms → ℕ → Expected → Direction → Option WrongCase
-wrong_case_under terms number expected d = wrong_case_in terms.leniency number expected d (layout_under terms.limits expected d)
+wrong_case_under terms number expected d =
+    wrong_case_in terms.leniency number expected d (layout_under terms.limits expected d)
 
 -- the wrong cases of a row under these directions
 abbrev pub wrong_cases_under : Terms → ℕ → Expected → List Direction → List WrongCase
-wrong_cases_under terms number expected ds = flat_map (λ d. option_to_list (wrong_case_under terms number expected d)) ds
+wrong_cases_under terms number expected ds =
+    flat_map (λ d. option_to_list (wrong_case_under terms number expected d)) ds
 
 -- the wrong cases of the line with this number
 abbrev pub wrong_cases_in : Terms → ℕ → Finding → List WrongCase

@@ -13,8 +13,8 @@ ghost use Rattle.report.specs.declared.terms.Parts.TheVariants as parts_of;
 
 use crate::read_order::ReadOrder;
 use crate::terms::{Leniency, Parts, Positions};
-use bidtests::expected::Expected;
 use bidtests::compare::agrees_with;
+use bidtests::expected::Expected;
 use bidtests::verdict::Place;
 use lines::layout::Layout;
 use units::level::Level;
@@ -83,7 +83,8 @@ fn differing_order(compared: Positions, claimed: &[usize], layout: &Layout<'_>) 
 /// Returns the first place in the expected order, as it is read, where it differs from the layout.
 fn wrong_order(compared: Positions, expected: Expected<'_>, layout: &Layout<'_>) -> Option<Place>
     ensures { result ≡ placed_in Order (first_difference nat_eq
-        (order_read compared (view_of layout.now).levels expected.entry.order.now) (all_orders (view_of layout.now)) 0) }
+        (order_read compared (view_of layout.now).levels expected.entry.order.now) (all_orders
+            (view_of layout.now)) 0) }
 {
     differing_order(compared, expected.order, layout).map(Place::Order)
 }

@@ -5,8 +5,8 @@
 //! its memory when it is made, and none after that.
 #![tactic(auto)]
 
+pub mod case_counts;
 mod comparing;
-pub mod theorems;
 mod line_report;
 pub mod print;
 mod read_order;
@@ -14,6 +14,6 @@ pub mod report;
 pub mod report_text;
 mod row_cases;
 pub mod state;
-pub mod case_counts;
 pub mod terms;
+pub mod theorems;
 pub mod wrong_case;

@@ -5,8 +5,8 @@ ghost use Rattle.units.specs.Text.{longest_line};
 ghost use Rattle.lines.specs.Scratches.{room_of};
 ghost use Rattle.bidtests.specs.declared.line_reader.TheConstants.{MOST_UNITS};
 
-use crate::row_cases::find_wrong_cases;
 use crate::case_counts::CaseCounts;
+use crate::row_cases::find_wrong_cases;
 use crate::terms::Terms;
 use crate::wrong_case::WrongCase;
 use bidtests::kind::Kind;
@@ -119,7 +119,9 @@ impl LineReport {
             &self.terms,
             &mut self.found,
         );
-        self.case_counts = self.case_counts.with_row(asked.directions.len(), &self.found);
+        self.case_counts = self
+            .case_counts
+            .with_row(asked.directions.len(), &self.found);
         Ok(())
     }
 }

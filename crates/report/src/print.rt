@@ -67,7 +67,8 @@ fn print_piece<W: Write>(
     piece: &[u8],
     most: u64,
 ) -> io::Result<u64>
-    ensures { IfOk result (λ remaining. (reported : List Reported) × HasReported report.old reported piece.now report.new
+    ensures { IfOk result (λ remaining. (reported : List Reported) ×
+        HasReported report.old reported piece.now report.new
         × HasWrittenFirst most reported (W.contents w.old) (W.contents w.new) remaining) }
 {
     let mut rest = piece;

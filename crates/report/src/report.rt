@@ -6,8 +6,8 @@ ghost use Rattle.report.specs.declared.wrong_case.WrongCase.{WrongCase as Report
 ghost use Rattle.report.specs.FileReports.{is_right, report_of};
 ghost use Rattle.report.specs.Reporting.{Reports, report_at_end};
 
-use crate::state::ReportState;
 use crate::case_counts::CaseCounts;
+use crate::state::ReportState;
 use crate::terms::Terms;
 use crate::wrong_case::WrongCase;
 use bidtests::kind::Kind;

@@ -81,7 +81,12 @@ fn position_in(layout: &Layout<'_>, index: usize) -> Item
 }
 
 /// Returns the expected item at the first place where the expected values, as they are read, differ from the layout.
-fn expected_item(leniency: Leniency, expected: Expected<'_>, layout: &Layout<'_>, place: Place) -> Item
+fn expected_item(
+    leniency: Leniency,
+    expected: Expected<'_>,
+    layout: &Layout<'_>,
+    place: Place,
+) -> Item
     requires { place_in (view_of layout.now) (read_expected leniency (view_of layout.now) (expected_of expected))
         ≡ Some place }
     ensures { result ≡ expected_at (read_expected leniency (view_of layout.now) (expected_of expected.entry)) place }

@@ -12,8 +12,8 @@ ghost use Rattle.report.specs.Reporting.{IsAfterLast, IsAfterCut, HasNothingNew}
 ghost use Rattle.report.specs.Reporting.{malformed_by, malformed_last, report_at_end};
 ghost use Rattle.report.specs.ReportedSoFar.{HasReportedFor, TakesIn, ended_in};
 
-use crate::line_report::LineReport;
 use crate::case_counts::CaseCounts;
+use crate::line_report::LineReport;
 use crate::terms::Terms;
 use crate::wrong_case::WrongCase;
 use bidtests::kind::Kind;
@@ -84,7 +84,8 @@ impl ReportState {
     /// Makes the state before the first byte of a file of either kind, with these terms. It takes all of its memory
     /// here. Fails with `Memory`.
     pub fn new(alloc: Global, terms: Terms) -> Result<ReportState, Memory>
-        ensures represents { IfOk result (λ state. (tables : Option TablesOf) → HasReportedFor terms tables state [] []) }
+        ensures represents { IfOk result (λ state. (tables : Option TablesOf) →
+            HasReportedFor terms tables state [] []) }
         ensures none { IfOk result (λ state. state.lines.found ≡ []) }
     {
         let lines = LineReport::new(alloc, terms)?;
@@ -121,7 +122,8 @@ impl ReportState {
     }
 
     /// Takes the end of a file of this kind, which also ends the line that has begun. Afterwards `found` returns the
-    /// wrong cases of a last line that no LF ends, `case_counts` the counts of the file, and `malformed` its first malformed
+    /// wrong cases of a last line that no LF ends, `case_counts` the counts of the file, and `malformed` its first
+    /// malformed
     /// line. It takes no memory and always succeeds. The contract doesn't say which bytes the state represents
     /// afterwards.
     pub fn finish(&mut self, kind: Kind<'_>)

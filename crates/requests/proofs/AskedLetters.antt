@@ -20,17 +20,21 @@ mapped_some : {A B : Type 0} (f : A → B) (o : Option A) (y : B) → option_map
 mapped_some f None y e = absurd (cc)
 mapped_some f (Some x) y e = (x, refl)
 
-pub classes_read : (letters : RowLetters) (classes : List Class) → classes_asked letters ≡ Some classes → AreDone (alphabet_parts Classes letters)
+pub classes_read : (letters : RowLetters) (classes : List Class) → classes_asked letters ≡ Some classes →
+    AreDone (alphabet_parts Classes letters)
 classes_read (Alphabet word) classes e = ((classes, e), tt)
 classes_read (OfForm form) classes e = (tt, tt)
 
-pub chars_read : (letters : RowLetters) (chars : List ℕ) → chars_asked letters ≡ Some chars → AreDone (alphabet_parts Characters letters)
+pub chars_read : (letters : RowLetters) (chars : List ℕ) → chars_asked letters ≡ Some chars →
+    AreDone (alphabet_parts Characters letters)
 chars_read (Alphabet word) chars e = ((chars, e), tt)
 chars_read (OfForm form) chars e = tt
 
 -- if there are letters, what is read for them is done
-pub alphabet_done : (files : FileFacts) (k : FileKind) (source : TableSource) (kind : Kind) (letters : RowLetters) (xs : List Letter)
-    → IsKindOfFile files k (Some source) kind → letters_asked kind letters ≡ Some xs → AreDone (alphabet_parts k letters)
+pub alphabet_done : (files : FileFacts) (k : FileKind) (source : TableSource) (kind : Kind) (letters : RowLetters)
+    (xs : List Letter)
+    → IsKindOfFile files k (Some source) kind → letters_asked kind letters ≡ Some xs →
+    AreDone (alphabet_parts k letters)
 alphabet_done files Classes source kind letters xs h e =
     let noted = subst (λ (r : Kind). letters_asked r letters ≡ Some xs) h e in
     let read = mapped_some (map letter.Class) (classes_asked letters) xs noted in

@@ -15,9 +15,11 @@ use Rattle.requests.specs.declared.fault.Fault.TheVariants.{CannotWrite}
 use Rattle.requests.specs.declared.request.TableSource.{TableSource}
 use Rattle.requests.proofs.FirstFaults.{first_fault_after, first_of_all, passed_on, source_done, whole_done}
 
-module _ (files : FileFacts) (form : Form) (direction : Direction) (source : TableSource) (file : List ℕ) (before : Option (List ℕ)) where
+module _ (files : FileFacts) (form : Form) (direction : Direction) (source : TableSource) (file : List ℕ)
+    (before : Option (List ℕ)) where
   -- by the tables, before anything is written
-  pub tables_fail : {T : Type 0} (r : Result T Fault) (e : Fault) → IsErrAnd r (λ given. given ≡ e) → IsFirstFault (source_parts files source) e
+  pub tables_fail : {T : Type 0} (r : Result T Fault) (e : Fault) → IsErrAnd r (λ given. given ≡ e) →
+      IsFirstFault (source_parts files source) e
       → IfErr r (FailsToPrint files form direction source file before before)
   unfolding printing_parts
   tables_fail r e same h = passed_on (FailsToPrint files form direction source file before before) r e same
@@ -30,11 +32,23 @@ module _ (files : FileFacts) (form : Form) (direction : Direction) (source : Tab
         → IfErr r (FailsToPrint files form direction source file before before)
     unfolding printing_parts
     opening_fails r e same h = passed_on (FailsToPrint files form direction source file before before) r e same
-        (inl (inl (first_fault_after (source_parts files source) (opening_part files most_text_bytes file ∷ []) e (source_done files source tables stated) (inl h), refl)))
+        (inl (inl (
+          first_fault_after (source_parts files source) (opening_part files most_text_bytes file ∷ []) e
+              (source_done files source tables stated) (inl h),
+          refl,
+        )))
 
     -- by a write, after all of the text was read and is UTF-8
     pub write_fails : (after : Option (List ℕ)) (bytes : List ℕ) → files.Begins (origin_of file) most_text_bytes bytes
-        → files.Holds (origin_of file) most_text_bytes bytes → IsUtf8 bytes → FailsToPrint files form direction source file before after CannotWrite
+        → files.Holds (origin_of file) most_text_bytes bytes → IsUtf8 bytes →
+        FailsToPrint files form direction source file before after CannotWrite
     write_fails after bytes begins read utf8 =
-        let text : HoldsText files file (chars bytes) = record { bytes = bytes; begins = begins; read = read; utf8 = utf8; text_is = refl } in
+        let text : HoldsText files file (chars bytes) = record {
+          bytes = bytes;
+          begins = begins;
+          read = read;
+          utf8 =
+              utf8;
+          text_is = refl;
+        } in
         inl (inr (whole_done files source file tables stated (chars bytes) text, tt))

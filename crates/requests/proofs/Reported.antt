@@ -33,7 +33,8 @@ status_from (w ∷ ws) m rows cases = refl
 
 -- the status of a report is that of the verdict on the file
 pub status_of_report : (rows : Kind) (bytes : List ℕ)
-    → report_status (is_right (report_of (strict_terms standard) rows bytes)) ≡ verdict_status (verdict_of standard rows bytes)
+    → report_status (is_right (report_of (strict_terms standard) rows bytes)) ≡
+    verdict_status (verdict_of standard rows bytes)
 status_of_report rows bytes =
     let report = report_of (strict_terms standard) rows bytes in
     status_from report.wrong report.malformed report.case_counts.rows report.case_counts.cases
@@ -41,22 +42,29 @@ status_of_report rows bytes =
 
 module _ (files : FileFacts) (before after : Option (List ℕ)) where
   -- what ends a part of a request ends it
-  pub steps_fail : (request : Request) {T : Type 0} (r : Result T Fault) → IfErr r (FailsOver (parts_of files request) (all_parts_of files request) before after)
+  pub steps_fail : (request : Request) {T : Type 0} (r : Result T Fault) →
+      IfErr r (FailsOver (parts_of files request) (all_parts_of files request) before after)
       → IfErr r (Fails files before after request)
   steps_fail request (Ok x) h = h
   steps_fail request (Err fault) h = inl h
 
   -- the same for a fault that is returned unchanged
   pub passed_fail : (request : Request) {T : Type 0} (r : Result T Fault) (e : Fault) → IsErrAnd r (λ given. given ≡ e)
-      → FailsOver (parts_of files request) (all_parts_of files request) before after e → IfErr r (Fails files before after request)
+      → FailsOver (parts_of files request) (all_parts_of files request) before after e →
+      IfErr r (Fails files before after request)
   passed_fail request r e same h = passed_on (Fails files before after request) r e same (inl h)
 
   -- what ends a report on a file of these rows ends its request, after the tables that the rows need
-  pub rows_fail : (kind : FileKind) (source : Option TableSource) (file : Bor (List ℕ)) (options : ReportOptions) (rows : Kind)
-      → IsKindOfFile files kind source rows → {T : Type 0} (r : Result T Fault) (e : Fault) → IsErrAnd r (λ given. given ≡ e)
-      → FailsAs files rows file.now options before after e → IfErr r (Fails files before after (Report kind source file options))
+  pub rows_fail : (kind : FileKind) (source : Option TableSource) (file : Bor (List ℕ)) (options : ReportOptions)
+      (rows : Kind)
+      → IsKindOfFile files kind source rows → {T : Type 0} (r : Result T Fault) (e : Fault) →
+      IsErrAnd r (λ given. given ≡ e)
+      → FailsAs files rows file.now options before after e →
+      IfErr r (Fails files before after (Report kind source file options))
   rows_fail kind source file options rows is r e same (inl h) =
-      passed_fail (Report kind source file options) r e same (FailsOver-following (row_table_parts files kind source) (opening_part files most_file_bytes file.now ∷ []) (file_part files most_file_bytes file.now ∷ []) before after e
+      passed_fail (Report kind source file options) r e same (FailsOver-following (row_table_parts files kind source)
+      (opening_part files most_file_bytes file.now ∷ []) (file_part files most_file_bytes file.now ∷
+      []) before after e
       (row_tables_done files kind source rows is) h)
   rows_fail kind source file options rows is r e same (inr h) =
       passed_on (Fails files before after (Report kind source file options)) r e same (inr (rows, is, h))

@@ -152,7 +152,8 @@ pub record EndsBy (detail : Detail) (fault : Fault) (before after : Option (List
 
 -- when a fault ends the opening of this file: it can't be opened, for this reason, or an allocation failed
 abbrev pub EndsOpening : (Unread → Type 0) → NamedFile → Fault → Type 0
-EndsOpening Cannot file (CannotRead name folder most unread Whole) = (named_file name folder most ≡ file) × Cannot unread
+EndsOpening Cannot file (CannotRead name folder most unread Whole) = (named_file name folder most ≡ file) ×
+    Cannot unread
 EndsOpening Cannot file OutOfMemory = Unit {0}
 EndsOpening Cannot file _ = ⊥
 

@@ -18,13 +18,15 @@ kind_of (rows_of.Characters tables) = Characters
 -- these are the tables of this source if the rows of a file of this kind need tables
 abbrev pub HasRowTables : FileFacts → FileKind → Option TableSource → Option TablesOf → Type 0
 HasRowTables files Classes source tables = tables ≡ None
-HasRowTables files Characters (Some source) tables = (taken : TablesOf) × AreTablesBy files source taken × (tables ≡ Some taken)
+HasRowTables files Characters (Some source) tables = (taken : TablesOf) × AreTablesBy files source taken ×
+    (tables ≡ Some taken)
 HasRowTables files Characters None tables = ⊥
 
 -- this is the kind of rows with these tables: classes if there are none
 abbrev pub AreRowsBy : Option TablesOf → Kind → Type 0
 AreRowsBy None rows = rows ≡ rows_of.Classes
-AreRowsBy (Some tables) rows = (borrowed : Bor TablesOf) × (borrowed.now ≡ tables) × (rows ≡ rows_of.Characters borrowed)
+AreRowsBy (Some tables) rows = (borrowed : Bor TablesOf) × (borrowed.now ≡ tables) ×
+    (rows ≡ rows_of.Characters borrowed)
 
 -- the kind of the rows of a file of this kind: classes, or characters with the tables of this source
 abbrev pub IsKindOfFile : FileFacts → FileKind → Option TableSource → Kind → Type 0

@@ -14,7 +14,8 @@ first_unread read items = find (λ item. not (is_some (read item))) items
 
 -- when a fault ends the reading of a value's items: an allocation failed, or it is the fault of the first item that
 -- can't be read
-abbrev pub EndsItems : {A : Type 0} → (List ℕ → Option A) → (Bor (List ℕ) → Bor (List ℕ) → Fault) → List ℕ → Fault → Type 0
+abbrev pub EndsItems : {A : Type 0} → (List ℕ → Option A) → (Bor (List ℕ) → Bor (List ℕ) → Fault) → List ℕ → Fault →
+    Type 0
 EndsItems read noted word fault = (fault ≡ OutOfMemory) ⊎ ((whole : Bor (List ℕ)) × (item : Bor (List ℕ))
     × (fault ≡ noted whole item) × (whole.now ≡ word) × (first_unread read (items_of word) ≡ Some item.now))
 

@@ -33,14 +33,16 @@ IsClassesVerdict bytes verdict = verdict ≡ classes_verdict standard bytes
 -- this source
 abbrev pub IsCharactersVerdict : FileFacts → TableSource → List ℕ → Verdict → Type 0
 IsCharactersVerdict files source bytes verdict =
-    (tables : TablesOf) × AreTablesBy files source tables × (verdict ≡ characters_verdict standard (unit_by tables) bytes)
+    (tables : TablesOf) × AreTablesBy files source tables ×
+    (verdict ≡ characters_verdict standard (unit_by tables) bytes)
 
 -- the verdict on the bytes of a file of these rows, with the standard limits
 abbrev pub IsVerdictOn : Kind → List ℕ → Verdict → Type 0
 IsVerdictOn rows bytes verdict = verdict ≡ verdict_of standard rows bytes
 
 -- FILE was read whole, and the output and the exit status are those of the verdict on its bytes
-pub record HasJudged (files : FileFacts) (IsVerdict : List ℕ → Verdict → Type 0) (file : List ℕ) (before after : Option (List ℕ)) (status : ℕ) : Type 0 where
+pub record HasJudged (files : FileFacts) (IsVerdict : List ℕ → Verdict →
+    Type 0) (file : List ℕ) (before after : Option (List ℕ)) (status : ℕ) : Type 0 where
   pub bytes : List ℕ
   pub read : files.Holds (origin_of file) most_file_bytes bytes
   pub verdict : Verdict

@@ -53,7 +53,8 @@ BreaksOff files before after (Text source direction file Levels) fault =
     TextBreaksOff files form.Levels direction source file.now before after fault
 BreaksOff files before after (Text source direction file (Reorder columns)) fault =
     TextBreaksOff files (form.Reorder columns) direction source file.now before after fault
-BreaksOff files before after (Report kind tables file options) fault = HasBrokenOff files kind tables file.now options before after fault
+BreaksOff files before after (Report kind tables file options) fault =
+    HasBrokenOff files kind tables file.now options before after fault
 BreaksOff files before after _ fault = ⊥
 
 -- a request fails: in a part that is read before anything is written, or by a write after everything was read, or
@@ -78,7 +79,8 @@ RequestLeaves before after request fault = takes_memory_first request ≡ true �
 -- a request is done, or it fails
 abbrev pub IsDoneOrFails : FileFacts → Option (List ℕ) → Option (List ℕ) → Request → Result Outcome Fault → Type 0
 IsDoneOrFails files before after request (Ok outcome) = IsDone files before after request outcome
-IsDoneOrFails files before after request (Err fault) = Fails files before after request fault × RequestLeaves before after request fault
+IsDoneOrFails files before after request (Err fault) = Fails files before after request fault ×
+    RequestLeaves before after request fault
 
 -- a run ends without a fault: with this status, and the known contents of standard error are unchanged
 pub record EndsWell (status : ℕ) (before after : Option (List ℕ)) (ended : Ended) : Type 0 where
@@ -94,7 +96,8 @@ EndsAs detail (Ok outcome) before after ended = EndsWell (outcome_status outcome
 EndsAs detail (Err fault) before after ended = EndsBy detail fault before after ended
 
 -- a request had this outcome, with this growth of `out`, and the run ended so, with this growth of `err`
-pub record HasEnded (files : FileFacts) (before after : Option (List ℕ)) (err_before err_after : Option (List ℕ)) (request : Request) (detail : Detail) (ended : Ended) : Type 0 where
+pub record HasEnded (files : FileFacts) (before after : Option (List ℕ)) (err_before err_after : Option (List ℕ))
+    (request : Request) (detail : Detail) (ended : Ended) : Type 0 where
   pub outcome : Result Outcome Fault
   pub comes : IsDoneOrFails files before after request outcome
   pub ends : EndsAs detail outcome err_before err_after ended

@@ -61,7 +61,8 @@ EndsUnnamed fault = fault ≡ TablesNeeded
 -- when a fault ends the reading of FILE: it can't be opened or a read of it fails, for the reason in the fault, or an
 -- allocation failed
 abbrev pub EndsFile : FileFacts → ℕ → List ℕ → Fault → Type 0
-EndsFile files most file (CannotRead name folder limit unread Whole) = (named_file name folder limit ≡ word_file most file)
+EndsFile files most file (CannotRead name folder limit unread Whole) =
+    (named_file name folder limit ≡ word_file most file)
     × (files.Rejects (origin_of file) most unread ⊎ ((bytes : List ℕ) × files.Fails (origin_of file) most bytes unread))
 EndsFile files most file OutOfMemory = Unit {0}
 EndsFile files most file _ = ⊥
@@ -82,7 +83,8 @@ EndsText files file _ = ⊥
 
 -- when a fault ends the check of its lines: this line is the first that is too long for a row
 abbrev pub EndsLines : FileFacts → List ℕ → Fault → Type 0
-EndsLines files file (LongLine named line) = (named.now ≡ file) × (text : List ℕ) × HoldsText files file text × (first_long_line text ≡ Some line)
+EndsLines files file (LongLine named line) = (named.now ≡ file) × (text : List ℕ) × HoldsText files file text ×
+    (first_long_line text ≡ Some line)
 EndsLines files file _ = ⊥
 
 -- that a value has no more bytes than a text may have; otherwise this is the fault
@@ -163,7 +165,8 @@ MemoryLeaves before after fault = fault ≡ OutOfMemory → after ≡ before
 -- the fault is that of the first of these parts that fails, and nothing is written; or all these parts are done, and a
 -- write or an allocation failed
 abbrev pub FailsOver : List RequestPart → List RequestPart → Option (List ℕ) → Option (List ℕ) → Fault → Type 0
-FailsOver first all before after fault = (IsFirstFault first fault × (after ≡ before)) ⊎ (AreDone all × EndsWriting fault)
+FailsOver first all before after fault = (IsFirstFault first fault × (after ≡ before)) ⊎
+    (AreDone all × EndsWriting fault)
 
 -- the same if nothing is written before all parts are done
 abbrev pub FailsIn : List RequestPart → Option (List ℕ) → Option (List ℕ) → Fault → Type 0
@@ -210,7 +213,8 @@ module _ (files : FileFacts) where
   -- what is read to print rows
   unfoldable pub rows_parts : AskedRows → List RequestPart
   rows_parts asked = lengths_part asked.lengths.now ∷ directions_part asked.directions.now
-      ∷ (alphabet_parts asked.kind asked.letters ++ (row_table_parts asked.kind (Some asked.tables) ++ texts_part asked ∷ []))
+      ∷ (alphabet_parts asked.kind asked.letters ++ (row_table_parts asked.kind (Some asked.tables) ++
+      texts_part asked ∷ []))
 
   -- the reading of FILE to its end
   abbrev pub file_part : ℕ → List ℕ → RequestPart
@@ -249,7 +253,8 @@ module _ (files : FileFacts) where
 
   -- what is read to print the lines of a text as rows
   unfoldable pub lines_parts : AskedLines → List RequestPart
-  lines_parts asked = directions_part asked.directions.now ∷ (source_parts asked.tables ++ row_text_parts asked.file.now)
+  lines_parts asked = directions_part asked.directions.now ∷ (source_parts asked.tables ++
+      row_text_parts asked.file.now)
 
   -- what is read to explain a text
   unfoldable pub whole_parts : TableSource → List ℕ → List RequestPart
@@ -268,7 +273,8 @@ module _ (files : FileFacts) where
   row_search_part wanted = record {
     Done = (rows : Kind) × IsKindOfFile files wanted.kind wanted.tables rows
         × ((row : RowView) × HasAtLine files rows wanted.line.value wanted.file.now (Ok row));
-    EndsBy = λ fault. (rows : Kind) × IsKindOfFile files wanted.kind wanted.tables rows × EndsSearch files rows wanted.line.value wanted.file.now fault;
+    EndsBy = λ fault. (rows : Kind) × IsKindOfFile files wanted.kind wanted.tables rows ×
+        EndsSearch files rows wanted.line.value wanted.file.now fault;
   }
 
   -- what is read to explain a row
@@ -291,5 +297,6 @@ module _ (files : FileFacts) where
   -- all that is read for a request
   abbrev pub all_parts_of : Request → List RequestPart
   all_parts_of (Text source direction file print) = whole_parts source file.now
-  all_parts_of (Report kind tables file options) = row_table_parts kind tables ++ file_part most_file_bytes file.now ∷ []
+  all_parts_of (Report kind tables file options) =
+      row_table_parts kind tables ++ file_part most_file_bytes file.now ∷ []
   all_parts_of request = parts_of request

@@ -34,7 +34,8 @@ pub record HoldsText (files : FileFacts) (file text : List ℕ) : Type 0 where
 
 -- FILE was read whole and is UTF-8, and the known output grew by what is printed of its characters with the tables of
 -- this source
-pub record HasPrinted (files : FileFacts) (printed : TablesOf → List ℕ → List ℕ) (source : TableSource) (file : List ℕ) (before after : Option (List ℕ)) : Type 0 where
+pub record HasPrinted (files : FileFacts) (printed : TablesOf → List ℕ →
+    List ℕ) (source : TableSource) (file : List ℕ) (before after : Option (List ℕ)) : Type 0 where
   pub tables : TablesOf
   pub stated : AreTablesBy files source tables
   pub text : List ℕ
@@ -50,7 +51,8 @@ pub record HasExplained (word : List ℕ) (direction : Direction) (before after 
 
 -- a value lists code points, and the known output grew by what `explain` prints of a text of these characters with the
 -- tables of this source
-pub record HasExplainedCodes (files : FileFacts) (word : List ℕ) (source : TableSource) (direction : Direction) (before after : Option (List ℕ)) : Type 0 where
+pub record HasExplainedCodes (files : FileFacts) (word : List ℕ) (source : TableSource) (direction : Direction)
+    (before after : Option (List ℕ)) : Type 0 where
   pub short : length word ≤ most_text_bytes
   pub chars : List ℕ
   pub chars_named : codes_named word ≡ Some chars

@@ -25,7 +25,8 @@ naming_in Characters tables = naming.Codes tables
 
 -- no line of this text is too long for a row, and the known output grew by the file of its lines that have a character,
 -- under these directions, with the standard limits; the judge's verdict on that file is a yes
-pub record HasPrintedTextRows (naming : Naming) (directions : List Direction) (text : List ℕ) (before after : Option (List ℕ)) : Type 0 where
+pub record HasPrintedTextRows (naming : Naming) (directions : List Direction) (text : List ℕ)
+    (before after : Option (List ℕ)) : Type 0 where
   pub short : first_long_line text ≡ None
   pub noted : Appends before after (cases_text standard (kind_of naming) (cases_of_text naming directions text))
   pub right : JudgeSaysYes standard (kind_of naming) (cases_of_text naming directions text)

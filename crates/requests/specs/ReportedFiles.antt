@@ -34,7 +34,8 @@ terms_by leniency = record { limits = standard; leniency = leniency }
 -- FILE was read whole, as a file of these rows; the known output grew by the text of the report on its bytes, with at
 -- most so many wrong cases; and the exit status says whether the file is right; if all expected results are compared,
 -- it is the status of the verdict on these bytes
-pub record HasReportedAs (files : FileFacts) (rows : Kind) (file : List ℕ) (options : ReportOptions) (before after : Option (List ℕ)) (status : ℕ) : Type 0 where
+pub record HasReportedAs (files : FileFacts) (rows : Kind) (file : List ℕ) (options : ReportOptions)
+    (before after : Option (List ℕ)) (status : ℕ) : Type 0 where
   pub bytes : List ℕ
   pub begins : files.Begins (origin_of file) most_file_bytes bytes
   pub read : files.Holds (origin_of file) most_file_bytes bytes
@@ -44,16 +45,19 @@ pub record HasReportedAs (files : FileFacts) (rows : Kind) (file : List ℕ) (op
 
 -- a read of FILE failed after these bytes, for this reason; unless a write failed, the known output grew by the lines
 -- of the first wrong cases, at most so many, in the lines that the bytes decide
-pub record ReadFailsAs (files : FileFacts) (rows : Kind) (file : List ℕ) (options : ReportOptions) (before after : Option (List ℕ)) (unread : Unread) (written : Written) : Type 0 where
+pub record ReadFailsAs (files : FileFacts) (rows : Kind) (file : List ℕ) (options : ReportOptions)
+    (before after : Option (List ℕ)) (unread : Unread) (written : Written) : Type 0 where
   pub bytes : List ℕ
   pub failed : files.Fails (origin_of file) most_file_bytes bytes unread
-  pub noted : IsWritten written before after (first_cases_text options.most (decided_cases (terms_by options.leniency) rows bytes))
+  pub noted : IsWritten written before after
+      (first_cases_text options.most (decided_cases (terms_by options.leniency) rows bytes))
 
 -- when a fault breaks off a report on a file of these rows: a read fails, for the reason in the fault; or, after FILE
 -- was opened, nobody reads the output any more
 abbrev pub BreaksOffAs : FileFacts → Kind → List ℕ → ReportOptions → Option (List ℕ) → Option (List ℕ) → Fault → Type 0
 BreaksOffAs files rows file options before after (CannotRead name folder most unread written) =
-    (named_file name folder most ≡ word_file most_file_bytes file) × ReadFailsAs files rows file options before after unread written
+    (named_file name folder most ≡ word_file most_file_bytes file) ×
+    ReadFailsAs files rows file options before after unread written
 BreaksOffAs files rows file options before after NobodyReads = AreDone (opening_part files most_file_bytes file ∷ [])
 BreaksOffAs files rows file options before after _ = ⊥
 
@@ -61,15 +65,18 @@ BreaksOffAs files rows file options before after _ = ⊥
 -- report breaks off
 abbrev pub FailsAs : FileFacts → Kind → List ℕ → ReportOptions → Option (List ℕ) → Option (List ℕ) → Fault → Type 0
 FailsAs files rows file options before after fault =
-    FailsOver (opening_part files most_file_bytes file ∷ []) (file_part files most_file_bytes file ∷ []) before after fault
+    FailsOver (opening_part files most_file_bytes file ∷ []) (file_part files most_file_bytes file ∷
+    []) before after fault
     ⊎ BreaksOffAs files rows file options before after fault
 
 -- the file is reported on, with the tables of this source if they are needed
-abbrev pub HasReported : FileFacts → FileKind → Option TableSource → List ℕ → ReportOptions → Option (List ℕ) → Option (List ℕ) → ℕ → Type 0
+abbrev pub HasReported : FileFacts → FileKind → Option TableSource → List ℕ → ReportOptions → Option (List ℕ) →
+    Option (List ℕ) → ℕ → Type 0
 HasReported files kind source file options before after status =
     (rows : Kind) × IsKindOfFile files kind source rows × HasReportedAs files rows file options before after status
 
 -- the report on it breaks off by this fault
-abbrev pub HasBrokenOff : FileFacts → FileKind → Option TableSource → List ℕ → ReportOptions → Option (List ℕ) → Option (List ℕ) → Fault → Type 0
+abbrev pub HasBrokenOff : FileFacts → FileKind → Option TableSource → List ℕ → ReportOptions → Option (List ℕ) →
+    Option (List ℕ) → Fault → Type 0
 HasBrokenOff files kind source file options before after fault =
     (rows : Kind) × IsKindOfFile files kind source rows × BreaksOffAs files rows file options before after fault

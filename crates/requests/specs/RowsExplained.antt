@@ -18,7 +18,8 @@ use Rattle.requests.specs.declared.request.WantedRow.{WantedRow}
 
 -- FILE, as a file of these rows, has this result at the line of this number: it begins with bytes that decide the
 -- result; if they are all bytes of FILE, they decide it for a file that ends there
-pub record HasAtLine (files : FileFacts) (rows : Kind) (number : ℕ) (file : List ℕ) (found : Result RowView RowFault) : Type 0 where
+pub record HasAtLine (files : FileFacts) (rows : Kind) (number : ℕ) (file : List ℕ) (found : Result RowView RowFault) :
+    Type 0 where
   pub bytes : List ℕ
   pub begins : files.Begins (origin_of file) most_file_bytes bytes
   pub wanted : IsWanted (files.Holds (origin_of file) most_file_bytes bytes) rows number bytes found

@@ -69,7 +69,8 @@ cases_of_form Exhaustive directions texts = cases_in texts directions
 cases_of_form (Random seed count) directions texts = cases_drawn (drawn_from seed count texts) directions
 
 -- such a file exists, and the known output grew by it, with the standard limits; the judge's verdict on it is a yes
-pub record HasPrintedTexts (kind : Kind) (form : RowsForm) (directions : List Direction) (texts : ExhaustiveOf) (before after : Option (List ℕ)) : Type 0 where
+pub record HasPrintedTexts (kind : Kind) (form : RowsForm) (directions : List Direction) (texts : ExhaustiveOf)
+    (before after : Option (List ℕ)) : Type 0 where
   pub some : rows_fault_in form texts ≡ None
   pub noted : Appends before after (cases_text standard kind (cases_of_form form directions texts))
   pub right : JudgeSaysYes standard kind (cases_of_form form directions texts)

@@ -38,7 +38,8 @@ FailsFaultless files fault path unread = (bytes : List ℕ)
 
 -- the file was read whole, and no line is faulty
 abbrev pub IsFaultless : FileFacts → (List (List ℕ) → List ℕ → Option LineFault) → List ℕ → Type 0
-IsFaultless files fault path = (bytes : List ℕ) × files.Holds (FileNamed path) most_file_bytes bytes × (first_fault fault [] (lines_of bytes) ≡ None)
+IsFaultless files fault path = (bytes : List ℕ) × files.Holds (FileNamed path) most_file_bytes bytes ×
+    (first_fault fault [] (lines_of bytes) ≡ None)
 
 -- when a fault that names this file ends the reading of a table's file that was opened: a read fails, the file has a
 -- first faulty line, or an allocation failed
@@ -66,4 +67,5 @@ CannotOpenClasses files folder unread = CannotOpen files folder class_name unrea
 abbrev pub EndsClasses : FileFacts → List ℕ → Fault → Type 0
 EndsClasses files folder noted =
     EndsOpening (CannotOpenClasses files folder) (table_file folder class_name) noted
-    ⊎ ((path : List ℕ) × IsClassPath files folder path × EndsReading files class_fault path (table_file folder class_name) noted)
+    ⊎ ((path : List ℕ) × IsClassPath files folder path ×
+    EndsReading files class_fault path (table_file folder class_name) noted)

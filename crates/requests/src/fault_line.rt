@@ -77,7 +77,8 @@ pub fn print_malformed_line<E: Write>(
 
 /// Writes a line that reports an item of an option's value. `noted` is what is wrong with it.
 pub fn print_item<E: Write>(err: &mut E, item: &[u8], noted: &[u8]) -> io::Result<()>
-    ensures { OnOk result (Appends (E.contents err.old) (E.contents err.new) (codes "bidi: " ++ item.now ++ noted.now)) }
+    ensures { OnOk result (Appends (E.contents err.old) (E.contents err.new) (codes "bidi: " ++ item.now ++
+        noted.now)) }
 {
     err.write_all(b"bidi: ")?;
     err.write_all(item)?;

@@ -27,7 +27,8 @@ follows_bracket-below before b j lt = grind (arith, ne_eqb, le-ltb)
 pub follows_bracket-same : (before : List Class) (b : ℕ) → follows_bracket before b b ≡ true
 follows_bracket-same before b = ap (λ t. t || (ltb b b && marks before b b)) (eq-eqb b b refl)
 
-pub follows_bracket-more : (before : List Class) (b j : ℕ) → b ≤ j → follows_bracket before b (suc j) ≡ (follows_bracket before b j && is_nonspacing (class_at before (suc j)))
+pub follows_bracket-more : (before : List Class) (b j : ℕ) → b ≤ j →
+    follows_bracket before b (suc j) ≡ (follows_bracket before b j && is_nonspacing (class_at before (suc j)))
 follows_bracket-more before b j le =
     let n : suc j - b ≡ suc (j - b) = omega arith in
     let e : b + 1 + (j - b) ≡ suc j = omega arith in
@@ -40,7 +41,8 @@ follows_bracket-more before b j le =
     ∙ ap (λ t. t && mark (suc j)) (sym (follows_bracket-from before b j le))
 
 -- no mark follows across a class that is no mark
-pub follows_bracket-past : (before : List Class) (b k : ℕ) → b < k → is_nonspacing (class_at before k) ≡ false → (j : ℕ) → k ≤ j → follows_bracket before b j ≡ false
+pub follows_bracket-past : (before : List Class) (b k : ℕ) → b < k → is_nonspacing (class_at before k) ≡ false →
+    (j : ℕ) → k ≤ j → follows_bracket before b j ≡ false
 follows_bracket-past before b k lt ends zero le = absurd (omega arith)
 follows_bracket-past before b k lt ends (suc j) le =
     grind (arith, follows_bracket-more, and_right, and_left, follows_bracket-past before b k lt ends j)
@@ -54,11 +56,13 @@ pub record IsGiving (before : List Class) (b : ℕ) (direction : Class) (old now
   pub same_below : (j : ℕ) → j < b → class_at now j ≡ class_at old j
   pub same_above : (j : ℕ) → k ≤ j → class_at now j ≡ class_at old j
 
-pub giving_starts : (before : List Class) (b : ℕ) (direction : Class) (old : List Class) → b < length old → IsGiving before b direction old (set old b direction) (b + 1)
+pub giving_starts : (before : List Class) (b : ℕ) (direction : Class) (old : List Class) → b < length old →
+    IsGiving before b direction old (set old b direction) (b + 1)
 giving_starts before b direction old lt =
     grind (arith, length-set, follows_bracket-same, get_or-set_same, get_or-set_other)
 
-pub giving_goes_on : (before : List Class) (b : ℕ) (direction : Class) (old now : List Class) (k : ℕ) → IsGiving before b direction old now k → k < length old → is_nonspacing (class_at before k) ≡ true
+pub giving_goes_on : (before : List Class) (b : ℕ) (direction : Class) (old now : List Class) (k : ℕ) →
+    IsGiving before b direction old now k → k < length old → is_nonspacing (class_at before k) ≡ true
     → IsGiving before b direction old (set now k direction) (k + 1)
 giving_goes_on before b direction old now zero g lt mark = absurd (omega (arith, g.begun))
 giving_goes_on before b direction old now (suc k) g lt mark =
@@ -77,15 +81,20 @@ giving_goes_on before b direction old now (suc k) g lt mark =
             ∙ mark)
       ];
       taken = λ j ge below. elim (cases_lt j (suc k)) [
-        | inl earlier ↦ get_or-set_other now (suc k) j direction L (let apart : j ≢ suc k = omega arith in apart) ∙ g.taken j ge earlier
-        | inr here ↦ (let e : j ≡ suc k = omega arith in ap (class_at (set now (suc k) direction)) e ∙ get_or-set_same now (suc k) direction L within)
+        | inl earlier ↦ get_or-set_other now (suc k) j direction L (let apart : j ≢ suc k = omega arith in apart) ∙
+            g.taken j ge earlier
+        | inr here ↦ (let e : j ≡ suc k = omega arith in ap (class_at (set now (suc k) direction)) e ∙
+            get_or-set_same now (suc k) direction L within)
       ];
-      same_below = λ j below. get_or-set_other now (suc k) j direction L (let apart : j ≢ suc k = omega arith in apart) ∙ g.same_below j below;
-      same_above = λ j above. get_or-set_other now (suc k) j direction L (let apart : j ≢ suc k = omega arith in apart) ∙ g.same_above j (omega arith);
+      same_below = λ j below. get_or-set_other now (suc k) j direction L (let apart : j ≢ suc k = omega arith in
+          apart) ∙ g.same_below j below;
+      same_above = λ j above. get_or-set_other now (suc k) j direction L (let apart : j ≢ suc k = omega arith in
+          apart) ∙ g.same_above j (omega arith);
     }
 
 -- from k on no mark follows the bracket
-pub giving_ends : (before : List Class) (b : ℕ) (direction : Class) (old now : List Class) (k : ℕ) → IsGiving before b direction old now k
+pub giving_ends : (before : List Class) (b : ℕ) (direction : Class) (old now : List Class) (k : ℕ) →
+    IsGiving before b direction old now k
     → ((j : ℕ) → k ≤ j → j < length old → follows_bracket before b j ≡ false) → now ≡ given_to before b direction old
 giving_ends before b direction old now k g past =
     let f : ℕ → Class = λ j. cond (follows_bracket before b j) direction (class_at old j) in
@@ -94,9 +103,12 @@ giving_ends before b direction old now k g past =
     let within : j < length old = omega (arith, g.long) in
     let at_j = class_at-at_each f old j within in
     elim (cases_lt j b) [
-      | inl below ↦ g.same_below j below ∙ sym (at_j ∙ ap (λ t. cond t direction (class_at old j)) (follows_bracket-below before b j below))
+      | inl below ↦ g.same_below j below ∙
+          sym (at_j ∙ ap (λ t. cond t direction (class_at old j)) (follows_bracket-below before b j below))
       | inr from ↦ elim (cases_lt j k) [
-        | inl earlier ↦ g.taken j from earlier ∙ sym (at_j ∙ ap (λ t. cond t direction (class_at old j)) (g.follows j from earlier))
-        | inr later ↦ g.same_above j later ∙ sym (at_j ∙ ap (λ t. cond t direction (class_at old j)) (past j later within))
+        | inl earlier ↦ g.taken j from earlier ∙
+            sym (at_j ∙ ap (λ t. cond t direction (class_at old j)) (g.follows j from earlier))
+        | inr later ↦ g.same_above j later ∙
+            sym (at_j ∙ ap (λ t. cond t direction (class_at old j)) (past j later within))
       ]
     ])

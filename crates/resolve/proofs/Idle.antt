@@ -30,7 +30,8 @@ pub by_w3-idle : (c : Class) → may_weaken c ≡ false → by_w3 c ≡ c
 by_w3-idle AL h = cc
 by_w3-idle c h = refl
 
-pub by_w4_w5-idle : (before decided c next ahead : Class) → may_weaken c ≡ false → by_w4_w5 before decided c next ahead ≡ c
+pub by_w4_w5-idle : (before decided c next ahead : Class) → may_weaken c ≡ false →
+    by_w4_w5 before decided c next ahead ≡ c
 by_w4_w5-idle before decided ES next ahead h = cc
 by_w4_w5-idle before decided CS next ahead h = cc
 by_w4_w5-idle before decided ET next ahead h = cc
@@ -50,9 +51,11 @@ by_w7-idle strong c h = refl
 pub by_context-idle : (x : Context) (c : Class) (cs : List Class) → may_weaken c ≡ false → by_context x c cs ≡ c
 by_context-idle x c cs h = grind (arith, by_w1-idle, by_w2-idle, by_w3-idle, by_w4_w5-idle, by_w6-idle, by_w7-idle)
 
-after_state_pass-idle : (x : Context) (cs : List Class) → list_any may_weaken cs ≡ false → after_state_pass by_context context_past x cs ≡ cs
+after_state_pass-idle : (x : Context) (cs : List Class) → list_any may_weaken cs ≡ false →
+    after_state_pass by_context context_past x cs ≡ cs
 after_state_pass-idle x [] none = refl
-after_state_pass-idle x (c ∷ cs) none = grind (arith, or_parts, by_context-idle, after_state_pass-idle (context_past x c cs) cs)
+after_state_pass-idle x (c ∷ cs) none =
+    grind (arith, or_parts, by_context-idle, after_state_pass-idle (context_past x c cs) cs)
 
 -- W1 to W7 over such classes
 pub after_weak-idle : (sos : Class) (cs : List Class) → list_any may_weaken cs ≡ false → after_weak sos cs ≡ cs
@@ -69,7 +72,8 @@ own-idle : (cs : List Class) (p : ℕ) → list_any may_weaken cs ≡ false → 
 own-idle cs p none = grind (arith, list_any_at, get_or_past)
 
 -- the current classes at a sequence's positions, if no own class of the paragraph is such a class
-pub current-idle : (us : List BidiUnit) (before : List Class) (ps : List ℕ) → AreOwn ps us before → list_any may_weaken (classes_of us) ≡ false →
+pub current-idle : (us : List BidiUnit) (before : List Class) (ps : List ℕ) → AreOwn ps us before →
+    list_any may_weaken (classes_of us) ≡ false →
     list_any may_weaken (classes_at before ps) ≡ false
 current-idle us before ps own none = list_any_none may_weaken (classes_at before ps) (λ k d lt.
     let h : k < length ps = omega (arith, length-classes_at before ps) in

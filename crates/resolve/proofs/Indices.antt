@@ -11,7 +11,8 @@ use Rattle.resolve.specs.Indices.{index_of}
 use Rattle.resolve.specs.Rewritten.{KeepsOthers}
 use Rattle.resolve.proofs.Gathered.{apart, classes_at-set, keeps-set}
 
-first-index : (ps : List ℕ) (k : ℕ) → k < length ps → ((j : ℕ) → j < k → slice_index ps j ≢ slice_index ps k) → index_of ps (slice_index ps k) ≡ k
+first-index : (ps : List ℕ) (k : ℕ) → k < length ps → ((j : ℕ) → j < k → slice_index ps j ≢ slice_index ps k) →
+    index_of ps (slice_index ps k) ≡ k
 first-index [] k lt others = absurd (omega arith)
 first-index (q ∷ ps) zero lt others = cond-true (q == q) 0 (index_of ps q + 1) (eq-eqb q q refl)
 first-index (q ∷ ps) (suc k) lt others =
@@ -21,8 +22,10 @@ first-index (q ∷ ps) (suc k) lt others =
     ∙ omega arith
 
 -- the index of the position at an index is that index
-pub index_of-index : (ps : List ℕ) (n : ℕ) → ArePositions ps n → (k : ℕ) → k < length ps → index_of ps (slice_index ps k) ≡ k
-index_of-index ps n are k lt = first-index ps k lt (λ j below. apart ps n j k are (omega arith) lt (let ne : j ≢ k = omega arith in ne))
+pub index_of-index : (ps : List ℕ) (n : ℕ) → ArePositions ps n → (k : ℕ) → k < length ps →
+    index_of ps (slice_index ps k) ≡ k
+index_of-index ps n are k lt = first-index ps k lt (λ j below. apart ps n j k are (omega arith) lt (let ne : j ≢ k =
+    omega arith in ne))
 
 -- the position at the index of a position is that position
 pub index-index_of : (ps : List ℕ) (p : ℕ) → index_of ps p < length ps → slice_index ps (index_of ps p) ≡ p
@@ -33,7 +36,8 @@ pub contains-index_of : (ps : List ℕ) (p : ℕ) → index_of ps p < length ps 
 contains-index_of ps p lt = (index_of ps p, lt, get_or_default ps (index_of ps p) p 0 lt ∙ index-index_of ps p lt)
 
 -- a position before another one has an index before that one's
-pub index_before : (ps : List ℕ) (n : ℕ) → ArePositions ps n → (k p : ℕ) → k < length ps → index_of ps p < length ps → slice_index ps k < p → k < index_of ps p
+pub index_before : (ps : List ℕ) (n : ℕ) → ArePositions ps n → (k p : ℕ) → k < length ps → index_of ps p < length ps →
+    slice_index ps k < p → k < index_of ps p
 index_before ps n are k p inside within lt =
     let at = index-index_of ps p within in
     elim (cases_lt k (index_of ps p)) [
@@ -47,7 +51,8 @@ index_before ps n are k p inside within lt =
       ]
     ]
 
-pub index_not_before : (ps : List ℕ) (n : ℕ) → ArePositions ps n → (k p : ℕ) → k < length ps → index_of ps p < length ps → p ≤ slice_index ps k → index_of ps p ≤ k
+pub index_not_before : (ps : List ℕ) (n : ℕ) → ArePositions ps n → (k p : ℕ) → k < length ps →
+    index_of ps p < length ps → p ≤ slice_index ps k → index_of ps p ≤ k
 index_not_before ps n are k p inside within le =
     let at = index-index_of ps p within in
     elim (cases_lt k (index_of ps p)) [
@@ -66,10 +71,12 @@ IsNext ps None = ℕ
 IsNext ps (Some p) = index_of ps p < length ps
 
 -- the position at an index, as the next one
-pub next_index : (ps : List ℕ) (n k : ℕ) → ArePositions ps n → k ≤ length ps → (next : Option ℕ) → next ≡ slice_get ps k → (index_or_end ps next ≡ k) × IsNext ps next
+pub next_index : (ps : List ℕ) (n k : ℕ) → ArePositions ps n → k ≤ length ps → (next : Option ℕ) →
+    next ≡ slice_get ps k → (index_or_end ps next ≡ k) × IsNext ps next
 next_index ps n k are le None e =
     let end : length ps ≤ k = elim (cases_lt k (length ps)) [
-      | inl within ↦ (let some : slice_get ps k ≡ Some (slice_index ps k) = slice_get-get_or ps k 0 within in absurd (cc))
+      | inl within ↦ (let some : slice_get ps k ≡ Some (slice_index ps k) = slice_get-get_or ps k 0 within in
+          absurd (cc))
       | inr past ↦ past
     ] in
     (omega arith, 0)
@@ -86,17 +93,21 @@ next_within ps (Some q) p h e = grind arith
 
 -- the position after a position, as the next one
 pub next_after : (ps : List ℕ) (n p : ℕ) → ArePositions ps n → index_of ps p < length ps → (next : Option ℕ) →
-    ((k : ℕ) → k < length ps → slice_index ps k ≡ p → next ≡ slice_get ps (k + 1)) → (index_or_end ps next ≡ index_of ps p + 1) × IsNext ps next
+    ((k : ℕ) → k < length ps → slice_index ps k ≡ p → next ≡ slice_get ps (k + 1)) →
+    (index_or_end ps next ≡ index_of ps p + 1) × IsNext ps next
 next_after ps n p are within next is =
     next_index ps n (index_of ps p + 1) are (omega arith) next (is (index_of ps p) within (index-index_of ps p within))
 
 -- a write at a position of the sequence
-pub classes_at-set_of : (cs : List Class) (ps : List ℕ) (p : ℕ) (c : Class) → ArePositions ps (length cs) → index_of ps p < length ps →
+pub classes_at-set_of : (cs : List Class) (ps : List ℕ) (p : ℕ) (c : Class) → ArePositions ps (length cs) →
+    index_of ps p < length ps →
     classes_at (set cs p c) ps ≡ set (classes_at cs ps) (index_of ps p) c
 classes_at-set_of cs ps p c are within =
-    ap (λ (q : ℕ). classes_at (set cs q c) ps) (sym (index-index_of ps p within)) ∙ classes_at-set cs ps (index_of ps p) c are within
+    ap (λ (q : ℕ). classes_at (set cs q c) ps) (sym (index-index_of ps p within)) ∙
+    classes_at-set cs ps (index_of ps p) c are within
 
-pub keeps-set_of : (ps : List ℕ) (old now : List Class) (p : ℕ) (c : Class) → KeepsOthers ps old now → index_of ps p < length ps → KeepsOthers ps old (set now p c)
+pub keeps-set_of : (ps : List ℕ) (old now : List Class) (p : ℕ) (c : Class) → KeepsOthers ps old now →
+    index_of ps p < length ps → KeepsOthers ps old (set now p c)
 keeps-set_of ps old now p c unchanged within =
     let P : ℕ → Type 0 = λ q. KeepsOthers ps old (set now q c) in
     subst P (index-index_of ps p within) (keeps-set ps old now (index_of ps p) c unchanged within)

@@ -58,26 +58,31 @@ owes-letter x cs =
     (letter_is_no_terminator (by_w1_to_w3 x.preceding AL) (through_w3-letter x.preceding))
 
 -- the positions after an index
-pub within_rest : (ps : List ℕ) (extent n : ℕ) → ArePositions ps extent → (k : ℕ) → k < length (take (length ps - n) (drop n ps)) →
+pub within_rest : (ps : List ℕ) (extent n : ℕ) → ArePositions ps extent → (k : ℕ) →
+    k < length (take (length ps - n) (drop n ps)) →
     slice_index (take (length ps - n) (drop n ps)) k < extent
 within_rest ps extent n are k lt =
     let e : take (length ps - n) (drop n ps) ≡ drop n ps = take_rest ps n in
     let inside : n + k < length ps = omega (arith, lt, ap length e, length-drop n ps) in
-    subst (λ i. i < extent) (sym (ap (λ (qs : List ℕ). slice_index qs k) e ∙ get_or-drop n ps k 0)) (are.within (n + k) inside)
+    subst (λ i. i < extent) (sym (ap (λ (qs : List ℕ). slice_index qs k) e ∙ get_or-drop n ps k 0))
+    (are.within (n + k) inside)
 
 through_w3-idle : (f : Preceding) (c : Class) → may_weaken c ≡ false → by_w1_to_w3 f c ≡ c
 through_w3-idle f c h =
-    ap (λ (d : Class). by_w3 (by_w2 f.strong d)) (by_w1-idle f.base c h) ∙ ap by_w3 (by_w2-idle f.strong c h) ∙ by_w3-idle c h
+    ap (λ (d : Class). by_w3 (by_w2 f.strong d)) (by_w1-idle f.base c h) ∙ ap by_w3 (by_w2-idle f.strong c h) ∙
+    by_w3-idle c h
 
 decided-idle : (x : Context) (c : Class) (cs : List Class) → may_weaken c ≡ false → by_w1_to_w5 x c cs ≡ c
 decided-idle x c cs h =
     let ds : List Class = all_by_w1_to_w3 (preceding_past x.preceding c) cs in
     let next : Class = first_class is_any ds ON in
     let ahead : Class = first_class is_no_terminator ds ON in
-    ap (λ (d : Class). by_w4_w5 x.before x.decided d next ahead) (through_w3-idle x.preceding c h) ∙ by_w4_w5-idle x.before x.decided c next ahead h
+    ap (λ (d : Class). by_w4_w5 x.before x.decided d next ahead) (through_w3-idle x.preceding c h) ∙
+    by_w4_w5-idle x.before x.decided c next ahead h
 
 -- what is known after such a class
-past-idle : (x : Context) (c : Class) (cs : List Class) → may_weaken c ≡ false → context_past x c cs ≡ unchanged_past x c
+past-idle : (x : Context) (c : Class) (cs : List Class) → may_weaken c ≡ false →
+    context_past x c cs ≡ unchanged_past x c
 past-idle x c cs h = cc (through_w3-idle x.preceding c h, decided-idle x c cs h)
 
 idle_is_no_terminator : (c : Class) → may_weaken c ≡ false → c ≡ ET → ⊥
@@ -144,64 +149,89 @@ abbrev with_preceding : Preceding → Class → Context
 with_preceding f c = record { preceding = f; before = c; decided = c }
 
 -- only the last one counts
-unchanged_twice : (x : Context) (b c : Class) → is_passed x.preceding.strong b ≡ true → is_passed x.preceding.strong c ≡ true → unchanged_past (unchanged_past x b) c ≡ unchanged_past x c
+unchanged_twice : (x : Context) (b c : Class) → is_passed x.preceding.strong b ≡ true →
+    is_passed x.preceding.strong c ≡ true → unchanged_past (unchanged_past x b) c ≡ unchanged_past x c
 unchanged_twice x b c hb hc =
     let d : Class = x.preceding.strong in
     ap (λ (f : Preceding). with_preceding (preceding_past f c) c) (preceding-passed x.preceding b hb)
-    ∙ ap (λ (f : Preceding). with_preceding f c) (preceding-passed (after d b) c hc ∙ sym (preceding-passed x.preceding c hc))
+    ∙ ap (λ (f : Preceding). with_preceding f c) (preceding-passed (after d b) c hc ∙
+    sym (preceding-passed x.preceding c hc))
 
-module _ {begin : Context} {ps : List ℕ} {start now : List Class} {x : Context} {k : ℕ} (w : StatePass by_context context_past begin ps start now x k) (inside : k < length ps)
-    (idle : may_weaken (class_at now (slice_index ps k)) ≡ false) (y : Context) (known : y ≡ unchanged_past x (class_at now (slice_index ps k))) where
+module _ {begin : Context} {ps : List ℕ} {start now : List Class} {x : Context} {k : ℕ}
+    (w : StatePass by_context context_past begin ps start now x k) (inside : k < length ps)
+    (idle : may_weaken (class_at now (slice_index ps k)) ≡ false) (y : Context) (known : y ≡
+    unchanged_past x (class_at now (slice_index ps k))) where
   -- the pass continues over a class that is left unchanged
   pub state_pass_unchanged : StatePass by_context context_past begin ps start now y (k + 1)
   state_pass_unchanged =
       let c : Class = class_at now (slice_index ps k) in
       let cs : List Class = classes_at now (drop (k + 1) ps) in
-      subst (λ (all : List Class). StatePass by_context context_past begin ps start all y (k + 1)) (set-get_or now (slice_index ps k) L)
-      (state_pass_next w inside c y (drop (k + 1) ps) refl (sym (by_context-idle x c cs idle)) (known ∙ sym (past-idle x c cs idle)))
+      subst (λ (all : List Class). StatePass by_context context_past begin ps start all y (k + 1))
+      (set-get_or now (slice_index ps k) L)
+      (state_pass_next w inside c y (drop (k + 1) ps) refl (sym (by_context-idle x c cs idle)) (known ∙
+      sym (past-idle x c cs idle)))
 
   -- it takes a step
-  pub state_pass_steps_unchanged : (first last : ℕ) → StatePassSteps owed_in (classes_at start ps) x k first last → StatePassSteps owed_in (classes_at start ps) y (k + 1) first (last + 1)
+  pub state_pass_steps_unchanged : (first last : ℕ) → StatePassSteps owed_in (classes_at start ps) x k first last →
+      StatePassSteps owed_in (classes_at start ps) y (k + 1) first (last + 1)
   state_pass_steps_unchanged first last s =
       let c : Class = class_at now (slice_index ps k) in
       let cs : List Class = classes_at now (drop (k + 1) ps) in
-      state_pass_steps_next w inside owed_in y (drop (k + 1) ps) refl first last (last + 1) s (omega arith) (omega (arith, owes-idle x c cs idle))
+      state_pass_steps_next w inside owed_in y (drop (k + 1) ps) refl first last (last + 1) s (omega arith)
+      (omega (arith, owes-idle x c cs idle))
 
-module _ {begin : Context} {ps : List ℕ} {start now : List Class} {x : Context} {k : ℕ} (w : StatePass by_context context_past begin ps start now x k) where
+module _ {begin : Context} {ps : List ℕ} {start now : List Class} {x : Context} {k : ℕ}
+    (w : StatePass by_context context_past begin ps start now x k) where
   -- what is known one index later
-  known_further : (n : ℕ) → ((i : ℕ) → k ≤ i → i < k + suc n → is_passed x.preceding.strong (class_at now (slice_index ps i)) ≡ true) →
-      context_past_run x ps k (suc n) now ≡ unchanged_past (context_past_run x ps k n now) (class_at now (slice_index ps (k + n)))
+  known_further : (n : ℕ) →
+      ((i : ℕ) → k ≤ i → i < k + suc n → is_passed x.preceding.strong (class_at now (slice_index ps i)) ≡ true) →
+      context_past_run x ps k (suc n) now ≡ unchanged_past (context_past_run x ps k n now)
+      (class_at now (slice_index ps (k + n)))
   known_further zero h = refl
   known_further (suc m) h =
-      sym (unchanged_twice x (class_at now (slice_index ps (k + m))) (class_at now (slice_index ps (k + suc m))) (h (k + m) (omega arith) (omega arith)) (h (k + suc m) (omega arith) (omega arith)))
+      sym (unchanged_twice x (class_at now (slice_index ps (k + m))) (class_at now (slice_index ps (k + suc m)))
+      (h (k + m) (omega arith) (omega arith)) (h (k + suc m) (omega arith) (omega arith)))
 
   -- the pass continues over the classes that are passed
-  pub state_pass_past_run : (n : ℕ) → k + n ≤ length ps → ((i : ℕ) → k ≤ i → i < k + n → is_passed x.preceding.strong (class_at now (slice_index ps i)) ≡ true) →
+  pub state_pass_past_run : (n : ℕ) → k + n ≤ length ps →
+      ((i : ℕ) → k ≤ i → i < k + n → is_passed x.preceding.strong (class_at now (slice_index ps i)) ≡ true) →
       StatePass by_context context_past begin ps start now (context_past_run x ps k n now) (k + n)
-  state_pass_past_run zero within h = let e : k ≡ k + 0 = omega arith in subst (λ m. StatePass by_context context_past begin ps start now x m) e w
+  state_pass_past_run zero within h = let e : k ≡ k + 0 = omega arith in
+      subst (λ m. StatePass by_context context_past begin ps start now x m) e w
   state_pass_past_run (suc n) within h =
-      let before : StatePass by_context context_past begin ps start now (context_past_run x ps k n now) (k + n) = state_pass_past_run n (omega arith) (λ i low high. h i low (omega arith)) in
+      let before : StatePass by_context context_past begin ps start now (context_past_run x ps k n now) (k + n) =
+      state_pass_past_run n (omega arith) (λ i low high. h i low (omega arith)) in
       let inside : k + n < length ps = omega arith in
-      let idle : may_weaken (class_at now (slice_index ps (k + n))) ≡ false = passed-idle x.preceding.strong (class_at now (slice_index ps (k + n))) (h (k + n) (omega arith) (omega arith)) in
+      let idle : may_weaken (class_at now (slice_index ps (k + n))) ≡ false =
+      passed-idle x.preceding.strong (class_at now (slice_index ps (k + n)))
+      (h (k + n) (omega arith) (omega arith)) in
       let e : k + n + 1 ≡ k + suc n = omega arith in
       subst (λ m. StatePass by_context context_past begin ps start now (context_past_run x ps k (suc n) now) m) e
       (state_pass_unchanged before inside idle (context_past_run x ps k (suc n) now) (known_further n h))
 
   -- each takes a step
   pub state_pass_steps_past_run : (first last : ℕ) → StatePassSteps owed_in (classes_at start ps) x k first last →
-      (n : ℕ) → k + n ≤ length ps → ((i : ℕ) → k ≤ i → i < k + n → is_passed x.preceding.strong (class_at now (slice_index ps i)) ≡ true) →
+      (n : ℕ) → k + n ≤ length ps →
+      ((i : ℕ) → k ≤ i → i < k + n → is_passed x.preceding.strong (class_at now (slice_index ps i)) ≡ true) →
       StatePassSteps owed_in (classes_at start ps) (context_past_run x ps k n now) (k + n) first (last + n)
   state_pass_steps_past_run first last s zero within h =
       let e : k ≡ k + 0 = omega arith in
       let f : last ≡ last + 0 = omega arith in
-      subst (λ m. StatePassSteps owed_in (classes_at start ps) x m first (last + 0)) e (subst (λ m. StatePassSteps owed_in (classes_at start ps) x k first m) f s)
+      subst (λ m. StatePassSteps owed_in (classes_at start ps) x m first (last + 0)) e
+      (subst (λ m. StatePassSteps owed_in (classes_at start ps) x k first m) f s)
   state_pass_steps_past_run first last s (suc n) within h =
-      let before : StatePass by_context context_past begin ps start now (context_past_run x ps k n now) (k + n) = state_pass_past_run n (omega arith) (λ i low high. h i low (omega arith)) in
+      let before : StatePass by_context context_past begin ps start now (context_past_run x ps k n now) (k + n) =
+      state_pass_past_run n (omega arith) (λ i low high. h i low (omega arith)) in
       let inside : k + n < length ps = omega arith in
-      let idle : may_weaken (class_at now (slice_index ps (k + n))) ≡ false = passed-idle x.preceding.strong (class_at now (slice_index ps (k + n))) (h (k + n) (omega arith) (omega arith)) in
+      let idle : may_weaken (class_at now (slice_index ps (k + n))) ≡ false =
+      passed-idle x.preceding.strong (class_at now (slice_index ps (k + n)))
+      (h (k + n) (omega arith) (omega arith)) in
       let less = state_pass_steps_past_run first last s n (omega arith) (λ i low high. h i low (omega arith)) in
       let e : k + n + 1 ≡ k + suc n = omega arith in
       let f : last + n + 1 ≡ last + suc n = omega arith in
-      subst (λ m. StatePassSteps owed_in (classes_at start ps) (context_past_run x ps k (suc n) now) m first (last + suc n)) e
-      (subst (λ m. StatePassSteps owed_in (classes_at start ps) (context_past_run x ps k (suc n) now) (k + n + 1) first m) f
-      (state_pass_steps_unchanged before inside idle (context_past_run x ps k (suc n) now) (known_further n h) first (last + n) less))
+      subst (λ m. StatePassSteps owed_in (classes_at start ps) (context_past_run x ps k (suc n) now) m first
+      (last + suc n)) e
+      (subst (λ m. StatePassSteps owed_in (classes_at start ps) (context_past_run x ps k (suc n) now)
+      (k + n + 1) first m) f
+      (state_pass_steps_unchanged before inside idle (context_past_run x ps k (suc n) now) (known_further n h) first
+      (last + n) less))

@@ -14,8 +14,10 @@ later_of-from : (from : ℕ) (found : Option ℕ) → from ≤ later_of from fou
 later_of-from from None = omega arith
 later_of-from from (Some j) = omega arith
 
-later_of-passes : (test : ℕ → Bool) (from index k : ℕ) (found : Option ℕ) → last_below test index ≡ found → k < index → test k ≡ true → k ≤ later_of from found
-later_of-passes test from index k None e below is = absurd (false≢true (sym (last_below_none test index e k below) ∙ is))
+later_of-passes : (test : ℕ → Bool) (from index k : ℕ) (found : Option ℕ) → last_below test index ≡ found → k < index →
+    test k ≡ true → k ≤ later_of from found
+later_of-passes test from index k None e below is =
+    absurd (false≢true (sym (last_below_none test index e k below) ∙ is))
 later_of-passes test from index k (Some j) e below is =
     let last = last_below_some test index j e in
     elim (cases_lt j k) [
@@ -25,10 +27,12 @@ later_of-passes test from index k (Some j) e below is =
 
 -- no further than to the earlier index
 pub looked_back-all : (cs : List Class) (from index : ℕ) → looked_back cs from index ≤ index - from
-looked_back-all cs from index = omega (arith, later_of-from from (last_below (λ j. is_some (strong_as (class_at cs j))) index))
+looked_back-all cs from index =
+    omega (arith, later_of-from from (last_below (λ j. is_some (strong_as (class_at cs j))) index))
 
 -- no further than to a strong class
-pub looked_back-found : (cs : List Class) (from index k : ℕ) → k < index → is_some (strong_as (class_at cs k)) ≡ true → looked_back cs from index ≤ index - k
+pub looked_back-found : (cs : List Class) (from index k : ℕ) → k < index → is_some (strong_as (class_at cs k)) ≡ true →
+    looked_back cs from index ≤ index - k
 looked_back-found cs from index k below is =
     let test : ℕ → Bool = λ j. is_some (strong_as (class_at cs j)) in
     omega (arith, later_of-passes test from index k (last_below test index) refl below is)

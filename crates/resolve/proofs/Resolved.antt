@@ -11,7 +11,9 @@ use Rattle.resolve.specs.Raised.{Raises}
 use Rattle.resolve.specs.Resolved.{HasLevels}
 use Rattle.resolve.proofs.Gathered.{contains_index, length-classes_at, class_at-classes_at}
 
-pub levels_from : (most_open : ℕ) (s : SequenceView) (us : List BidiUnit) (before last : List Class) (old new : List (Option ℕ)) →
-    classes_at last s.positions ≡ after_rules most_open s us (classes_at before s.positions) → Raises s.level last s.positions old new → HasLevels most_open s us before new
+pub levels_from : (most_open : ℕ) (s : SequenceView) (us : List BidiUnit) (before last : List Class)
+    (old new : List (Option ℕ)) →
+    classes_at last s.positions ≡ after_rules most_open s us (classes_at before s.positions) →
+    Raises s.level last s.positions old new → HasLevels most_open s us before new
 levels_from most_open s us before last old new e r k h =
     grind (arith, length-classes_at, contains_index, class_at-classes_at, get_or-map)

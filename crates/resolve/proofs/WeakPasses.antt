@@ -26,12 +26,17 @@ along_w4 before cs = sides by_w4 is_any is_any before ON cs
 -- W1 to W7 along a list, each rule by what it knows about the classes before
 abbrev pub along_weak : Preceding → Class → Class → Class → List Class → List Class
 along_weak preceding before number strong cs =
-    along by_w7 is_strong strong (map by_w6 (sides at_w5 is_no_terminator is_no_terminator number ON (along_w4 before (all_by_w1_to_w3 preceding cs))))
+    along by_w7 is_strong strong
+    (map by_w6 (sides at_w5 is_no_terminator is_no_terminator number ON
+    (along_w4 before (all_by_w1_to_w3 preceding cs))))
 
 -- W1 to W3
-all_by_w1_to_w3-is : (preceding : Preceding) (cs : List Class) → map by_w3 (along by_w2 is_strong preceding.strong (along by_w1 is_base preceding.base cs)) ≡ all_by_w1_to_w3 preceding cs
+all_by_w1_to_w3-is : (preceding : Preceding) (cs : List Class) →
+    map by_w3 (along by_w2 is_strong preceding.strong (along by_w1 is_base preceding.base cs)) ≡
+    all_by_w1_to_w3 preceding cs
 all_by_w1_to_w3-is preceding [] = refl
-all_by_w1_to_w3-is preceding (c ∷ cs) = ap (λ (ds : List Class). by_w1_to_w3 preceding c ∷ ds) (all_by_w1_to_w3-is (preceding_past preceding c) cs)
+all_by_w1_to_w3-is preceding (c ∷ cs) =
+    ap (λ (ds : List Class). by_w1_to_w3 preceding c ∷ ds) (all_by_w1_to_w3-is (preceding_past preceding c) cs)
 
 -- W1 to W7 index by index, and along the list
 pub after_weak-along : (sos : Class) (cs : List Class) → after_weak sos cs ≡ along_weak (preceding_of sos) ON ON sos cs
@@ -43,12 +48,15 @@ after_weak-along sos cs =
     ∙ all_by_w1_to_w3-is (preceding_of sos) cs in
     let w4 : after_w4 (all_by_w1_to_w3 (preceding_of sos) cs) ≡ along_w4 ON (all_by_w1_to_w3 (preceding_of sos) cs) =
     sides-is by_w4 is_any is_any ON ON (all_by_w1_to_w3 (preceding_of sos) cs) in
-    let w5 : after_w5 (along_w4 ON (all_by_w1_to_w3 (preceding_of sos) cs)) ≡ sides at_w5 is_no_terminator is_no_terminator ON ON (along_w4 ON (all_by_w1_to_w3 (preceding_of sos) cs)) =
+    let w5 : after_w5 (along_w4 ON (all_by_w1_to_w3 (preceding_of sos) cs)) ≡
+    sides at_w5 is_no_terminator is_no_terminator ON ON (along_w4 ON (all_by_w1_to_w3 (preceding_of sos) cs)) =
     sides-is at_w5 is_no_terminator is_no_terminator ON ON (along_w4 ON (all_by_w1_to_w3 (preceding_of sos) cs)) in
     ap (λ (xs : List Class). after_w7 sos (after_w6 (after_w5 (after_w4 xs)))) firsts
     ∙ ap (λ (xs : List Class). after_w7 sos (after_w6 (after_w5 xs))) w4
     ∙ ap (λ (xs : List Class). after_w7 sos (after_w6 xs)) w5
-    ∙ sides-is (λ b c a. by_w7 b c) is_strong is_any sos ON (map by_w6 (sides at_w5 is_no_terminator is_no_terminator ON ON (along_w4 ON (all_by_w1_to_w3 (preceding_of sos) cs))))
+    ∙ sides-is (λ b c a. by_w7 b c) is_strong is_any sos ON
+    (map by_w6 (sides at_w5 is_no_terminator is_no_terminator ON ON
+    (along_w4 ON (all_by_w1_to_w3 (preceding_of sos) cs))))
 
 -- the next class that is no ET, as W4 leaves it
 abbrev pub ahead_in : Class → List Class → Class
@@ -68,20 +76,30 @@ IsDecided number decided ahead = by_w5 number ahead ≡ by_w5_after decided ahea
 abbrev pub no_terminator_from : Class → Class → Class → List Class → Class
 no_terminator_from before d next ds = first_class is_no_terminator (by_w4 before d next ∷ along_w4 d ds) ON
 
-no_terminator_from-et : (before decided number next : Class) (ds : List Class) → IsDecided number decided (no_terminator_from before ET next ds) → IsDecided number decided (ahead_in ET ds)
+no_terminator_from-et : (before decided number next : Class) (ds : List Class) →
+    IsDecided number decided (no_terminator_from before ET next ds) → IsDecided number decided (ahead_in ET ds)
 no_terminator_from-et before decided number next ds h = grind (arith, by_w4-et)
 
 -- W4 and W5 at a class
-class_by_w5 : (before decided number d next : Class) (ds : List Class) → IsDecided number decided (no_terminator_from before d next ds) →
-    at_w5 number (by_w4 before d next) (ahead_in d ds) ≡ by_w4_w5 before decided d next (first_class is_no_terminator ds ON)
+class_by_w5 : (before decided number d next : Class) (ds : List Class) →
+    IsDecided number decided (no_terminator_from before d next ds) →
+    at_w5 number (by_w4 before d next) (ahead_in d ds) ≡
+    by_w4_w5 before decided d next (first_class is_no_terminator ds ON)
 class_by_w5 before decided number ET next ds h = grind (arith, by_w4-et, no_terminator_from-et, ahead_in-et)
 class_by_w5 before decided number d next ds h = grind (arith, cond-false, by_w4-terminator, by_w4_w5-is)
 
 -- and the state after it
-next_by_w5 : (before decided number d next : Class) (ds : List Class) → IsDecided number decided (no_terminator_from before d next ds) →
+next_by_w5 : (before decided number d next : Class) (ds : List Class) →
+    IsDecided number decided (no_terminator_from before d next ds) →
     IsDecided (if is_no_terminator (by_w4 before d next) then by_w4 before d next else number)
     (by_w4_w5 before decided d next (first_class is_no_terminator ds ON)) (ahead_in d ds)
-next_by_w5 before decided number ET next ds h = grind (arith, by_w4-et, by_w5_after-again, no_terminator_from-et, ahead_in-et)
+next_by_w5 before decided number ET next ds h = grind (
+  arith,
+  by_w4-et,
+  by_w5_after-again,
+  no_terminator_from-et,
+  ahead_in-et,
+)
 next_by_w5 before decided number d next ds h =
     grind (arith, by_w4-terminator, cond-true, by_w5_after-other, by_w4_w5-is)
 
@@ -119,7 +137,14 @@ record WeakState (x : Context) (cs to : List Class) : Type 0 where
   alike : AreAlike strong x.preceding.strong
 
 state_start : (sos : Class) (cs : List Class) → WeakState (context_at_start sos) cs (after_weak sos cs)
-state_start sos cs = record { number = ON; strong = sos; is = after_weak-along sos cs; decided = refl; alike = λ c. refl }
+state_start sos cs = record {
+  number = ON;
+  strong = sos;
+  is = after_weak-along sos cs;
+  decided = refl;
+  alike =
+      λ c. refl;
+}
 
 -- the next class, and what is known after it
 state_step : (x : Context) (c : Class) (cs to : List Class) → WeakState x (c ∷ cs) to →
@@ -134,11 +159,15 @@ state_step x c cs to w =
     let number : Class = if is_no_terminator (by_w4 x.before d next) then by_w4 x.before d next else w.number in
     let n : Class = by_w1_to_w5 x c cs in
     let latest : Class = if is_strong (by_w6 n) then by_w6 n else w.strong in
-    let here : at_w5 w.number (by_w4 x.before d next) (ahead_in d ds) ≡ n = class_by_w5 x.before x.decided w.number d next ds w.decided in (
+    let here : at_w5 w.number (by_w4 x.before d next) (ahead_in d ds) ≡ n =
+    class_by_w5 x.before x.decided w.number d next ds w.decided in (
       along_weak preceding d number latest cs,
       w.is
-          ∙ ap (λ (v : Class). by_w7 w.strong (by_w6 v) ∷ along_weak preceding d number (if is_strong (by_w6 v) then by_w6 v else w.strong) cs) here
-          ∙ ap (λ (v : Class). v ∷ along_weak preceding d number latest cs) (class_last w.strong x.preceding.strong m x.before x.decided next ahead w.alike),
+          ∙ ap (λ (v : Class).
+          by_w7 w.strong (by_w6 v) ∷ along_weak preceding d number
+          (if is_strong (by_w6 v) then by_w6 v else w.strong) cs) here
+          ∙ ap (λ (v : Class). v ∷ along_weak preceding d number latest cs)
+          (class_last w.strong x.preceding.strong m x.before x.decided next ahead w.alike),
       record {
         number = number;
         strong = latest;
@@ -148,12 +177,14 @@ state_step x c cs to w =
       },
     )
 
-state_passed : (x : Context) (cs to : List Class) → WeakState x cs to → to ≡ after_state_pass by_context context_past x cs
+state_passed : (x : Context) (cs to : List Class) → WeakState x cs to →
+    to ≡ after_state_pass by_context context_past x cs
 state_passed x [] to w = w.is
 state_passed x (c ∷ cs) to w =
     let s = state_step x c cs to w in
     s.1 ∙ ap (λ (rest : List Class). by_context x c cs ∷ rest) (state_passed (context_past x c cs) cs s.0 s.2)
 
 -- W1 to W7, each applied to the result of the one before it, are one pass
-pub after_weak-after_state_pass : (sos : Class) (cs : List Class) → after_weak sos cs ≡ after_state_pass by_context context_past (context_at_start sos) cs
+pub after_weak-after_state_pass : (sos : Class) (cs : List Class) →
+    after_weak sos cs ≡ after_state_pass by_context context_past (context_at_start sos) cs
 after_weak-after_state_pass sos cs = state_passed (context_at_start sos) cs (after_weak sos cs) (state_start sos cs)

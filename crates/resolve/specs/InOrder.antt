@@ -22,7 +22,8 @@ pub record AfterEach : Type 0 where
 
 -- `weak`, `bracket_pairs`, `paired`, `neutral` and `implicit` give these columns, each from those of the calls before
 -- it. The old columns are a copy of the classes before W1, and any levels.
-pub record AreColumnsInOrder (most_open : ℕ) (s : SequenceView) (us : List BidiUnit) (before old_classes : List Class) (old_levels : List (Option ℕ)) (after : AfterEach) : Type 0 where
+pub record AreColumnsInOrder (most_open : ℕ) (s : SequenceView) (us : List BidiUnit) (before old_classes : List Class)
+    (old_levels : List (Option ℕ)) (after : AfterEach) : Type 0 where
   pub copy : classes_at old_classes s.positions ≡ classes_at before s.positions
   pub weak : Rewrites (after_weak s.sos) s.positions old_classes after.weak
   pub closers : HoldsPairs most_open s.positions us after.weak after.closers
@@ -31,6 +32,7 @@ pub record AreColumnsInOrder (most_open : ℕ) (s : SequenceView) (us : List Bid
   pub levels : Raises s.level after.neutral s.positions old_levels after.levels
 
 -- the last columns are those of `resolve_sequence`, with the pairs
-pub record AreResolved (most_open : ℕ) (s : SequenceView) (us : List BidiUnit) (before old_classes : List Class) (old_levels : List (Option ℕ)) (after : AfterEach) : Type 0 where
+pub record AreResolved (most_open : ℕ) (s : SequenceView) (us : List BidiUnit) (before old_classes : List Class)
+    (old_levels : List (Option ℕ)) (after : AfterEach) : Type 0 where
   pub resolved : Resolves most_open s us before old_classes after.neutral old_levels after.levels
   pub pairs : HoldsPairsAfterWeak most_open s us before after.closers

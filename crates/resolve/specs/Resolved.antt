@@ -21,7 +21,8 @@ abbrev pub KeepsOtherLevels : List ℕ → List (Option ℕ) → List (Option �
 KeepsOtherLevels ps old new = (p : ℕ) → (Contains ps p → ⊥) → resolved_at new p ≡ resolved_at old p
 
 -- W1 to I2: the sequence has its resolved levels, and its classes after N2, and the others are unchanged
-pub record Resolves (most_open : ℕ) (s : SequenceView) (us : List BidiUnit) (before old new : List Class) (old_levels new_levels : List (Option ℕ)) : Type 0 where
+pub record Resolves (most_open : ℕ) (s : SequenceView) (us : List BidiUnit) (before old new : List Class)
+    (old_levels new_levels : List (Option ℕ)) : Type 0 where
   pub levels : HasLevels most_open s us before new_levels
   pub other_levels : KeepsOtherLevels s.positions old_levels new_levels
   pub classes : classes_at new s.positions ≡ after_rules most_open s us (classes_at before s.positions)

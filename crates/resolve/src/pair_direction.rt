@@ -74,7 +74,8 @@ impl Nearest {
         requires order { self.now.index ≤ index }
         requires within { index < length s.now.positions }
         ensures value { result ≡ context_before (classes_at classes.now s.now.positions) s.now.sos index }
-        ensures at_least { steps.old + looked_back (classes_at classes.now s.now.positions) self.now.index index ≤ steps.new }
+        ensures at_least { steps.old + looked_back (classes_at classes.now s.now.positions) self.now.index index ≤
+            steps.new }
         ensures at_most { steps.new + self.now.index ≤ steps.old + index }
     {
         let positions = s.as_slice();
@@ -103,7 +104,8 @@ impl Nearest {
         ensures value { result ≡ context_before (classes_at classes.now s.now.positions) s.now.sos index }
         ensures nearest { IsNearest (classes_at classes.now s.now.positions) s.now.sos self.new }
         ensures index { self.new.index ≡ index }
-        ensures at_least { steps.old + looked_back (classes_at classes.now s.now.positions) self.old.index index ≤ steps.new }
+        ensures at_least { steps.old + looked_back (classes_at classes.now s.now.positions) self.old.index index ≤
+            steps.new }
         ensures at_most { steps.new + self.old.index ≤ steps.old + self.new.index }
     {
         let class = self.class_before(s, index, classes, steps);

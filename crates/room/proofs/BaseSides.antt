@@ -49,7 +49,8 @@ side_stays class first depth = elim (cases_Bool ((depth == 0) && is_strong class
   | inr other ↦ rw other refl
 ]
 
-all_stay : (cs : List Class) (first : Class) (depth : ℕ) → side_after_all cs depth (strong_side first) ≡ strong_side first
+all_stay : (cs : List Class) (first : Class) (depth : ℕ) →
+    side_after_all cs depth (strong_side first) ≡ strong_side first
 all_stay [] first depth = refl
 all_stay (class ∷ cs) first depth = rw (side_stays class first depth) (all_stay cs first (depth_after class depth))
 
@@ -61,10 +62,12 @@ nothing_noted class depth ends = absurd (cc)
 -- a pass over the whole first paragraph gives the same side as one that ends early
 first_class : (unit : BidiUnit) (units : List BidiUnit) (depth : ℕ) → is_separator unit.class ≡ false
     → side_after_all (classes_of (take (first_length (unit ∷ units)) (unit ∷ units))) depth Unknown
-    ≡ side_after_all (classes_of (take (first_length units) units)) (depth_after unit.class depth) (side_after unit.class depth Unknown)
+    ≡ side_after_all (classes_of (take (first_length units) units)) (depth_after unit.class depth)
+    (side_after unit.class depth Unknown)
 first_class unit units depth inside = rw inside refl
 
-first_passed : (units : List BidiUnit) (depth : ℕ) → side_after_all (classes_of (take (first_length units) units)) depth Unknown ≡ side_from units depth
+first_passed : (units : List BidiUnit) (depth : ℕ) →
+    side_after_all (classes_of (take (first_length units) units)) depth Unknown ≡ side_from units depth
 first_passed [] depth = refl
 first_passed (unit ∷ units) depth =
     let cs : List Class = classes_of (take (first_length units) units) in
@@ -75,11 +78,13 @@ first_passed (unit ∷ units) depth =
         | inl strong ↦
             let here : side_after unit.class depth Unknown ≡ strong_side unit.class = rw strong refl in
             let found : side_from (unit ∷ units) depth ≡ strong_side unit.class = rw (inside, strong) refl in
-            first_class unit units depth inside ∙ ap (side_after_all cs following) here ∙ all_stay cs unit.class following ∙ sym found
+            first_class unit units depth inside ∙ ap (side_after_all cs following) here ∙
+            all_stay cs unit.class following ∙ sym found
         | inr other ↦
             let here : side_after unit.class depth Unknown ≡ Unknown = rw other refl in
             let found : side_from (unit ∷ units) depth ≡ side_from units following = rw (inside, other) refl in
-            first_class unit units depth inside ∙ ap (side_after_all cs following) here ∙ first_passed units following ∙ sym found
+            first_class unit units depth inside ∙ ap (side_after_all cs following) here ∙ first_passed units following ∙
+            sym found
       ]
     ]
 

@@ -24,14 +24,16 @@ characters_encoded (Units numbered) is = absurd is
 characters_encoded (Utf8 bytes faults) is = refl
 characters_encoded (Utf16 units faults) is = refl
 
-pub offset_encoded : (source : SourceOf) → IsEncoded source → (k : ℕ) → source_offset source k ≡ offset_of (text_in source) k
+pub offset_encoded : (source : SourceOf) → IsEncoded source → (k : ℕ) →
+    source_offset source k ≡ offset_of (text_in source) k
 offset_encoded (Codes numbers) is k = absurd is
 offset_encoded (Classes numbers) is k = absurd is
 offset_encoded (Units numbered) is k = absurd is
 offset_encoded (Utf8 bytes faults) is k = refl
 offset_encoded (Utf16 units faults) is k = refl
 
-pub units_encoded : (source : SourceOf) → IsEncoded source → (tables : TablesOf) → units_of tables source ≡ units_by tables (codes_of (text_in source))
+pub units_encoded : (source : SourceOf) → IsEncoded source → (tables : TablesOf) →
+    units_of tables source ≡ units_by tables (codes_of (text_in source))
 units_encoded (Codes numbers) is tables = absurd is
 units_encoded (Classes numbers) is tables = absurd is
 units_encoded (Units numbered) is tables = absurd is

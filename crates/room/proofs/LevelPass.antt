@@ -19,8 +19,10 @@ module _ (room : RoomOf) (rise : Rise room) where
   -- offsets rise, or are those of one character
   no_later : (at j k : ℕ) → IsAt room at j → IsAt room at k → j < k → ⊥
   no_later at j k a b lt = elim (cases_lt (j + 1) k) [
-    | inl below ↦ let up : offset_in room (j + 1) < offset_in room k = rise (j + 1) k below (omega (arith, b.inside)) in omega (arith, a.before, b.from, up)
-    | inr above ↦ let same : offset_in room (j + 1) ≡ offset_in room k = ap (offset_in room) {x = j + 1} {y = k} (omega (arith, above, lt)) in omega (arith, a.before, b.from, same)
+    | inl below ↦ let up : offset_in room (j + 1) < offset_in room k = rise (j + 1) k below (omega (arith, b.inside)) in
+        omega (arith, a.before, b.from, up)
+    | inr above ↦ let same : offset_in room (j + 1) ≡ offset_in room k =
+        ap (offset_in room) {x = j + 1} {y = k} (omega (arith, above, lt)) in omega (arith, a.before, b.from, same)
   ]
 
   pub one_character : (at j k : ℕ) → IsAt room at j → IsAt room at k → j ≡ k
@@ -35,16 +37,23 @@ module _ (room : RoomOf) (rise : Rise room) where
   -- a unit of a character is within the text
   pub at_inside : (at k : ℕ) → IsAt room at k → at < size_in room
   at_inside at k a = elim (cases_lt (k + 1) (characters_in room)) [
-    | inl below ↦ let up : offset_in room (k + 1) < size_in room = rise (k + 1) (characters_in room) below (omega arith) in omega (arith, a.before, up)
-    | inr above ↦ let same : offset_in room (k + 1) ≡ size_in room = ap (offset_in room) {x = k + 1} {y = characters_in room} (omega (arith, above, a.inside)) in omega (arith, a.before, same)
+    | inl below ↦ let up : offset_in room (k + 1) < size_in room =
+        rise (k + 1) (characters_in room) below (omega arith) in omega (arith, a.before, up)
+    | inr above ↦ let same : offset_in room (k + 1) ≡ size_in room =
+        ap (offset_in room) {x = k + 1} {y = characters_in room} (omega (arith, above, a.inside)) in
+        omega (arith, a.before, same)
   ]
 
   -- the next unit is one of the next character, or of the same
-  pub moves_on : (at k : ℕ) → k < characters_in room → at ≤ offset_in room (k + 1) → at < size_in room → offset_in room (k + 1) ≤ at → IsAt room at (k + 1)
+  pub moves_on : (at k : ℕ) → k < characters_in room → at ≤ offset_in room (k + 1) → at < size_in room →
+      offset_in room (k + 1) ≤ at → IsAt room at (k + 1)
   moves_on at k lt upto before from =
       let more : k + 1 < characters_in room = elim (cases_lt (k + 1) (characters_in room)) [
         | inl below ↦ below
-        | inr above ↦ let same : offset_in room (k + 1) ≡ size_in room = ap (offset_in room) {x = k + 1} {y = characters_in room} (omega (arith, above, lt)) in absurd (omega (arith, same, from, before))
+        | inr above ↦ let same : offset_in room (k + 1) ≡ size_in room =
+            ap (offset_in room) {x = k + 1} {y = characters_in room} (omega (arith, above, lt)) in
+            absurd (omega (arith, same, from, before))
       ] in
-      let up : offset_in room (k + 1) < offset_in room (k + 1 + 1) = rise (k + 1) (k + 1 + 1) (omega arith) (omega (arith, more)) in
+      let up : offset_in room (k + 1) < offset_in room (k + 1 + 1) =
+      rise (k + 1) (k + 1 + 1) (omega arith) (omega (arith, more)) in
       record { inside = more; from = from; before = omega (arith, up, upto) }

@@ -18,7 +18,8 @@ decide room at k inside = elim (cases_lt at (offset_in room k)) [
 
 -- of one place more
 module _ (room : RoomOf) (order : List ℕ) (n at : ℕ) (inside : slice_index order n < characters_in room) where
-  still_none : ((other : ℕ) → other < n → IsAt room at (slice_index order other) → ⊥) → (IsAt room at (slice_index order n) → ⊥)
+  still_none : ((other : ℕ) → other < n → IsAt room at (slice_index order other) → ⊥) →
+      (IsAt room at (slice_index order n) → ⊥)
       → (other : ℕ) → other < n + 1 → IsAt room at (slice_index order other) → ⊥
   still_none none not other lt is = elim (cases_eq other n) [
     | inl last ↦ not (rw last at is)

@@ -6,7 +6,8 @@ use Rattle.std.specs.declared.boxed.BoxedSlice.{BoxedSlice}
 use Rattle.std.proofs.lemmas.List.{take-append-le, take_all}
 
 -- a column that is written whole
-pub refilled : {A Z : Type 0} (column : BoxedSlice A Z) (xs : List A) → length xs ≡ length (boxed_slice_items column) → boxed_slice_items (boxed_slice_with_items column xs) ≡ xs
+pub refilled : {A Z : Type 0} (column : BoxedSlice A Z) (xs : List A) → length xs ≡ length (boxed_slice_items column) →
+    boxed_slice_items (boxed_slice_with_items column xs) ≡ xs
 refilled column xs len =
     let same : length xs ≡ column.items.len = len ∙ sym column.items.ok.0 in
     take-append-le column.items.len xs _ (omega (arith, same)) ∙ take_all column.items.len xs (omega (arith, same))

@@ -16,7 +16,8 @@ module _ (f g : ℕ → ℕ) (n : ℕ) (same : (k : ℕ) → k ≤ n → f k ≡
   of_boundary : (at : ℕ) → IsBoundary g n at → IsBoundary f n at
   of_boundary at b = record { index = b.index; inside = b.inside; begins = same b.index b.inside ∙ b.begins }
 
-  pub rejects_alike : (size : ℕ) (breaks : List ℕ) (fault : LayoutFault) → RejectsBreaks f n size breaks fault → RejectsBreaks g n size breaks fault
+  pub rejects_alike : (size : ℕ) (breaks : List ℕ) (fault : LayoutFault) → RejectsBreaks f n size breaks fault →
+      RejectsBreaks g n size breaks fault
   rejects_alike size breaks NoOffsets h = absurd h
   rejects_alike size breaks TooLong h = absurd h
   rejects_alike size breaks (IllFormed at) h = absurd h
@@ -32,7 +33,8 @@ module _ (f g : ℕ → ℕ) (n : ℕ) (same : (k : ℕ) → k ≤ n → f k ≡
 
 -- a text whose characters are well formed is rejected for its breaks
 pub rejects_text : (ask : AskOf) (room : RoomOf) (fault : LayoutFault) → Fits ask.source room → IsWellFormed ask.source
-    → RejectsBreaks (source_offset ask.source) (characters_of ask.source) (size_of ask.source) ask.breaks fault → Rejects ask room fault
+    → RejectsBreaks (source_offset ask.source) (characters_of ask.source) (size_of ask.source) ask.breaks fault →
+    Rejects ask room fault
 rejects_text ask room NoOffsets fits is h = absurd h
 rejects_text ask room TooLong fits is h = absurd h
 rejects_text ask room (IllFormed at) fits is h = absurd h

@@ -18,13 +18,17 @@ pub record IsWithin (line : OrderedLine) (run : VisualRun) : Type 0 where
   pub forward : run.start ≤ run.end
   pub end : run.end ≤ line.end
 
-pub run_within : (line : OrderedLine) (runs : List VisualRun) (old : Runs) (run : VisualRun) (new : Runs) → IsInOrder line → AreGiven line runs old → IsNextRun old run new → IsWithin line run
+pub run_within : (line : OrderedLine) (runs : List VisualRun) (old : Runs) (run : VisualRun) (new : Runs) →
+    IsInOrder line → AreGiven line runs old → IsNextRun old run new → IsWithin line run
 run_within line runs old run new order given next =
-    let at : IsRunAt line old.place run = subst (λ (l : OrderedLine). IsRunAt l old.place run) given.of (next.run (subst IsInOrder (sym given.of) order)) in
+    let at : IsRunAt line old.place run =
+    subst (λ (l : OrderedLine). IsRunAt l old.place run) given.of (next.run (subst IsInOrder (sym given.of) order))
+    in
     record { forward = omega (arith, at.level.some); end = at.level.within }
 
 -- one run more is written
-pub written_run : (room : RoomOf) (runs : List VisualRun) (run : VisualRun) (out out_then : List VisualRun) (count : ℕ) (converted : VisualRun)
+pub written_run : (room : RoomOf) (runs : List VisualRun) (run : VisualRun) (out out_then : List VisualRun) (count : ℕ)
+    (converted : VisualRun)
     → length out_then ≡ length out → converted ≡ run_in room run
     → (count < length out → take (count + 1) out_then ≡ take count out ++ converted ∷ [])
     → (count ≤ length out → take count out ≡ map (run_in room) runs)
@@ -39,15 +43,18 @@ pub record IsLineOf (room : RoomOf) (k : ℕ) (line : OrderedLine) : Type 0 wher
   pub para : HasParaLevelOf room line.start line.para_level
 
 -- a line of the layout whose start is in a paragraph with this level
-pub line_of_layout : (room : RoomOf) (k start : ℕ) (para : ParaLevel) (line : OrderedLine) → IsOrderedLine room.layout k para line → start ≡ line.start → HasParaLevelOf room start para → IsLineOf room k line
+pub line_of_layout : (room : RoomOf) (k start : ℕ) (para : ParaLevel) (line : OrderedLine) →
+    IsOrderedLine room.layout k para line → start ≡ line.start → HasParaLevelOf room start para → IsLineOf room k line
 line_of_layout room k start para line is begins level = record {
   is = subst (λ (p : ParaLevel). IsOrderedLine room.layout k p line) (sym is.para) is;
-  para = subst (HasParaLevelOf room line.start) (sym is.para) (subst (λ (p : ℕ). HasParaLevelOf room p para) begins level);
+  para = subst (HasParaLevelOf room line.start) (sym is.para)
+      (subst (λ (p : ℕ). HasParaLevelOf room p para) begins level);
 }
 
 module _ (room : RoomOf) (k : ℕ) (line : OrderedLine) (of : IsLineOf room k line) where
   -- all runs of the line are written
-  pub all_put : (count : ℕ) (old new : List VisualRun) → PutsRuns room line count old new → length new ≡ length old → HasAtMost line (length old) → WritesRuns room k count old new
+  pub all_put : (count : ℕ) (old new : List VisualRun) → PutsRuns room line count old new → length new ≡ length old →
+      HasAtMost line (length old) → WritesRuns room k count old new
   all_put count old new puts len few =
       let n : length (map (run_in room) puts.runs) ≡ count = length-map puts.runs (run_in room) ∙ sym puts.counted in
       let fits : length puts.runs ≤ length old = few puts.runs puts.are in
@@ -66,7 +73,8 @@ module _ (room : RoomOf) (k : ℕ) (line : OrderedLine) (of : IsLineOf room k li
       }
 
   -- none is
-  pub none_put : (count : ℕ) (old : List VisualRun) → HasRuns line count → length old < count → WritesRuns room k count old old
+  pub none_put : (count : ℕ) (old : List VisualRun) → HasRuns line count → length old < count →
+      WritesRuns room k count old old
   none_put count old has few =
       let n : length (map (run_in room) has.runs) ≡ count = length-map has.runs (run_in room) ∙ sym has.counted in
       record {

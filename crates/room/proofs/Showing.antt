@@ -17,7 +17,8 @@ pub record Shows (a : Inside) (us : List BidiUnit) (breaks : List ℕ) : Type 0 
   pub units : (seen a).text.units ≡ us
   pub broken : IsBrokenAt breaks (seen a)
 
-module _ (a : Inside) (us : List BidiUnit) (indices : List ℕ) (laid : layout_in a.scratch ≡ layout_of a.limits us a.direction indices) (front : take (length us) (boxed_slice_items a.units) ≡ us) where
+module _ (a : Inside) (us : List BidiUnit) (indices : List ℕ) (laid : layout_in a.scratch ≡
+    layout_of a.limits us a.direction indices) (front : take (length us) (boxed_slice_items a.units) ≡ us) where
   count : length (layout_in a.scratch).levels ≡ length us
   count = ap (λ (v : TextLayout). length v.levels) laid ∙ length-levels a.limits us a.direction indices
 
@@ -32,16 +33,20 @@ module _ (a : Inside) (us : List BidiUnit) (indices : List ℕ) (laid : layout_i
         units = units;
         broken = record {
           indices = indices;
-          begin = ap (λ (b : Bool). map (offset_by (offsets_if b (take (length (layout_in a.scratch).levels + 1) (boxed_slice_items a.starts)))) indices) plain ∙ map-id indices;
+          begin = ap (λ (b : Bool).
+              map (offset_by (offsets_if b (take (length (layout_in a.scratch).levels + 1)
+              (boxed_slice_items a.starts)))) indices) plain ∙ map-id indices;
           laid_out = laid ∙ ap (λ (xs : List BidiUnit). layout_of a.limits xs a.direction indices) (sym units);
         };
       }
 
   -- they begin at these offsets
-  pub starts_shown : (starts : List ℕ) → take (length us + 1) (boxed_slice_items a.starts) ≡ starts → take (length (layout_in a.scratch).levels + 1) (boxed_slice_items a.starts) ≡ starts
+  pub starts_shown : (starts : List ℕ) → take (length us + 1) (boxed_slice_items a.starts) ≡ starts →
+      take (length (layout_in a.scratch).levels + 1) (boxed_slice_items a.starts) ≡ starts
   starts_shown starts begin = ap (λ (k : ℕ). take (k + 1) (boxed_slice_items a.starts)) count ∙ begin
 
-  pub shows_spelled : (starts breaks : List ℕ) → a.spelled ≡ true → take (length us + 1) (boxed_slice_items a.starts) ≡ starts
+  pub shows_spelled : (starts breaks : List ℕ) → a.spelled ≡ true →
+      take (length us + 1) (boxed_slice_items a.starts) ≡ starts
       → map (slice_index starts) indices ≡ breaks → Shows a us breaks
   shows_spelled starts breaks spelled begin found =
       record {
@@ -49,7 +54,9 @@ module _ (a : Inside) (us : List BidiUnit) (indices : List ℕ) (laid : layout_i
         units = units;
         broken = record {
           indices = indices;
-          begin = ap (λ (b : Bool). map (offset_by (offsets_if b (take (length (layout_in a.scratch).levels + 1) (boxed_slice_items a.starts)))) indices) spelled
+          begin = ap (λ (b : Bool).
+              map (offset_by (offsets_if b (take (length (layout_in a.scratch).levels + 1)
+              (boxed_slice_items a.starts)))) indices) spelled
               ∙ ap (λ (xs : List ℕ). map (slice_index xs) indices) (starts_shown starts begin) ∙ found;
           laid_out = laid ∙ ap (λ (xs : List BidiUnit). layout_of a.limits xs a.direction indices) (sym units);
         };

@@ -44,7 +44,8 @@ pub record IsNextText (tables : TablesOf) (source rest : SourceOf) : Type 0 wher
 
 -- P1 to P3: the levels of the paragraphs of a well-formed text are counted, and written to the front whole or not at
 -- all; for another text the result is its first fault, and nothing is written
-pub record WritesBaseLevels (tables : TablesOf) (source : SourceOf) (direction : Direction) (old new : List ℕ) (counted : Result ℕ ℕ) : Type 0 where
+pub record WritesBaseLevels (tables : TablesOf) (source : SourceOf) (direction : Direction) (old new : List ℕ)
+    (counted : Result ℕ ℕ) : Type 0 where
   pub well_formed : IfOk counted (λ _. IsWellFormed source)
   pub written : IfOk counted (λ count. WritesWhole (para_levels_of (units_of tables source) direction) count old new)
   pub fault : IfErr counted (IsFirstFault source)

@@ -21,5 +21,6 @@ pub record IsFirstInside (offset : ℕ → ℕ) (count : ℕ) (breaks : List ℕ
 -- only if there is none, the first one that is inside a character
 abbrev pub RejectsBreaks : (ℕ → ℕ) → ℕ → ℕ → List ℕ → LayoutFault → Type 0
 RejectsBreaks offset count size breaks (Break fault) = IsFirstBreakFault breaks size fault
-RejectsBreaks offset count size breaks (BreakInside index) = AreBreaks breaks size × IsFirstInside offset count breaks index
+RejectsBreaks offset count size breaks (BreakInside index) = AreBreaks breaks size ×
+    IsFirstInside offset count breaks index
 RejectsBreaks offset count size breaks _ = ⊥

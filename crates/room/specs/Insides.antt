@@ -39,10 +39,13 @@ pub record HaveCapacity (capacity units spare_units starts spare indices : ℕ) 
 pub record IsRoom (a : Inside) : Type 0 where
   pub filled : IsFilled a.scratch
   pub fits : length (boxed_slice_items a.units) ≡ room_of a.scratch
-  pub holds : HoldsText a.limits (take (length (layout_in a.scratch).levels) (boxed_slice_items a.units)) a.direction a.scratch
+  pub holds : HoldsText a.limits (take (length (layout_in a.scratch).levels) (boxed_slice_items a.units)) a.direction
+      a.scratch
   pub in_order : LinesHaveOrder (layout_in a.scratch)
-  pub columns : a.encodes ≡ true → HaveCapacity (room_of a.scratch) (length (boxed_slice_items a.units)) (length (boxed_slice_items a.spare_units))
+  pub columns : a.encodes ≡ true →
+      HaveCapacity (room_of a.scratch) (length (boxed_slice_items a.units)) (length (boxed_slice_items a.spare_units))
       (length (boxed_slice_items a.starts)) (length (boxed_slice_items a.spare)) (length (boxed_slice_items a.indices))
   pub spelled : a.spelled ≡ true → a.encodes ≡ true
   pub begun : a.spelled ≡ true → AreOffsets (length (layout_in a.scratch).levels) (boxed_slice_items a.starts)
-  pub ends : a.spelled ≡ true → slice_index (boxed_slice_items a.starts) (length (layout_in a.scratch).levels) ≤ room_of a.scratch
+  pub ends : a.spelled ≡ true → slice_index (boxed_slice_items a.starts) (length (layout_in a.scratch).levels) ≤
+      room_of a.scratch

@@ -32,7 +32,8 @@ abbrev pub Rejects : AskOf → RoomOf → LayoutFault → Type 0
 Rejects ask room NoOffsets = IsEncoded ask.source × (room.encodes ≡ false)
 Rejects ask room TooLong = HasOffsetsFor ask.source room × (room.capacity < size_of ask.source)
 Rejects ask room (IllFormed at) =
-    Fits ask.source room × (IsEncoded ask.source ⊎ AreBreaks ask.breaks (size_of ask.source)) × IsFirstFault ask.source at
+    Fits ask.source room × (IsEncoded ask.source ⊎ AreBreaks ask.breaks (size_of ask.source)) ×
+    IsFirstFault ask.source at
 Rejects ask room fault =
     Fits ask.source room × (IsEncoded ask.source → IsWellFormed ask.source)
     × RejectsBreaks (source_offset ask.source) (characters_of ask.source) (size_of ask.source) ask.breaks fault
@@ -47,7 +48,8 @@ pub record IsAsked (ask : AskOf) (tables : TablesOf) (text : TextOf) : Type 0 wh
 -- a room before and after a call that lays out a text, or that breaks one into lines again. Its capacity is unchanged.
 -- If the call succeeds, it contains such a text with its layout, broken at the breaks. Else it is unchanged, for a
 -- reason
-pub record LeavesText (IsTaken : Type 0) (IsRejected : LayoutFault → Type 0) (IsText : TextOf → Type 0) (breaks : List ℕ) (old new : RoomOf) (done : Result (Unit {0}) LayoutFault) : Type 0 where
+pub record LeavesText (IsTaken : Type 0) (IsRejected : LayoutFault → Type 0) (IsText : TextOf →
+    Type 0) (breaks : List ℕ) (old new : RoomOf) (done : Result (Unit {0}) LayoutFault) : Type 0 where
   pub capacity : new.capacity ≡ old.capacity
   pub encodes : new.encodes ≡ old.encodes
   pub unchanged : OnErr done (new ≡ old)
@@ -58,7 +60,8 @@ pub record LeavesText (IsTaken : Type 0) (IsRejected : LayoutFault → Type 0) (
 
 -- of a call that lays out a text as it is asked for
 abbrev pub Leaves : AskOf → TablesOf → RoomOf → RoomOf → Result (Unit {0}) LayoutFault → Type 0
-Leaves ask tables old new done = LeavesText (Takes ask old) (Rejects ask old) (IsAsked ask tables) ask.breaks old new done
+Leaves ask tables old new done =
+    LeavesText (Takes ask old) (Rejects ask old) (IsAsked ask tables) ask.breaks old new done
 
 -- breaks of the room's text are rejected for this reason
 abbrev pub RejectsLines : RoomOf → List ℕ → LayoutFault → Type 0
@@ -66,4 +69,5 @@ RejectsLines room breaks fault = RejectsBreaks (offset_in room) (characters_in r
 
 -- of a call that breaks the text of the room into lines again
 abbrev pub SetsLines : List ℕ → RoomOf → RoomOf → Result (Unit {0}) LayoutFault → Type 0
-SetsLines breaks old new done = LeavesText (AreBreaks breaks (size_in old)) (RejectsLines old breaks) (λ text. text ≡ old.text) breaks old new done
+SetsLines breaks old new done =
+    LeavesText (AreBreaks breaks (size_in old)) (RejectsLines old breaks) (λ text. text ≡ old.text) breaks old new done

@@ -24,7 +24,8 @@ pub record IsSpan (room : RoomOf) (start end first last : ℕ) : Type 0 where
 
 -- one line of characters, from the first up to the last, is written to the fronts of two lists, whichever breaks give
 -- this line; what comes after it is unchanged
-pub record WritesCharacters (room : RoomOf) (first last : ℕ) (levels levels2 : List (Option ℕ)) (order order2 : List ℕ) (shown : ℕ) : Type 0 where
+pub record WritesCharacters (room : RoomOf) (first last : ℕ) (levels levels2 : List (Option ℕ)) (order order2 : List ℕ)
+    (shown : ℕ) : Type 0 where
   pub taken : IsLineIn room.text.units (breaks_around first last) first last
   pub line : (breaks : List ℕ) → IsLineIn room.text.units breaks first last →
       IsLineLaidOut (broken_at room breaks) first last (take (last - first) levels2) (take shown order2)
@@ -34,12 +35,15 @@ pub record WritesCharacters (room : RoomOf) (first last : ℕ) (levels levels2 :
 
 -- L1, L2: in this layout each unit from the start on has the level of its character, and the characters from the first
 -- up to the last begin in this order
-pub record IsLineInUnits (room : RoomOf) (layout : TextLayout) (start end first last : ℕ) (levels : List (Option ℕ)) (order : List ℕ) : Type 0 where
-  pub leveled : (i k : ℕ) → i < end - start → IsAt room (start + i) k → slice_index_or levels i None ≡ slice_index_or layout.levels k None
+pub record IsLineInUnits (room : RoomOf) (layout : TextLayout) (start end first last : ℕ) (levels : List (Option ℕ))
+    (order : List ℕ) : Type 0 where
+  pub leveled : (i k : ℕ) → i < end - start → IsAt room (start + i) k →
+      slice_index_or levels i None ≡ slice_index_or layout.levels k None
   pub ordered : order ≡ map (offset_in room) (line_order layout.levels first last)
 
 -- one line of the text, from one offset up to another, is written so, whichever breaks give this line
-pub record WritesLineOf (room : RoomOf) (start end : ℕ) (levels levels2 : List (Option ℕ)) (order order2 : List ℕ) (shown : ℕ) : Type 0 where
+pub record WritesLineOf (room : RoomOf) (start end : ℕ) (levels levels2 : List (Option ℕ)) (order order2 : List ℕ)
+    (shown : ℕ) : Type 0 where
   pub first : ℕ
   pub last : ℕ
   pub span : IsSpan room start end first last
@@ -77,7 +81,8 @@ RejectsLineIn room start end places NotForward = RejectsSpan room start end NotF
 RejectsLineIn room start end places BeyondText = (end - start ≤ places) × RejectsSpan room start end BeyondText
 RejectsLineIn room start end places StartsInside = (end - start ≤ places) × RejectsSpan room start end StartsInside
 RejectsLineIn room start end places EndsInside = (end - start ≤ places) × RejectsSpan room start end EndsInside
-RejectsLineIn room start end places CrossesParagraph = (end - start ≤ places) × RejectsSpan room start end CrossesParagraph
+RejectsLineIn room start end places CrossesParagraph = (end - start ≤ places) ×
+    RejectsSpan room start end CrossesParagraph
 
 -- the fault of a line whose characters have this one
 abbrev pub fault_of_span : SpanFault → LineFault

@@ -37,7 +37,8 @@ lines_in room = map (λ line. bounds_of (in_units room line)) room.layout.lines
 -- it is the level of the character of the unit at the offset, or none from the text's end on
 abbrev pub IsLevelAt : RoomOf → ℕ → Option ℕ → Type 0
 IsLevelAt room at level =
-    ((k : ℕ) × IsAt room at k × (level ≡ slice_index_or room.layout.levels k None)) ⊎ ((size_in room ≤ at) × (level ≡ None))
+    ((k : ℕ) × IsAt room at k × (level ≡ slice_index_or room.layout.levels k None)) ⊎
+    ((size_in room ≤ at) × (level ≡ None))
 
 -- P2, P3: it is the level of the paragraph in which the character with the index k lies
 abbrev pub HasParaLevelOf : RoomOf → ℕ → ParaLevel → Type 0

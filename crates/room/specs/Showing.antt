@@ -20,9 +20,12 @@ pub record IsShown (tables : TablesOf) (level : Option ℕ) (code shown : ℕ) :
 -- L4: at each place of the order its code point is shown
 abbrev pub AreShown : TablesOf → RoomOf → List ℕ → List ℕ → List ℕ → Type 0
 AreShown tables room codes order shown =
-    (i : ℕ) → i < length shown → IsShown tables (slice_index_or room.layout.levels (slice_index order i) None) (slice_index codes (slice_index order i)) (slice_index shown i)
+    (i : ℕ) → i < length shown →
+    IsShown tables (slice_index_or room.layout.levels (slice_index order i) None)
+    (slice_index codes (slice_index order i)) (slice_index shown i)
 
 -- L4: the characters of the line with the number k are counted, and written as they are shown, whole or not at all
 abbrev pub WritesShown : TablesOf → RoomOf → List ℕ → ℕ → ℕ → List ℕ → List ℕ → Type 0
 WritesShown tables room codes k counted old new =
-    Writes (length (line_at room.layout k).order) (AreShown tables room codes (line_at room.layout k).order) counted old new
+    Writes (length (line_at room.layout k).order) (AreShown tables room codes (line_at room.layout k).order) counted old
+    new

@@ -8,7 +8,7 @@ ghost use Rattle.lines.specs.Scratches.{StillHoldsText};
 ghost use Rattle.room.specs.OrderedLines.{LinesHaveOrder};
 
 use lines::breaks::Breaks;
-use lines::lay_out::{set_lines_into, lay_out_into_with};
+use lines::lay_out::{lay_out_into_with, set_lines_into};
 use lines::scratch::Scratch;
 use units::bracket::Unit;
 use units::level::Direction;

@@ -24,7 +24,11 @@ item-field bs item =
     let ends = ends-item bs item in
     record {
       bytes = All-weaker IsItemByte IsFieldByte field-item bs item.bytes;
-      trim = trimmed-whole bs (record { some = ends.some; first = no-blank (get_or bs 0 0) (item.bytes 0 0 ends.some); last = ends.last });
+      trim = trimmed-whole bs (record {
+        some = ends.some;
+        first = no-blank (get_or bs 0 0) (item.bytes 0 0 ends.some);
+        last = ends.last;
+      });
     }
 
 module _ {A : Type 0} (text : A → List ℕ) where
@@ -33,7 +37,8 @@ module _ {A : Type 0} (text : A → List ℕ) where
 
   pub between-ends : (x : A) (xs : List A) → AreItems (x ∷ xs) → EndsPlain (between_blanks text (x ∷ xs))
   between-ends x xs items =
-      ends-following text (text x) xs (ends-item (text x) (All-head (λ y. IsItem (text y)) x xs items)) (All-tail (λ y. IsItem (text y)) x xs items)
+      ends-following text (text x) xs (ends-item (text x) (All-head (λ y. IsItem (text y)) x xs items))
+      (All-tail (λ y. IsItem (text y)) x xs items)
 
   pub between-first : (x : A) (xs : List A) → AreItems (x ∷ xs) → IsItemByte (get_or (between_blanks text (x ∷ xs)) 0 0)
   between-first x xs items = first-byte (text x) (after_blanks text xs) (All-head (λ y. IsItem (text y)) x xs items)
@@ -42,7 +47,8 @@ module _ {A : Type 0} (text : A → List ℕ) where
   between-bytes [] items = All-nil IsFieldByte
   between-bytes (x ∷ xs) items =
       let here : IsItem (text x) = All-head (λ y. IsItem (text y)) x xs items in
-      All-append IsFieldByte (text x) (after_blanks text xs) (All-weaker IsItemByte IsFieldByte field-item (text x) here.bytes)
+      All-append IsFieldByte (text x) (after_blanks text xs) (All-weaker IsItemByte IsFieldByte field-item
+      (text x) here.bytes)
       (following-fields text xs (All-tail (λ y. IsItem (text y)) x xs items))
 
   between-trimmed : (xs : List A) → AreItems xs → trimmed (between_blanks text xs) ≡ between_blanks text xs
@@ -58,9 +64,11 @@ module _ {A : Type 0} (text : A → List ℕ) where
   pub between-items : (xs : List A) → AreItems xs → items_of (between_blanks text xs) ≡ map text xs
   between-items [] items = refl
   between-items (x ∷ xs) items =
-      items-first text (text x) xs (All-head (λ y. IsItem (text y)) x xs items) (All-tail (λ y. IsItem (text y)) x xs items)
+      items-first text (text x) xs (All-head (λ y. IsItem (text y)) x xs items)
+      (All-tail (λ y. IsItem (text y)) x xs items)
 
-  pub length-between : (most : ℕ) (xs : List A) → All (λ x. length (text x) ≤ most) xs → length (between_blanks text xs) ≤ length xs * (most + 1)
+  pub length-between : (most : ℕ) (xs : List A) → All (λ x. length (text x) ≤ most) xs →
+      length (between_blanks text xs) ≤ length xs * (most + 1)
   length-between most [] few = omega arith
   length-between most (x ∷ xs) few =
       let here : length (text x) ≤ most = All-head (λ y. length (text y) ≤ most) x xs few in

@@ -30,15 +30,19 @@ trimmed-whole bs ends = ap without_trailing_blanks (before-whole bs ends.first) 
 pub content-whole : (line : List ℕ) → All (λ b. b ≢ 35) line → HasNoBlankEnds line → content_of line ≡ line
 content-whole line free ends =
     let none : position_or_len (λ b. b == 35) line ≡ length line =
-    position_or_len_is (λ b. b == 35) line (length line) 0 (omega arith) (λ k lt. ne_eqb (get_or line k 0) 35 (free k 0 lt)) (λ lt. absurd (omega arith)) in
+    position_or_len_is (λ b. b == 35) line (length line) 0 (omega arith) (λ k lt.
+    ne_eqb (get_or line k 0) 35 (free k 0 lt)) (λ lt. absurd (omega arith)) in
     ap trimmed (take_all (position_or_len (λ b. b == 35) line) line (omega (arith, none))) ∙ trimmed-whole line ends
 
 pub uncut : (separator : ℕ) (bs : List ℕ) → All (λ b. b ≢ separator) bs → cut_at separator bs ≡ bs ∷ []
 uncut separator bs free =
-    slice_split_none (λ b. b == separator) bs (All-weaker (λ b. b ≢ separator) (λ b. (b == separator) ≡ false) (λ b ne. ne_eqb b separator ne) bs free)
+    slice_split_none (λ b. b == separator) bs (All-weaker (λ b. b ≢ separator) (λ b. (b == separator) ≡ false) (λ b ne.
+    ne_eqb b separator ne) bs free)
 
 -- a piece before a separator
-pub cut-first : (separator : ℕ) (bs rest : List ℕ) → All (λ b. b ≢ separator) bs → cut_at separator (bs ++ separator ∷ rest) ≡ bs ∷ cut_at separator rest
+pub cut-first : (separator : ℕ) (bs rest : List ℕ) → All (λ b. b ≢ separator) bs →
+    cut_at separator (bs ++ separator ∷ rest) ≡ bs ∷ cut_at separator rest
 cut-first separator bs rest free =
     slice_split_at (λ b. b == separator) bs separator rest
-    (All-weaker (λ b. b ≢ separator) (λ b. (b == separator) ≡ false) (λ b ne. ne_eqb b separator ne) bs free) (eq-eqb separator separator refl)
+    (All-weaker (λ b. b ≢ separator) (λ b. (b == separator) ≡ false) (λ b ne. ne_eqb b separator ne) bs free)
+    (eq-eqb separator separator refl)

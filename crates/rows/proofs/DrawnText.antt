@@ -24,13 +24,20 @@ state_after-one_more w m i (suc n) s = state_after-one_more w m i n (next_state 
 
 advance-one_more : (g : Lcg) (n : ℕ) → (pcg32 (advance 64 multiplier_64 n g)).1 ≡ advance 64 multiplier_64 (n + 1) g
 advance-one_more g n =
-    ap (λ (s : ℕ). record { state = s; increment = g.increment }) (state_after-one_more 64 multiplier_64 g.increment n g.state ∙ ap (λ k. state_after 64 multiplier_64 g.increment k g.state) (sym (add-one n)))
+    ap (λ (s : ℕ). record {
+      state = s;
+      increment =
+          g.increment;
+    }) (state_after-one_more 64 multiplier_64 g.increment n g.state ∙
+    ap (λ k. state_after 64 multiplier_64 g.increment k g.state) (sym (add-one n)))
 
-pub drawn-none : (alphabet : List Letter) (from : Lcg) (text : List Letter) (len : ℕ) → length text ≡ len → IsDrawnBy alphabet from from text len 0
+pub drawn-none : (alphabet : List Letter) (from : Lcg) (text : List Letter) (len : ℕ) → length text ≡ len →
+    IsDrawnBy alphabet from from text len 0
 unfolding state_after
 drawn-none alphabet from text len n = record { size = n; following = refl; places = λ p lt. absurd (omega arith) }
 
-pub drawn-more : (alphabet : List Letter) (from now next : Lcg) (text : List Letter) (len done : ℕ) (letter : Letter) → done < len → IsDrawnBy alphabet from now text len done
+pub drawn-more : (alphabet : List Letter) (from now next : Lcg) (text : List Letter) (len done : ℕ) (letter : Letter) →
+    done < len → IsDrawnBy alphabet from now text len done
     → next ≡ (pcg32 now).1
     → letter ≡ letter_drawn alphabet (pcg32 now).0
     → IsDrawnBy alphabet from next (set text done letter) len (done + 1)
@@ -48,12 +55,15 @@ drawn-more alphabet from now next text len done letter lt h step is = record {
       ];
 }
 
-pub drawn-all : (alphabet : List Letter) (from now : Lcg) (text : List Letter) (len done : ℕ) → len ≤ done → IsDrawnBy alphabet from now text len done → text ≡ text_drawn alphabet from len
+pub drawn-all : (alphabet : List Letter) (from now : Lcg) (text : List Letter) (len done : ℕ) → len ≤ done →
+    IsDrawnBy alphabet from now text len done → text ≡ text_drawn alphabet from len
 drawn-all alphabet from now text len done all h =
     let count : length (positions_from 0 len) ≡ len = length-positions_from 0 len in
     let letter : ℕ → Letter = λ p. letter_drawn alphabet (word_after from p) in
-    ext_get_or no_letter text (text_drawn alphabet from len) (h.size ∙ sym (length-map (positions_from 0 len) letter ∙ count))
+    ext_get_or no_letter text (text_drawn alphabet from len) (h.size ∙ sym (length-map (positions_from 0 len) letter ∙
+    count))
     (λ p lt.
     let inside : p < len = omega (arith, h.size) in
     let at : get_or (positions_from 0 len) p 0 ≡ p = omega (arith, get_or-positions_from 0 len p 0 inside) in
-    h.places p (omega arith) ∙ sym (get_or-map letter (positions_from 0 len) p 0 no_letter (omega (arith, count)) ∙ ap letter at))
+    h.places p (omega arith) ∙ sym (get_or-map letter (positions_from 0 len) p 0 no_letter (omega (arith, count)) ∙
+    ap letter at))

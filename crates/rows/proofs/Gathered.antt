@@ -24,7 +24,8 @@ module _ {A : Type 0} (text : A → List ℕ) where
   }
 
   -- the first items after blanks are a blank and then the items with blanks between them
-  pub following-first : (items : List A) (n : ℕ) → 0 < n → 0 < length items → after_blanks text (take n items) ≡ 32 ∷ between_blanks text (take n items)
+  pub following-first : (items : List A) (n : ℕ) → 0 < n → 0 < length items →
+      after_blanks text (take n items) ≡ 32 ∷ between_blanks text (take n items)
   following-first items zero some there = absurd (omega arith)
   following-first [] (suc n) some there = absurd (omega arith)
   following-first (x ∷ items) (suc n) some there = refl

@@ -67,7 +67,8 @@ record BeginsWith (most n : ℕ) (rest whole : List ℕ) : Type 0 where
   pub few : length front ≤ most
   pub is : IsHexOf n front
 
-one-digit : (most i n : ℕ) (rest : List ℕ) → 0 < most → n < 16 → BeginsWith most n rest (digits_onto (suc i) 16 true n rest)
+one-digit : (most i n : ℕ) (rest : List ℕ) → 0 < most → n < 16 →
+    BeginsWith most n rest (digits_onto (suc i) 16 true n rest)
 one-digit most i n rest some within =
     let last : (n / 16 == 0) ≡ true = eq-eqb (n / 16) 0 (omega arith) in
     let digit : n % 16 ≡ n = omega arith in
@@ -87,32 +88,37 @@ one-digit most i n rest some within =
 abbrev last_digit : ℕ → ℕ
 last_digit n = digit_glyph true (n % 16)
 
-more-digits : (k i n : ℕ) (rest : List ℕ) → 16 ≤ n → BeginsWith (suc k) (n / 16) (last_digit n ∷ rest) (digits_onto (suc i) 16 true (n / 16) (last_digit n ∷ rest))
+more-digits : (k i n : ℕ) (rest : List ℕ) → 16 ≤ n →
+    BeginsWith (suc k) (n / 16) (last_digit n ∷ rest) (digits_onto (suc i) 16 true (n / 16) (last_digit n ∷ rest))
     → BeginsWith (suc (suc k)) n rest (digits_onto (suc (suc i)) 16 true n rest)
 more-digits k i n rest large before =
     let more : (n / 16 == 0) ≡ false = ne_eqb (n / 16) 0 (λ e. omega (arith, large, e)) in
     let digit = last_digit n in
     let is = glyph (n % 16) (omega arith) in
     let front : List ℕ = before.front in
-    let value : hex_value (front ++ digit ∷ []) ≡ hex_value front * 16 + hex_digit_value digit = fold_push (λ m b. m * 16 + hex_digit_value b) 0 front digit in
+    let value : hex_value (front ++ digit ∷ []) ≡ hex_value front * 16 + hex_digit_value digit =
+    fold_push (λ m b. m * 16 + hex_digit_value b) 0 front digit in
     record {
       front = front ++ digit ∷ [];
       joined = rw more (before.joined ∙ sym (append_assoc front (digit ∷ []) rest));
       few = omega (arith, length-append front (digit ∷ []), before.few);
       is = record {
         some = omega (arith, length-append front (digit ∷ []));
-        hex = All-append IsHexByte front (digit ∷ []) before.is.hex (All-cons IsHexByte digit [] is.hex (All-nil IsHexByte));
+        hex = All-append IsHexByte front (digit ∷ []) before.is.hex
+            (All-cons IsHexByte digit [] is.hex (All-nil IsHexByte));
         value = omega (arith, value, before.is.value, is.value);
       };
     }
 
-digits-begin : (k i n : ℕ) (rest : List ℕ) → k ≤ i → n < bound k → BeginsWith (suc k) n rest (digits_onto (suc i) 16 true n rest)
+digits-begin : (k i n : ℕ) (rest : List ℕ) → k ≤ i → n < bound k →
+    BeginsWith (suc k) n rest (digits_onto (suc i) 16 true n rest)
 digits-begin zero i n rest le within = one-digit 1 i n rest (omega arith) within
 digits-begin (suc k) zero n rest le within = absurd (omega arith)
 digits-begin (suc k) (suc i) n rest le within =
     elim (cases_lt n 16) [
       | inl small ↦ one-digit (suc (suc k)) (suc i) n rest (omega arith) small
-      | inr large ↦ more-digits k i n rest large (digits-begin k i (n / 16) (last_digit n ∷ rest) (omega arith) (omega (arith, within)))
+      | inr large ↦ more-digits k i n rest large (digits-begin k i (n / 16) (last_digit n ∷ rest) (omega arith)
+          (omega (arith, within)))
     ]
 
 -- zeros in front
@@ -139,7 +145,8 @@ code c within =
     let front : List ℕ = begun.front in
     let ds : digits 16 true c ≡ front = begun.joined ∙ append-nil front in
     let count = length-padded (4 - length front) front in
-    let text : replicate (4 - length front) 48 ++ front ≡ code_text c = ap (λ (xs : List ℕ). replicate (4 - length xs) 48 ++ xs) (sym ds) in
+    let text : replicate (4 - length front) 48 ++ front ≡ code_text c =
+    ap (λ (xs : List ℕ). replicate (4 - length xs) 48 ++ xs) (sym ds) in
     let n : length (code_text c) ≡ 4 - length front + length front = ap length (sym text) ∙ count in
     record {
       least = omega (arith, n);

@@ -88,7 +88,8 @@ level-few (Some n) within = length-decimal-le 3 n (omega arith) (omega arith) (o
 pub level-read : (level : Option ℕ) → IsLevel level → level_item (level_text level) ≡ Some level
 level-read None within = refl
 level-read (Some n) within =
-    rw (decimal-no_word n 120 (omega arith) (omega arith)) (ap (option_map (λ (m : ℕ). Some m)) (number-read 126 n within (omega arith)))
+    rw (decimal-no_word n 120 (omega arith) (omega arith))
+    (ap (option_map (λ (m : ℕ). Some m)) (number-read 126 n within (omega arith)))
 
 pub position-item : (p : ℕ) → p < 4096 → IsItem (decimal p)
 position-item p within = decimal-item p (omega arith)

@@ -44,36 +44,54 @@ case-says limits c deep is =
     let few = order-few limits units c.direction in
     let count : length (layout_of_case limits c).levels ≡ length units = length-levels limits units c.direction [] in
     record {
-      levels = levels-read (layout_of_case limits c).levels (levels-low limits units c.direction [] deep) (omega (arith, count));
+      levels = levels-read (layout_of_case limits c).levels (levels-low limits units c.direction [] deep) (omega (
+        arith,
+        count,
+      ));
       order = order-read (all_orders (layout_of_case limits c))
-          (All-weaker (λ p. p < length units) (λ p. p < 4096) (λ p lt. omega arith) (all_orders (layout_of_case limits c)) few.places) (omega (arith, few.few));
+          (All-weaker (λ p. p < length units) (λ p. p < 4096) (λ p lt.
+          omega arith) (all_orders (layout_of_case limits c)) few.places) (omega (arith, few.few));
       row = row-read c.text c.direction is;
     }
 
 -- the expected levels and order of a case
 abbrev expected_of_case : LimitsOf → Case → Expected
 expected_of_case limits c =
-    expected_under (units_of c.text) (c.direction ∷ []) (layout_of_case limits c).levels (all_orders (layout_of_case limits c))
+    expected_under (units_of c.text) (c.direction ∷ []) (layout_of_case limits c).levels
+    (all_orders (layout_of_case limits c))
 
 -- the findings of the lines of a case
 abbrev findings_of : LimitsOf → Case → List Finding
 findings_of limits c = Silent ∷ Silent ∷ Row (expected_of_case limits c) ∷ []
 
 found : (limits : LimitsOf) (cases : List Case) (earlier : List ClassesLine) → All (CaseSays limits) cases
-    → findings_after earlier (map classes_line (lines_of_cases limits Classes cases)) ≡ flat_map (findings_of limits) cases
+    → findings_after earlier (map classes_line (lines_of_cases limits Classes cases)) ≡
+    flat_map (findings_of limits) cases
 found limits [] earlier says = refl
 found limits (c ∷ cases) earlier says =
     let here : CaseSays limits c = All-head (CaseSays limits) c cases says in
-    let rest = found limits cases (RowOf (units_of c.text) (c.direction ∷ []) ∷ OrderIs (all_orders (layout_of_case limits c)) ∷ LevelsAre (layout_of_case limits c).levels ∷ earlier) (All-tail (CaseSays limits) c cases says) in
-    rw (here.levels.read, here.order.read, here.row.read) (ap (λ (fs : List Finding). Silent ∷ Silent ∷ Row (expected_of_case limits c) ∷ fs) rest)
+    let rest = found limits cases (RowOf (units_of c.text) (c.direction ∷ []) ∷
+    OrderIs (all_orders (layout_of_case limits c)) ∷ LevelsAre (layout_of_case limits c).levels ∷ earlier)
+    (All-tail (CaseSays limits) c cases says) in
+    rw (
+      here.levels.read,
+      here.order.read,
+      here.row.read,
+    ) (ap (λ (fs : List Finding). Silent ∷ Silent ∷ Row (expected_of_case limits c) ∷ fs) rest)
 
-no-difference : {A : Type 0} (same : A → A → Bool) → ((x : A) → same x x ≡ true) → (xs : List A) (at : ℕ) → first_difference same xs xs at ≡ None
+no-difference : {A : Type 0} (same : A → A → Bool) → ((x : A) → same x x ≡ true) → (xs : List A) (at : ℕ) →
+    first_difference same xs xs at ≡ None
 no-difference same alike [] at = refl
 no-difference same alike (x ∷ xs) at = rw (alike x) (no-difference same alike xs (at + 1))
 
-no-wrong : (para : Option ℕ) (layout : TextLayout) → agrees para (first_of layout.paras) ≡ true → wrong_place para layout.levels (all_orders layout) layout ≡ None
+no-wrong : (para : Option ℕ) (layout : TextLayout) → agrees para (first_of layout.paras) ≡ true →
+    wrong_place para layout.levels (all_orders layout) layout ≡ None
 no-wrong para layout agree =
-    rw (agree, no-difference same_position same_position_refl layout.levels 0, no-difference nat_eq (λ n. eq-eqb n n refl) (all_orders layout) 0) refl
+    rw (
+      agree,
+      no-difference same_position same_position_refl layout.levels 0,
+      no-difference nat_eq (λ n. eq-eqb n n refl) (all_orders layout) 0,
+    ) refl
 
 no-wrong-case : (limits : LimitsOf) (c : Case) → wrong_case limits (expected_of_case limits c) (c.direction ∷ []) ≡ None
 no-wrong-case limits c = rw (no-wrong None (layout_of_case limits c) refl) refl
@@ -82,18 +100,32 @@ no-no : (limits : LimitsOf) (cases : List Case) (k : ℕ) → first_no limits k 
 no-no limits [] k = refl
 no-no limits (c ∷ cases) k = rw (no-wrong-case limits c) (no-no limits cases (k + 1 + 1 + 1))
 
-count-rows : (limits : LimitsOf) (cases : List Case) → count_by is_row (flat_map (findings_of limits) cases) ≡ length cases
+count-rows : (limits : LimitsOf) (cases : List Case) →
+    count_by is_row (flat_map (findings_of limits) cases) ≡ length cases
 count-rows limits [] = refl
 count-rows limits (c ∷ cases) =
     let more = flat_map (findings_of limits) cases in
     let row : Finding → ℕ = λ f. cond (is_row f) 1 0 in
-    omega (arith, sum_by-cons row Silent (Silent ∷ Row (expected_of_case limits c) ∷ more), sum_by-cons row Silent (Row (expected_of_case limits c) ∷ more), sum_by-cons row (Row (expected_of_case limits c)) more, count-rows limits cases)
+    omega (
+      arith,
+      sum_by-cons row Silent (Silent ∷ Row (expected_of_case limits c) ∷ more),
+      sum_by-cons row Silent (Row (expected_of_case limits c) ∷ more),
+      sum_by-cons row (Row (expected_of_case limits c)) more,
+      count-rows limits cases,
+    )
 
-count-cases : (limits : LimitsOf) (cases : List Case) → sum_by cases_of (flat_map (findings_of limits) cases) ≡ length cases
+count-cases : (limits : LimitsOf) (cases : List Case) →
+    sum_by cases_of (flat_map (findings_of limits) cases) ≡ length cases
 count-cases limits [] = refl
 count-cases limits (c ∷ cases) =
     let more = flat_map (findings_of limits) cases in
-    omega (arith, sum_by-cons cases_of Silent (Silent ∷ Row (expected_of_case limits c) ∷ more), sum_by-cons cases_of Silent (Row (expected_of_case limits c) ∷ more), sum_by-cons cases_of (Row (expected_of_case limits c)) more, count-cases limits cases)
+    omega (
+      arith,
+      sum_by-cons cases_of Silent (Silent ∷ Row (expected_of_case limits c) ∷ more),
+      sum_by-cons cases_of Silent (Row (expected_of_case limits c) ∷ more),
+      sum_by-cons cases_of (Row (expected_of_case limits c)) more,
+      count-cases limits cases,
+    )
 
 case-feedless : (limits : LimitsOf) (c : Case) → CaseSays limits c → All HasNoFeed (case_lines limits Classes c)
 case-feedless limits c says =
@@ -104,12 +136,17 @@ case-feedless limits c says =
     (All-cons HasNoFeed order (row ∷ []) (no_feed-noted order says.order.by)
     (All-cons HasNoFeed row [] (no_feed-noted row says.row.by) (All-nil HasNoFeed)))
 
-pub classes-yes : (limits : LimitsOf) (cases : List Case) → limits.depth ≤ 125 → All (λ c. IsRowText Classes c.text) cases
-    → classes_verdict limits (cases_text limits Classes cases) ≡ Yes (saturated (length cases)) (saturated (length cases))
+pub classes-yes : (limits : LimitsOf) (cases : List Case) → limits.depth ≤ 125 →
+    All (λ c. IsRowText Classes c.text) cases
+    → classes_verdict limits (cases_text limits Classes cases) ≡
+    Yes (saturated (length cases)) (saturated (length cases))
 unfolding classes_verdict verdict_on
 classes-yes limits cases deep rows =
-    let says : All (CaseSays limits) cases = All-weaker (λ (c : Case). IsRowText Classes c.text) (CaseSays limits) (λ c is. case-says limits c deep is) cases rows in
-    let feedless = All-flat_map HasNoFeed (case_lines limits Classes) cases (All-weaker (CaseSays limits) (λ c. All HasNoFeed (case_lines limits Classes c)) (case-feedless limits) cases says) in
+    let says : All (CaseSays limits) cases =
+    All-weaker (λ (c : Case). IsRowText Classes c.text) (CaseSays limits) (λ c is.
+    case-says limits c deep is) cases rows in
+    let feedless = All-flat_map HasNoFeed (case_lines limits Classes) cases (All-weaker (CaseSays limits) (λ c.
+    All HasNoFeed (case_lines limits Classes c)) (case-feedless limits) cases says) in
     let lines : classes_findings (lines_of (cases_text limits Classes cases)) ≡ flat_map (findings_of limits) cases =
     ap classes_findings (lines-written (lines_of_cases limits Classes cases) feedless) ∙ found limits cases [] says in
     rw (lines, no-no limits cases 0, count-rows limits cases, count-cases limits cases) refl
@@ -123,36 +160,52 @@ module _ (tables : Bor TablesOf) (limits : LimitsOf) where
       Row (expected_of_row limits c here.para) ∷ row-findings cases (All-tail (SaysCase tables limits) c cases says)
 
   rows-found : (cases : List Case) (says : All (SaysCase tables limits) cases)
-      → map (characters_line (unit_by tables.now)) (lines_of_cases limits (Characters tables) cases) ≡ row-findings cases says
+      → map (characters_line (unit_by tables.now)) (lines_of_cases limits (Characters tables) cases) ≡
+      row-findings cases says
   rows-found [] says = refl
   rows-found (c ∷ cases) says =
       let here : SaysCase tables limits c = All-head (SaysCase tables limits) c cases says in
-      rw here.row.read (ap (λ (fs : List Finding). Row (expected_of_row limits c here.para) ∷ fs) (rows-found cases (All-tail (SaysCase tables limits) c cases says)))
+      rw here.row.read (ap (λ (fs : List Finding). Row (expected_of_row limits c here.para) ∷ fs)
+      (rows-found cases (All-tail (SaysCase tables limits) c cases says)))
 
-  right-row : (c : Case) (says : SaysCase tables limits c) → wrong_case limits (expected_of_row limits c says.para) (c.direction ∷ []) ≡ None
+  right-row : (c : Case) (says : SaysCase tables limits c) →
+      wrong_case limits (expected_of_row limits c says.para) (c.direction ∷ []) ≡ None
   right-row c says =
-      let agree : agrees (Some says.para) (first_of (layout_of_case limits c).paras) ≡ true = rw says.first.1 (eq-eqb says.para says.para refl) in
+      let agree : agrees (Some says.para) (first_of (layout_of_case limits c).paras) ≡ true =
+      rw says.first.1 (eq-eqb says.para says.para refl) in
       rw (no-wrong (Some says.para) (layout_of_case limits c) agree) refl
 
-  no-wrong-row : (cases : List Case) (says : All (SaysCase tables limits) cases) (k : ℕ) → first_no limits k (row-findings cases says) ≡ None
+  no-wrong-row : (cases : List Case) (says : All (SaysCase tables limits) cases) (k : ℕ) →
+      first_no limits k (row-findings cases says) ≡ None
   no-wrong-row [] says k = refl
   no-wrong-row (c ∷ cases) says k =
-      rw (right-row c (All-head (SaysCase tables limits) c cases says)) (no-wrong-row cases (All-tail (SaysCase tables limits) c cases says) (k + 1))
+      rw (right-row c (All-head (SaysCase tables limits) c cases says))
+      (no-wrong-row cases (All-tail (SaysCase tables limits) c cases says) (k + 1))
 
-  rows-counted : (cases : List Case) (says : All (SaysCase tables limits) cases) → count_by is_row (row-findings cases says) ≡ length cases
+  rows-counted : (cases : List Case) (says : All (SaysCase tables limits) cases) →
+      count_by is_row (row-findings cases says) ≡ length cases
   rows-counted [] says = refl
   rows-counted (c ∷ cases) says =
       let here : SaysCase tables limits c = All-head (SaysCase tables limits) c cases says in
       let rest = All-tail (SaysCase tables limits) c cases says in
       let row : Finding → ℕ = λ f. cond (is_row f) 1 0 in
-      omega (arith, sum_by-cons row (Row (expected_of_row limits c here.para)) (row-findings cases rest), rows-counted cases rest)
+      omega (
+        arith,
+        sum_by-cons row (Row (expected_of_row limits c here.para)) (row-findings cases rest),
+        rows-counted cases rest,
+      )
 
-  cases-counted : (cases : List Case) (says : All (SaysCase tables limits) cases) → sum_by cases_of (row-findings cases says) ≡ length cases
+  cases-counted : (cases : List Case) (says : All (SaysCase tables limits) cases) →
+      sum_by cases_of (row-findings cases says) ≡ length cases
   cases-counted [] says = refl
   cases-counted (c ∷ cases) says =
       let here : SaysCase tables limits c = All-head (SaysCase tables limits) c cases says in
       let rest = All-tail (SaysCase tables limits) c cases says in
-      omega (arith, sum_by-cons cases_of (Row (expected_of_row limits c here.para)) (row-findings cases rest), cases-counted cases rest)
+      omega (
+        arith,
+        sum_by-cons cases_of (Row (expected_of_row limits c here.para)) (row-findings cases rest),
+        cases-counted cases rest,
+      )
 
   row-feedless : (c : Case) → SaysCase tables limits c → All HasNoFeed (case_lines limits (Characters tables) c)
   row-feedless c says =
@@ -160,17 +213,23 @@ module _ (tables : Bor TablesOf) (limits : LimitsOf) where
       All-cons HasNoFeed line [] (no_feed-noted line says.row.by) (All-nil HasNoFeed)
 
   characters-yes : (cases : List Case) → limits.depth ≤ 125 → All (λ c. IsRowText (Characters tables) c.text) cases
-      → characters_verdict limits (unit_by tables.now) (cases_text limits (Characters tables) cases) ≡ Yes (saturated (length cases)) (saturated (length cases))
+      → characters_verdict limits (unit_by tables.now) (cases_text limits (Characters tables) cases) ≡
+      Yes (saturated (length cases)) (saturated (length cases))
   unfolding characters_verdict verdict_on
   characters-yes cases deep rows =
       let says : All (SaysCase tables limits) cases =
-      All-weaker (λ (c : Case). IsRowText (Characters tables) c.text) (SaysCase tables limits) (λ c is. case-row tables limits c deep is) cases rows in
+      All-weaker (λ (c : Case). IsRowText (Characters tables) c.text) (SaysCase tables limits) (λ c is.
+      case-row tables limits c deep is) cases rows in
       let feedless = All-flat_map HasNoFeed (case_lines limits (Characters tables)) cases
-      (All-weaker (SaysCase tables limits) (λ c. All HasNoFeed (case_lines limits (Characters tables) c)) row-feedless cases says) in
-      let lines : characters_findings (unit_by tables.now) (lines_of (cases_text limits (Characters tables) cases)) ≡ row-findings cases says =
-      ap (characters_findings (unit_by tables.now)) (lines-written (lines_of_cases limits (Characters tables) cases) feedless) ∙ rows-found cases says in
+      (All-weaker (SaysCase tables limits) (λ c. All HasNoFeed (case_lines limits (Characters tables) c)) row-feedless
+      cases says) in
+      let lines : characters_findings (unit_by tables.now) (lines_of (cases_text limits (Characters tables) cases)) ≡
+      row-findings cases says =
+      ap (characters_findings (unit_by tables.now))
+      (lines-written (lines_of_cases limits (Characters tables) cases) feedless) ∙ rows-found cases says in
       rw (lines, no-wrong-row cases says 0, rows-counted cases says, cases-counted cases says) refl
 
-pub judged-yes : (limits : LimitsOf) (kind : Kind) (cases : List Case) → limits.depth ≤ 125 → All (λ c. IsRowText kind c.text) cases → JudgeSaysYes limits kind cases
+pub judged-yes : (limits : LimitsOf) (kind : Kind) (cases : List Case) → limits.depth ≤ 125 →
+    All (λ c. IsRowText kind c.text) cases → JudgeSaysYes limits kind cases
 judged-yes limits Classes cases deep rows = classes-yes limits cases deep rows
 judged-yes limits (Characters tables) cases deep rows = characters-yes tables limits cases deep rows

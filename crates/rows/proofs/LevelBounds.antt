@@ -53,19 +53,22 @@ low-zip : (ps : List ℕ) (level : ℕ) (cs : List Class) → level ≤ 125 → 
 low-zip [] level cs within = All-nil IsLow
 low-zip (p ∷ ps) level [] within = All-nil IsLow
 low-zip (p ∷ ps) level (c ∷ cs) within =
-    All-cons IsLow (p, implicit_level level c) (zip ps (map (implicit_level level) cs)) (raised level c within) (low-zip ps level cs within)
+    All-cons IsLow (p, implicit_level level c) (zip ps (map (implicit_level level) cs)) (raised level c within)
+    (low-zip ps level cs within)
 
 -- what is true of all elements of each piece is true of all elements of the joined list
 module _ {A B : Type 0} (P : B → Type 0) (f : A → List B) where
   pub All-flat_map : (xs : List A) → All (λ x. All P (f x)) xs → All P (flat_map f xs)
   All-flat_map [] each = All-nil P
   All-flat_map (x ∷ xs) each =
-      All-append P (f x) (flat_map f xs) (All-head (λ y. All P (f y)) x xs each) (All-flat_map xs (All-tail (λ y. All P (f y)) x xs each))
+      All-append P (f x) (flat_map f xs) (All-head (λ y. All P (f y)) x xs each)
+      (All-flat_map xs (All-tail (λ y. All P (f y)) x xs each))
 
 found-low : (found : List (ℕ × ℕ)) (p : ℕ) → All IsLow found → IsLevel (value_beside found p)
 found-low [] p low = tt
 found-low (x ∷ found) p low =
-    elim (nat_eq x.0 p) as (λ b. IsLevel (option_map (λ (y : ℕ × ℕ). y.1) (cond b (Some x) (find (λ (y : ℕ × ℕ). y.0 == p) found)))) [
+    elim (nat_eq x.0 p) as (λ b.
+    IsLevel (option_map (λ (y : ℕ × ℕ). y.1) (cond b (Some x) (find (λ (y : ℕ × ℕ). y.0 == p) found)))) [
       | true ↦ All-head IsLow x found low
       | false ↦ found-low found p (All-tail IsLow x found low)
     ]
@@ -81,9 +84,12 @@ IsShallow s = s.level ≤ 125
 sequences-shallow : (t : LeveledView) → IsLeveled t → All IsShallow (sequences_of t)
 sequences-shallow t leveled =
     All-map IsShallow (sequence_at t) (filter (begins_sequence t) (positions_of t.levels))
-    (all-of-every (λ p. IsShallow (sequence_at t p)) (λ p. level-or (level_of t p) t.base (leveled.levels_within p) leveled.base_within) (filter (begins_sequence t) (positions_of t.levels)))
+    (all-of-every (λ p. IsShallow (sequence_at t p)) (λ p.
+    level-or (level_of t p) t.base (leveled.levels_within p) leveled.base_within)
+    (filter (begins_sequence t) (positions_of t.levels)))
 
-resolved-low : (limits : LimitsOf) (us : List BidiUnit) (para : ℕ) → limits.depth ≤ 125 → para ≤ 1 → All IsLevel (resolved_levels limits us para)
+resolved-low : (limits : LimitsOf) (us : List BidiUnit) (para : ℕ) → limits.depth ≤ 125 → para ≤ 1 →
+    All IsLevel (resolved_levels limits us para)
 unfolding resolved_levels
 resolved-low limits us para deep low =
     let cs = classes_of us in
@@ -92,30 +98,40 @@ resolved-low limits us para deep low =
     let found : List (ℕ × ℕ) = flat_map (levels_in limits.brackets us current) sequences in
     let each : All (λ s. All IsLow (levels_in limits.brackets us current s)) sequences =
     All-weaker IsShallow (λ s. All IsLow (levels_in limits.brackets us current s))
-    (λ s shallow. low-zip s.positions s.level (after_rules limits.brackets s us (classes_at current s.positions)) shallow) sequences
+    (λ s shallow. low-zip s.positions s.level (after_rules limits.brackets s us (classes_at current s.positions))
+    shallow) sequences
     (sequences-shallow (leveled_of limits.depth cs para) (leveled limits.depth cs para deep low)) in
     All-map IsLevel (value_beside found) (positions_of us)
-    (all-of-every (λ p. IsLevel (value_beside found p)) (λ p. found-low found p (All-flat_map IsLow (levels_in limits.brackets us current) sequences each)) (positions_of us))
+    (all-of-every (λ p. IsLevel (value_beside found p)) (λ p.
+    found-low found p (All-flat_map IsLow (levels_in limits.brackets us current) sequences each)) (positions_of us))
 
-text-low : (limits : LimitsOf) (text : List BidiUnit) (direction : Direction) → limits.depth ≤ 125 → All IsLevel (text_levels limits text direction)
+text-low : (limits : LimitsOf) (text : List BidiUnit) (direction : Direction) → limits.depth ≤ 125 →
+    All IsLevel (text_levels limits text direction)
 text-low limits text direction deep =
-    let resolved : List BidiUnit → List (Option ℕ) = λ us. resolved_levels limits us (para_level_of (classes_of us) direction) in
+    let resolved : List BidiUnit → List (Option ℕ) =
+    λ us. resolved_levels limits us (para_level_of (classes_of us) direction) in
     All-flat_map IsLevel resolved (paragraphs_of text)
-    (all-of-every (λ us. All IsLevel (resolved us)) (λ us. resolved-low limits us (para_level_of (classes_of us) direction) deep (para_level-low (classes_of us) direction)) (paragraphs_of text))
+    (all-of-every (λ us. All IsLevel (resolved us)) (λ us.
+    resolved-low limits us (para_level_of (classes_of us) direction) deep
+    (para_level-low (classes_of us) direction)) (paragraphs_of text))
 
-paras-low : (text : List BidiUnit) (direction : Direction) (k : ℕ) → slice_index_or (para_levels_of text direction) k 0 ≤ 126
+paras-low : (text : List BidiUnit) (direction : Direction) (k : ℕ) →
+    slice_index_or (para_levels_of text direction) k 0 ≤ 126
 paras-low text direction k =
     elim (cases_lt k (length (para_levels_of text direction))) [
       | inl lt ↦ (
           let low : All (λ n. n ≤ 1) (para_levels_of text direction) =
           All-map (λ n. n ≤ 1) (λ us. para_level_of (classes_of us) direction) (paragraphs_of text)
-          (all-of-every (λ us. para_level_of (classes_of us) direction ≤ 1) (λ us. para_level-low (classes_of us) direction) (paragraphs_of text)) in
+          (all-of-every (λ us. para_level_of (classes_of us) direction ≤ 1) (λ us.
+          para_level-low (classes_of us) direction) (paragraphs_of text)) in
           let here : slice_index_or (para_levels_of text direction) k 0 ≤ 1 = low k 0 lt in
           omega arith)
-      | inr past ↦ (let e : slice_index_or (para_levels_of text direction) k 0 ≡ 0 = get_or_past (para_levels_of text direction) k 0 past in omega arith)
+      | inr past ↦ (let e : slice_index_or (para_levels_of text direction) k 0 ≡ 0 =
+          get_or_past (para_levels_of text direction) k 0 past in omega arith)
     ]
 
-reset-low : (reset : Bool) (para : ℕ) (level : Option ℕ) → para ≤ 126 → IsLevel level → IsLevel (reset_to reset para level)
+reset-low : (reset : Bool) (para : ℕ) (level : Option ℕ) → para ≤ 126 → IsLevel level →
+    IsLevel (reset_to reset para level)
 reset-low reset para None low h = tt
 reset-low true para (Some level) low h = low
 reset-low false para (Some level) low h = h
@@ -127,14 +143,17 @@ level-at levels p each =
       | inr past ↦ subst IsLevel (sym (get_or_past levels p None past)) tt
     ]
 
-pub levels-low : (limits : LimitsOf) (text : List BidiUnit) (direction : Direction) (breaks : List ℕ) → limits.depth ≤ 125 → All IsLevel (layout_of limits text direction breaks).levels
+pub levels-low : (limits : LimitsOf) (text : List BidiUnit) (direction : Direction) (breaks : List ℕ) →
+    limits.depth ≤ 125 → All IsLevel (layout_of limits text direction breaks).levels
 unfolding layout_of after_resets
 levels-low limits text direction breaks deep =
     let own = classes_of text in
     let paras = para_levels_of text direction in
     let levels = text_levels limits text direction in
-    let reset : ℕ → Option ℕ = λ p. reset_to (is_reset own breaks p) (para_level_at own paras p) (slice_index_or levels p None) in
+    let reset : ℕ → Option ℕ =
+    λ p. reset_to (is_reset own breaks p) (para_level_at own paras p) (slice_index_or levels p None) in
     All-map IsLevel reset (positions_of levels)
     (all-of-every (λ p. IsLevel (reset p))
     (λ p. reset-low (is_reset own breaks p) (para_level_at own paras p) (slice_index_or levels p None)
-    (paras-low text direction (count_by is_separator (take p own))) (level-at levels p (text-low limits text direction deep))) (positions_of levels))
+    (paras-low text direction (count_by is_separator (take p own)))
+    (level-at levels p (text-low limits text direction deep))) (positions_of levels))

@@ -29,7 +29,8 @@ IsRowLine naming line = IsRowText (kind_of naming) (map (letter_named naming) li
 abbrev pub IsShort : List ℕ → Type 0
 IsShort line = length line ≤ longest_row
 
-following-none : (b : Bool) (number : ℕ) (later : Option ℕ) → cond b (Some number) later ≡ None → (b ≡ false) × (later ≡ None)
+following-none : (b : Bool) (number : ℕ) (later : Option ℕ) → cond b (Some number) later ≡ None →
+    (b ≡ false) × (later ≡ None)
 following-none true number later e = absurd (cc)
 following-none false number later e = (refl, e)
 
@@ -39,21 +40,25 @@ none-longer number (line ∷ lines) e =
     let none = following-none (is_long line) number (position_from is_long (number + 1) lines) e in
     All-cons IsShort line lines (ltb-false longest_row (length line) none.0) (none-longer (number + 1) lines none.1)
 
-pub some-line : (line : List ℕ) (lines more : List (List ℕ)) → lines ≡ line ∷ more → 0 < length line → filter has_some lines ≡ line ∷ filter has_some more
+pub some-line : (line : List ℕ) (lines more : List (List ℕ)) → lines ≡ line ∷ more → 0 < length line →
+    filter has_some lines ≡ line ∷ filter has_some more
 some-line [] lines more e some = absurd (omega (arith, some))
 some-line (code ∷ line) lines more e some = ap (filter has_some) e
 
-pub empty-line : (line : List ℕ) (lines more : List (List ℕ)) → lines ≡ line ∷ more → length line ≡ 0 → filter has_some lines ≡ filter has_some more
+pub empty-line : (line : List ℕ) (lines more : List (List ℕ)) → lines ≡ line ∷ more → length line ≡ 0 →
+    filter has_some lines ≡ filter has_some more
 empty-line [] lines more e none = ap (filter has_some) e
 empty-line (code ∷ line) lines more e none = absurd (omega (arith, none))
 
 -- the first of the remaining lines is short, and so are the others
-pub short-first : (line : List ℕ) (lines more : List (List ℕ)) → lines ≡ line ∷ more → All IsShort lines → IsShort line × All IsShort more
+pub short-first : (line : List ℕ) (lines more : List (List ℕ)) → lines ≡ line ∷ more → All IsShort lines →
+    IsShort line × All IsShort more
 short-first line lines more e short =
     let both : All IsShort (line ∷ more) = subst (All IsShort) e short in
     (All-head IsShort line more both, All-tail IsShort line more both)
 
 -- what was printed is what comes before an equal rest
-pub same-passed : (text : List ℕ → List ℕ) (old new : Option (List ℕ)) (whole rest others : List (List ℕ)) → rest ≡ others
+pub same-passed : (text : List ℕ → List ℕ) (old new : Option (List ℕ)) (whole rest others : List (List ℕ)) →
+    rest ≡ others
     → HasPrintedUpTo old new text whole rest → HasPrintedUpTo old new text whole others
 same-passed text old new whole rest others e passed = subst (HasPrintedUpTo old new text whole) e passed

@@ -29,7 +29,11 @@ pub record IsLineByte (b : ℕ) : Type 0 where
   pub comment : b ≢ 35
 
 pub field-item : (b : ℕ) → IsItemByte b → IsFieldByte b
-field-item b item = record { printed = omega (arith, item.above); comment = λ e. omega (arith, item.above, e); separator = item.within }
+field-item b item = record {
+  printed = omega (arith, item.above);
+  comment = λ e. omega (arith, item.above, e);
+  separator = item.within;
+}
 
 pub line-field : (b : ℕ) → IsFieldByte b → IsLineByte b
 line-field b field = record { printed = field.printed; comment = field.comment }
@@ -50,14 +54,17 @@ ends-append front bs ends =
     let n = length-append front bs in
     let at : length (front ++ bs) - 1 - length front ≡ length bs - 1 = omega (arith, n) in
     let e : get_or (front ++ bs) (length (front ++ bs) - 1) 0 ≡ get_or bs (length bs - 1) 0 =
-    get_or-append_right front bs (length front) (length (front ++ bs) - 1) 0 refl (omega (arith, n, ends.some)) ∙ ap (λ i. get_or bs i 0) at in
+    get_or-append_right front bs (length front) (length (front ++ bs) - 1) 0 refl (omega (arith, n, ends.some)) ∙
+    ap (λ i. get_or bs i 0) at in
     record { some = omega (arith, n, ends.some); last = ap is_blank e ∙ ends.last }
 
 module _ {A : Type 0} (text : A → List ℕ) where
-  pub ends-following : (w : List ℕ) (xs : List A) → EndsPlain w → All (λ x. IsItem (text x)) xs → EndsPlain (w ++ after_blanks text xs)
+  pub ends-following : (w : List ℕ) (xs : List A) → EndsPlain w → All (λ x. IsItem (text x)) xs →
+      EndsPlain (w ++ after_blanks text xs)
   ends-following w [] ends items = subst EndsPlain (sym (append-nil w)) ends
   ends-following w (x ∷ xs) ends items =
-      let here = ends-append w (32 ∷ text x) (ends-append (32 ∷ []) (text x) (ends-item (text x) (All-head (λ y. IsItem (text y)) x xs items))) in
+      let here = ends-append w (32 ∷ text x)
+      (ends-append (32 ∷ []) (text x) (ends-item (text x) (All-head (λ y. IsItem (text y)) x xs items))) in
       subst EndsPlain (append_assoc w (32 ∷ text x) (after_blanks text xs))
       (ends-following (w ++ 32 ∷ text x) xs here (All-tail (λ y. IsItem (text y)) x xs items))
 
@@ -66,10 +73,16 @@ module _ {A : Type 0} (text : A → List ℕ) where
   following-fields (x ∷ xs) items =
       let here : IsItem (text x) = All-head (λ y. IsItem (text y)) x xs items in
       All-append IsFieldByte (32 ∷ text x) (after_blanks text xs)
-      (All-cons IsFieldByte 32 (text x) (record { printed = omega arith; comment = λ e. omega arith; separator = λ e. omega arith }) (All-weaker IsItemByte IsFieldByte field-item (text x) here.bytes))
+      (All-cons IsFieldByte 32 (text x) (record {
+        printed = omega arith;
+        comment = λ e. omega arith;
+        separator =
+            λ e. omega arith;
+      }) (All-weaker IsItemByte IsFieldByte field-item (text x) here.bytes))
       (following-fields xs (All-tail (λ y. IsItem (text y)) x xs items))
 
-  pub length-following : (most : ℕ) (xs : List A) → All (λ x. length (text x) ≤ most) xs → length (after_blanks text xs) ≤ length xs * (most + 1)
+  pub length-following : (most : ℕ) (xs : List A) → All (λ x. length (text x) ≤ most) xs →
+      length (after_blanks text xs) ≤ length xs * (most + 1)
   length-following most [] few = omega arith
   length-following most (x ∷ xs) few =
       let here : length (text x) ≤ most = All-head (λ y. length (text y) ≤ most) x xs few in
@@ -89,12 +102,15 @@ pub whole-line : (line : List ℕ) → IsReadableLine line → classes_line line
 unfolding classes_line
 whole-line line noted =
     let short : nat_lt longest_line (length line) ≡ false = let s = noted.short in grind (arith, nat_tests) in
-    rw short (ap (classes_content bit_set) (content-whole line (All-weaker IsLineByte (λ b. b ≢ 35) (λ b h. h.comment) line noted.bytes) noted.ends))
+    rw short (ap (classes_content bit_set) (content-whole line (All-weaker IsLineByte (λ b. b ≢ 35) (λ b h.
+    h.comment) line noted.bytes) noted.ends))
 
 -- after the name of a directive
 module _ {A : Type 0} (text : A → List ℕ) where
-  noted-following : (w : List ℕ) (xs : List A) (most : ℕ) → 0 < length w → is_blank (get_or w 0 0) ≡ false → EndsPlain w → All IsFieldByte w → length w ≤ 10 → most ≤ 4
-      → length xs ≤ 4096 → All (λ x. IsItem (text x)) xs → All (λ x. length (text x) ≤ most) xs → IsReadableLine (w ++ after_blanks text xs)
+  noted-following : (w : List ℕ) (xs : List A) (most : ℕ) → 0 < length w → is_blank (get_or w 0 0) ≡ false →
+      EndsPlain w → All IsFieldByte w → length w ≤ 10 → most ≤ 4
+      → length xs ≤ 4096 → All (λ x. IsItem (text x)) xs → All (λ x. length (text x) ≤ most) xs →
+      IsReadableLine (w ++ after_blanks text xs)
   noted-following [] xs most some first ends fields few low fits items short = absurd (omega arith)
   noted-following (b ∷ w) xs most some first ends fields few low fits items short =
       let last = ends-following text (b ∷ w) xs ends items in
@@ -102,7 +118,8 @@ module _ {A : Type 0} (text : A → List ℕ) where
       let each : most + 1 ≤ 5 = omega arith in
       let product : length xs * (most + 1) ≤ 4096 * 5 = mul-le-mul fits each in
       record {
-        bytes = All-weaker IsFieldByte IsLineByte line-field ((b ∷ w) ++ after_blanks text xs) (All-append IsFieldByte (b ∷ w) (after_blanks text xs) fields (following-fields text xs items));
+        bytes = All-weaker IsFieldByte IsLineByte line-field ((b ∷ w) ++ after_blanks text xs)
+            (All-append IsFieldByte (b ∷ w) (after_blanks text xs) fields (following-fields text xs items));
         ends = record { some = last.some; first = first; last = last.last };
         short = omega (arith, length-append (b ∷ w) (after_blanks text xs), blanks, product, few);
       }
@@ -114,18 +131,28 @@ is-printed b test =
     let separator : b ≢ 59 = λ e. grind (arith, nat_tests) in
     record { printed = low; comment = comment; separator = separator }
 
-fields-tested : (bs : List ℕ) → list_all (λ b. nat_le 32 b && (not (b == 35) && not (b == 59))) bs ≡ true → All IsFieldByte bs
+fields-tested : (bs : List ℕ) → list_all (λ b. nat_le 32 b && (not (b == 35) && not (b == 59))) bs ≡ true →
+    All IsFieldByte bs
 fields-tested = all-tested IsFieldByte (λ b. nat_le 32 b && (not (b == 35) && not (b == 59))) is-printed
 
-levels-noted : (levels : List (Option ℕ)) → All IsLevel levels → length levels ≤ 4096 → IsReadableLine (levels_line levels)
+levels-noted : (levels : List (Option ℕ)) → All IsLevel levels → length levels ≤ 4096 →
+    IsReadableLine (levels_line levels)
 levels-noted levels within fits =
-    noted-following level_text (codes "@Levels:") levels 3 (omega arith) refl (record { some = omega arith; last = refl }) (fields-tested (codes "@Levels:") refl) (omega arith) (omega arith) fits
+    noted-following level_text (codes "@Levels:") levels 3 (omega arith) refl (record {
+      some = omega arith;
+      last =
+          refl;
+    }) (fields-tested (codes "@Levels:") refl) (omega arith) (omega arith) fits
     (All-weaker IsLevel (λ level. IsItem (level_text level)) level-item levels within)
     (All-weaker IsLevel (λ level. length (level_text level) ≤ 3) level-few levels within)
 
 order-noted : (order : List ℕ) → All (λ p. p < 4096) order → length order ≤ 4096 → IsReadableLine (order_line order)
 order-noted order within fits =
-    noted-following decimal (codes "@Reorder:") order 4 (omega arith) refl (record { some = omega arith; last = refl }) (fields-tested (codes "@Reorder:") refl) (omega arith) (omega arith) fits
+    noted-following decimal (codes "@Reorder:") order 4 (omega arith) refl (record {
+      some = omega arith;
+      last =
+          refl;
+    }) (fields-tested (codes "@Reorder:") refl) (omega arith) (omega arith) fits
     (All-weaker (λ p. p < 4096) (λ p. IsItem (decimal p)) position-item order within)
     (All-weaker (λ p. p < 4096) (λ p. length (decimal p) ≤ 4) position-few order within)
 
@@ -134,7 +161,8 @@ pub record Says (line : List ℕ) (noted : ClassesLine) : Type 0 where
   pub by : IsReadableLine line
   pub read : classes_line line ≡ noted
 
-pub levels-read : (levels : List (Option ℕ)) → All IsLevel levels → length levels ≤ 4096 → Says (levels_line levels) (LevelsAre levels)
+pub levels-read : (levels : List (Option ℕ)) → All IsLevel levels → length levels ≤ 4096 →
+    Says (levels_line levels) (LevelsAre levels)
 levels-read levels within fits =
     let by = levels-noted levels within fits in
     let items = All-weaker IsLevel (λ level. IsItem (level_text level)) level-item levels within in
@@ -142,11 +170,13 @@ levels-read levels within fits =
     record {
       by = by;
       read = whole-line (levels_line levels) by
-          ∙ ap (λ (list : List (List ℕ)). levels_directive (each_read level_item list)) (items-following level_text levels items)
+          ∙ ap (λ (list : List (List ℕ)). levels_directive (each_read level_item list))
+          (items-following level_text levels items)
           ∙ ap levels_directive (each-read level_text level_item levels reads);
     }
 
-pub order-read : (order : List ℕ) → All (λ p. p < 4096) order → length order ≤ 4096 → Says (order_line order) (OrderIs order)
+pub order-read : (order : List ℕ) → All (λ p. p < 4096) order → length order ≤ 4096 →
+    Says (order_line order) (OrderIs order)
 order-read order within fits =
     let by = order-noted order within fits in
     let items = All-weaker (λ p. p < 4096) (λ p. IsItem (decimal p)) position-item order within in
@@ -154,6 +184,7 @@ order-read order within fits =
     record {
       by = by;
       read = whole-line (order_line order) by
-          ∙ ap (λ (list : List (List ℕ)). order_directive (each_read order_item list)) (items-following decimal order items)
+          ∙ ap (λ (list : List (List ℕ)). order_directive (each_read order_item list))
+          (items-following decimal order items)
           ∙ ap order_directive (each-read decimal order_item order reads);
     }

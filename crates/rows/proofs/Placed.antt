@@ -12,11 +12,13 @@ module _ {A : Type 0} (text : A → List ℕ) where
   following-joined xs ys = flat_map-append (λ x. codes " " ++ text x) xs ys
 
   pub parts-joined : (begun : Bool) (xs ys : List A)
-      → after_or_between begun text (xs ++ ys) ≡ after_or_between begun text xs ++ after_or_between (begun || has_some xs) text ys
+      → after_or_between begun text (xs ++ ys) ≡ after_or_between begun text xs ++
+      after_or_between (begun || has_some xs) text ys
   parts-joined true xs ys = following-joined xs ys
   parts-joined false [] ys = refl
   parts-joined false (x ∷ xs) ys =
-      ap (λ (bs : List ℕ). text x ++ bs) (following-joined xs ys) ∙ sym (append_assoc (text x) (after_blanks text xs) (after_blanks text ys))
+      ap (λ (bs : List ℕ). text x ++ bs) (following-joined xs ys) ∙
+      sym (append_assoc (text x) (after_blanks text xs) (after_blanks text ys))
 
   none-remaining : (begun : Bool) → after_or_between begun text [] ≡ []
   none-remaining true = refl
@@ -31,7 +33,8 @@ module _ {A : Type 0} (text : A → List ℕ) where
   pub none-begun : (a : Option (List ℕ)) (whole : List A) → HasBegun a a false whole whole
   none-begun a whole = record { bytes = []; grown = Appends-nothing a; remaining = refl }
 
-  pub part-begun : (a b c : Option (List ℕ)) (begun more : Bool) (whole rest xs ys : List A) → rest ≡ xs ++ ys → more ≡ (begun || has_some xs)
+  pub part-begun : (a b c : Option (List ℕ)) (begun more : Bool) (whole rest xs ys : List A) → rest ≡ xs ++ ys →
+      more ≡ (begun || has_some xs)
       → HasBegun a b begun whole rest → Appends b c (after_or_between begun text xs) → HasBegun a c more whole ys
   part-begun a b c begun more whole rest xs ys is so h grown =
       let bytes : List ℕ = h.bytes in
@@ -46,9 +49,11 @@ module _ {A : Type 0} (text : A → List ℕ) where
             ∙ h.remaining;
       }
 
-  pub all-begun : (a b : Option (List ℕ)) (begun : Bool) (whole rest : List A) → rest ≡ [] → HasBegun a b begun whole rest → Appends a b (between_blanks text whole)
+  pub all-begun : (a b : Option (List ℕ)) (begun : Bool) (whole rest : List A) → rest ≡ [] →
+      HasBegun a b begun whole rest → Appends a b (between_blanks text whole)
   all-begun a b begun whole rest none h =
       let bytes : List ℕ = h.bytes in
       Appends-to a b bytes (between_blanks text whole)
-      (sym (append-nil bytes) ∙ ap (λ (bs : List ℕ). bytes ++ bs) (sym (none-remaining begun)) ∙ ap (λ (zs : List A). bytes ++ after_or_between begun text zs) (sym none) ∙ h.remaining)
+      (sym (append-nil bytes) ∙ ap (λ (bs : List ℕ). bytes ++ bs) (sym (none-remaining begun)) ∙
+      ap (λ (zs : List A). bytes ++ after_or_between begun text zs) (sym none) ∙ h.remaining)
       h.grown

@@ -30,7 +30,11 @@ digit-byte b digit =
     record { above = low; within = λ e. omega arith; plain = λ e. omega arith }
 
 pub decimal-item : (n : ℕ) → n < 2 ^ 64 → IsItem (decimal n)
-decimal-item n small = record { some = decimal_nonempty n small; bytes = all-tested IsItemByte is_digit digit-byte (decimal n) (digits_decimal own n small) }
+decimal-item n small = record {
+  some = decimal_nonempty n small;
+  bytes =
+      all-tested IsItemByte is_digit digit-byte (decimal n) (digits_decimal own n small);
+}
 
 no-word : (ds : List ℕ) (b : ℕ) → 57 < b → list_all is_digit ds ≡ true → bytes_eq ds (b ∷ []) ≡ false
 no-word [] b above digits = refl

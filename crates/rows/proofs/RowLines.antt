@@ -43,9 +43,14 @@ bits-end : (direction : Direction) → EndsPlain (59 ∷ 32 ∷ bit_text directi
 bits-end direction =
     let is = bits direction in
     let two : 2 ≡ length (59 ∷ 32 ∷ bit_text direction) - 1 = omega (arith, is.count) in
-    record { some = omega arith; last = ap (λ k. is_blank (get_or (59 ∷ 32 ∷ bit_text direction) k 0)) (sym two) ∙ is.last }
+    record {
+      some = omega arith;
+      last = ap (λ k. is_blank (get_or (59 ∷ 32 ∷ bit_text direction) k 0)) (sym two) ∙
+          is.last;
+    }
 
-no-directive : (bs : List ℕ) → 0 < length bs → get_or bs 0 0 ≢ 64 → classes_content bit_set bs ≡ classes_row_by bit_set (fields_of bs)
+no-directive : (bs : List ℕ) → 0 < length bs → get_or bs 0 0 ≢ 64 →
+    classes_content bit_set bs ≡ classes_row_by bit_set (fields_of bs)
 no-directive [] some ne = absurd (omega arith)
 no-directive (b ∷ bs) some ne = rw (ne_eqb b 64 ne) refl
 
@@ -67,11 +72,13 @@ module _ (l : Letter) (ls : List Letter) (direction : Direction) (letters : All 
 
   length-names : length names ≤ length text * 7
   length-names =
-      length-between letter_name 6 text (All-weaker (IsLetterOf Classes) (λ x. length (letter_name x) ≤ 6) (name-few Classes) text letters)
+      length-between letter_name 6 text (All-weaker (IsLetterOf Classes) (λ x. length (letter_name x) ≤ 6)
+      (name-few Classes) text letters)
 
   line-first : IsItemByte (get_or (row_line text direction) 0 0)
   line-first =
-      let begins : get_or (row_line text direction) 0 0 ≡ get_or names 0 0 = get_or_append_left names (59 ∷ 32 ∷ bit_text direction) 0 0 names-end.some in
+      let begins : get_or (row_line text direction) 0 0 ≡ get_or names 0 0 =
+      get_or_append_left names (59 ∷ 32 ∷ bit_text direction) 0 0 names-end.some in
       subst IsItemByte (sym begins) (between-first letter_name l ls items)
 
   row-noted : length text ≤ 4096 → IsReadableLine (row_line text direction)
@@ -79,24 +86,36 @@ module _ (l : Letter) (ls : List Letter) (direction : Direction) (letters : All 
       let is = bits direction in
       let ends = ends-append names (59 ∷ 32 ∷ bit_text direction) (bits-end direction) in
       record {
-        bytes = All-append IsLineByte names (59 ∷ 32 ∷ bit_text direction) (All-weaker IsFieldByte IsLineByte line-field names names-field.bytes)
-            (all-tested IsLineByte (λ b. nat_le 32 b && not (b == 35)) is-line-byte (59 ∷ 32 ∷ bit_text direction) is.bytes);
-        ends = record { some = ends.some; first = no-blank (get_or (row_line text direction) 0 0) line-first; last = ends.last };
+        bytes = All-append IsLineByte names (59 ∷ 32 ∷ bit_text direction)
+            (All-weaker IsFieldByte IsLineByte line-field names names-field.bytes)
+            (all-tested IsLineByte (λ b. nat_le 32 b && not (b == 35)) is-line-byte
+            (59 ∷ 32 ∷ bit_text direction) is.bytes);
+        ends = record {
+          some = ends.some;
+          first = no-blank (get_or (row_line text direction) 0 0) line-first;
+          last =
+              ends.last;
+        };
         short = omega (arith, length-append names (59 ∷ 32 ∷ bit_text direction), length-names, is.count);
       }
 
   fields-read : fields_of (row_line text direction) ≡ names ∷ bit_text direction ∷ []
   fields-read =
       let is = bits direction in
-      ap each_trimmed (cut-first 59 names (32 ∷ bit_text direction) (All-weaker IsFieldByte (λ b. b ≢ 59) (λ b h. h.separator) names names-field.bytes) ∙ ap (λ (ps : List (List ℕ)). names ∷ ps) is.uncut)
+      ap each_trimmed (cut-first 59 names (32 ∷ bit_text direction) (All-weaker IsFieldByte (λ b. b ≢ 59) (λ b h.
+      h.separator) names names-field.bytes) ∙ ap (λ (ps : List (List ℕ)). names ∷ ps) is.uncut)
       ∙ ap (λ (n : List ℕ). n ∷ trimmed (32 ∷ bit_text direction) ∷ []) names-field.trim
       ∙ ap (λ (b : List ℕ). names ∷ b ∷ []) is.trim
 
-  row-of-names : classes_row_of_items bit_set (items_of names) (bit_text direction) ≡ RowOf (units_of text) (direction ∷ [])
+  row-of-names : classes_row_of_items bit_set (items_of names) (bit_text direction) ≡
+      RowOf (units_of text) (direction ∷ [])
   row-of-names =
-      let reads = All-weaker (IsLetterOf Classes) (λ x. unit_item (letter_name x) ≡ Some (unit_of x)) class-read text letters in
-      ap (λ (ws : List (List ℕ)). classes_row_of_items bit_set ws (bit_text direction)) (between-items letter_name text items)
-      ∙ ap (λ (units : Option (List BidiUnit)). classes_row_as_read units (bit_set (bit_text direction))) (each-read-as letter_name unit_item unit_of text reads)
+      let reads = All-weaker (IsLetterOf Classes) (λ x. unit_item (letter_name x) ≡
+      Some (unit_of x)) class-read text letters in
+      ap (λ (ws : List (List ℕ)). classes_row_of_items bit_set ws (bit_text direction))
+      (between-items letter_name text items)
+      ∙ ap (λ (units : Option (List BidiUnit)). classes_row_as_read units (bit_set (bit_text direction)))
+      (each-read-as letter_name unit_item unit_of text reads)
       ∙ ap (classes_row_as_read (Some (units_of text))) (bits direction).read
 
   row-read-some : length text ≤ 4096 → Says (row_line text direction) (RowOf (units_of text) (direction ∷ []))
@@ -110,6 +129,7 @@ module _ (l : Letter) (ls : List Letter) (direction : Direction) (letters : All 
             ∙ row-of-names;
       }
 
-pub row-read : (text : List Letter) (direction : Direction) → IsRowText Classes text → Says (row_line text direction) (RowOf (units_of text) (direction ∷ []))
+pub row-read : (text : List Letter) (direction : Direction) → IsRowText Classes text →
+    Says (row_line text direction) (RowOf (units_of text) (direction ∷ []))
 row-read [] direction is = absurd (omega (arith, is.some))
 row-read (l ∷ ls) direction is = row-read-some l ls direction is.letters (omega (arith, is.fits))

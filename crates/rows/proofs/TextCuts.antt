@@ -26,7 +26,8 @@ pub lines-first : (text : List ℕ) (at : ℕ) → position is_feed text ≡ Som
     → text_lines text ≡ take at text ∷ text_lines (take (length text - (at + 1)) (drop (at + 1) text))
 lines-first text at e =
     let found = position-Some is_feed text at 0 e in
-    let here : position_or_len is_feed text ≡ at = position_or_len_is is_feed text at 0 (omega (arith, found.0)) found.2 (λ lt. found.1) in
+    let here : position_or_len is_feed text ≡ at =
+    position_or_len_is is_feed text at 0 (omega (arith, found.0)) found.2 (λ lt. found.1) in
     slice_split_first is_feed text 0 (omega (arith, here, found.0))
     ∙ ap (λ n. take n text ∷ text_lines (drop (n + 1) text)) here
     ∙ ap (λ (rest : List ℕ). take at text ∷ text_lines rest) (sym (take_rest text (at + 1)))

@@ -69,7 +69,8 @@ in_fields (field ∷ next ∷ fields) = field ++ (codes ";" ++ in_fields (next �
 -- of all positions, and the order
 abbrev pub fields_with_layout : TextLayout → Case → List (List ℕ)
 fields_with_layout layout c =
-    between_blanks letter_name c.text ∷ direction_text c.direction ∷ para_text layout.paras ∷ between_blanks level_text layout.levels
+    between_blanks letter_name c.text ∷ direction_text c.direction ∷ para_text layout.paras ∷
+    between_blanks level_text layout.levels
     ∷ between_blanks decimal (all_orders layout) ∷ []
 
 -- the lines of a case with this layout: in a file of classes its levels, its order and its row; in a file of characters

@@ -26,7 +26,12 @@ impl<'a> Model for Exhaustive<'a> {
 
     ghost view = { λ e. record { alphabet = e.alphabet.now; least = e.least; greatest = e.greatest } };
 
-    ghost invariant = { λ e. CanBeCounted (record { alphabet = e.alphabet.now; least = e.least; greatest = e.greatest }) };
+    ghost invariant = { λ e. CanBeCounted (record {
+      alphabet = e.alphabet.now;
+      least = e.least;
+      greatest =
+          e.greatest;
+    }) };
 }
 
 impl<'a> Exhaustive<'a> {
@@ -40,7 +45,12 @@ impl<'a> Exhaustive<'a> {
         greatest: usize,
     ) -> Result<Exhaustive<'a>, RowsFault>
         ensures made { IfOk result (λ e. e ≡ record { alphabet = alphabet.now; least = least; greatest = greatest }) }
-        ensures rejected { result_err result ≡ rejection_of (record { alphabet = alphabet.now; least = least; greatest = greatest }) }
+        ensures rejected { result_err result ≡ rejection_of (record {
+          alphabet = alphabet.now;
+          least = least;
+          greatest =
+              greatest;
+        }) }
     {
         if alphabet.is_empty() {
             return Err(RowsFault::NoLetter);

@@ -25,9 +25,21 @@ impl<'a> Model for Random<'a> {
 
     ghost Value = { RandomOf };
 
-    ghost view = { λ r. record { alphabet = r.alphabet.now; least = r.least; greatest = r.greatest; seed = r.seed; count = r.count } };
+    ghost view = { λ r. record {
+      alphabet = r.alphabet.now;
+      least = r.least;
+      greatest = r.greatest;
+      seed = r.seed;
+      count = r.count;
+    } };
 
-    ghost invariant = { λ r. CanBeDrawn (record { alphabet = r.alphabet.now; least = r.least; greatest = r.greatest; seed = r.seed; count = r.count }) };
+    ghost invariant = { λ r. CanBeDrawn (record {
+      alphabet = r.alphabet.now;
+      least = r.least;
+      greatest = r.greatest;
+      seed = r.seed;
+      count = r.count;
+    }) };
 }
 
 impl<'a> Random<'a> {
@@ -42,8 +54,20 @@ impl<'a> Random<'a> {
         seed: u64,
         count: usize,
     ) -> Result<Random<'a>, RowsFault>
-        ensures made { IfOk result (λ r. r ≡ record { alphabet = alphabet.now; least = least; greatest = greatest; seed = seed; count = count }) }
-        ensures rejected { result_err result ≡ no_drawing_of (record { alphabet = alphabet.now; least = least; greatest = greatest; seed = seed; count = count }) }
+        ensures made { IfOk result (λ r. r ≡ record {
+          alphabet = alphabet.now;
+          least = least;
+          greatest = greatest;
+          seed = seed;
+          count = count;
+        }) }
+        ensures rejected { result_err result ≡ no_drawing_of (record {
+          alphabet = alphabet.now;
+          least = least;
+          greatest = greatest;
+          seed = seed;
+          count = count;
+        }) }
     {
         if alphabet.is_empty() {
             return Err(RowsFault::NoLetter);

@@ -31,14 +31,17 @@ values_in cs s = map (implicit_level s.level) (classes_at cs s.positions)
 says_own : (cs : List Class) → SaysOwn (implicit_in cs)
 says_own cs = λ s p none. zip_none s.positions (values_in cs s) p none
 
-module _ {extent : ℕ} {all : List SequenceView} (apart : AreDisjoint extent all) {k : ℕ} {s : SequenceView} (at : slice_get all k ≡ Some s) (inside : k < length all) where
+module _ {extent : ℕ} {all : List SequenceView} (apart : AreDisjoint extent all) {k : ℕ} {s : SequenceView}
+    (at : slice_get all k ≡ Some s) (inside : k < length all) where
   -- with one more sequence
-  pub raised_next : (cs : List Class) (now next : List (Option ℕ)) → AreRaised cs (take k all) now → Raises s.level cs s.positions now next → AreRaised cs (take (k + 1) all) next
+  pub raised_next : (cs : List Class) (now next : List (Option ℕ)) → AreRaised cs (take k all) now →
+      Raises s.level cs s.positions now next → AreRaised cs (take (k + 1) all) next
   raised_next cs now next w step p =
       let ps : List ℕ = s.positions in
       let items : SequenceView → List (ℕ × ℕ) = implicit_in cs in
       let own = says_own cs in
-      let long : length (values_in cs s) ≡ length ps = length-map (classes_at cs ps) (implicit_level s.level) ∙ length-classes_at cs ps in
+      let long : length (values_in cs s) ≡ length ps = length-map (classes_at cs ps) (implicit_level s.level) ∙
+      length-classes_at cs ps in
       elim (cases_lt 0 (times ps p)) [
         | inl some ↦
             (let z = zip_some ps (values_in cs s) p long some 0 in
@@ -57,7 +60,8 @@ module _ {extent : ℕ} {all : List SequenceView} (apart : AreDisjoint extent al
       ]
 
 -- after all sequences have theirs
-pub raised_end : (all : List SequenceView) (k : ℕ) (cs : List Class) (levels : List (Option ℕ)) → length all ≡ k → length levels ≡ length cs →
+pub raised_end : (all : List SequenceView) (k : ℕ) (cs : List Class) (levels : List (Option ℕ)) → length all ≡ k →
+    length levels ≡ length cs →
     AreRaised cs (take k all) levels → levels ≡ implicit_of all cs
 unfolding implicit_of
 raised_end all k cs levels e n w =
@@ -67,5 +71,7 @@ raised_end all k cs levels e n w =
     let whole : take k all ≡ all = take_all k all (omega arith) in
     ext_get_or None levels (map f (positions_of cs)) (omega arith)
     (λ i l.
-    let at : slice_index (positions_of cs) i ≡ i = omega (arith, get_or-positions_from 0 (length cs) i 0 (omega arith)) in
-    w i ∙ ap (λ (done : List SequenceView). value_beside (flat_map (implicit_in cs) done) i) whole ∙ ap f (sym at) ∙ sym (get_or-map f (positions_of cs) i 0 None (omega arith)))
+    let at : slice_index (positions_of cs) i ≡ i =
+    omega (arith, get_or-positions_from 0 (length cs) i 0 (omega arith)) in
+    w i ∙ ap (λ (done : List SequenceView). value_beside (flat_map (implicit_in cs) done) i) whole ∙ ap f (sym at) ∙
+    sym (get_or-map f (positions_of cs) i 0 None (omega arith)))

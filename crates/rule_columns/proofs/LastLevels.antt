@@ -53,9 +53,11 @@ pass_keeps pass.N2 s cs = length-map cs (by_n2 (direction_of s.level))
 n0_keeps : (us : List BidiUnit) (before : List Class) → KeepsLength (by_n0 us before)
 n0_keeps us before s cs = length-after_paired _ s.sos _ _ cs
 
-module _ {extent : ℕ} {all : List SequenceView} (apart : AreDisjoint extent all) {k : ℕ} {s : SequenceView} (at : slice_get all k ≡ Some s) (inside : k < length all) where
+module _ {extent : ℕ} {all : List SequenceView} (apart : AreDisjoint extent all) {k : ℕ} {s : SequenceView}
+    (at : slice_get all k ≡ Some s) (inside : k < length all) where
   -- at the positions of a sequence, the result is that of the rule for its classes
-  rewritten_in : (rule : SequenceView → List Class → List Class) → KeepsLength rule → (cs : List Class) → length cs ≡ extent →
+  rewritten_in : (rule : SequenceView → List Class → List Class) → KeepsLength rule → (cs : List Class) →
+      length cs ≡ extent →
       classes_at (rewritten rule all cs) s.positions ≡ rule s (classes_at cs s.positions)
   unfolding rewritten
   rewritten_in rule keeps cs n =
@@ -63,7 +65,8 @@ module _ {extent : ℕ} {all : List SequenceView} (apart : AreDisjoint extent al
       let values : List Class = rule s (classes_at cs ps) in
       let long : length values ≡ length ps = keeps s (classes_at cs ps) ∙ length-classes_at cs ps in
       let f : ℕ → Class = rewritten_at rule all cs in
-      same_classes (classes_at (rewritten rule all cs) ps) values (length-classes_at (rewritten rule all cs) ps ∙ sym long)
+      same_classes (classes_at (rewritten rule all cs) ps) values (length-classes_at (rewritten rule all cs) ps ∙
+      sym long)
       (λ j h.
       let here : j < length ps = omega (arith, length-classes_at (rewritten rule all cs) ps) in
       let p : ℕ = slice_index ps j in
@@ -71,14 +74,20 @@ module _ {extent : ℕ} {all : List SequenceView} (apart : AreDisjoint extent al
       let within : p < extent = within_extent apart at inside p (contains_index ps j here) in
       let some : 0 < Rattle.sequences.specs.Once.times ps p = times_some ps p (contains_index ps j here) in
       let z = zip_some ps values p long some L in
-      let index : z.0 ≡ j = elim (cases_eq z.0 j) [ inl e ↦ e | inr other ↦ absurd (distinct_in apart at inside z.0 j z.1 here other z.2) ] in
+      let index : z.0 ≡ j = elim (cases_eq z.0 j) [
+        | inl e ↦ e
+        | inr other ↦
+            absurd (distinct_in apart at inside z.0 j z.1 here other z.2)
+      ] in
       class_at-classes_at (rewritten rule all cs) ps j here
       ∙ class_at-at_each f cs p (omega (arith, n, within))
-      ∙ ap (λ (o : Option Class). unwrap_or o d) (located_in (classes_in rule cs) (says_own rule cs) all k s at p some (apart.once p within) ∙ z.3)
+      ∙ ap (λ (o : Option Class). unwrap_or o d) (located_in (classes_in rule cs) (says_own rule cs) all k s at p some
+      (apart.once p within) ∙ z.3)
       ∙ ap (class_at values) index)
 
 -- two functions with the same results for the elements of a list have the same joined results
-flat_same : (f g : SequenceView → List (ℕ × ℕ)) (all : List SequenceView) → ((k : ℕ) (s : SequenceView) → slice_get all k ≡ Some s → k < length all → f s ≡ g s) →
+flat_same : (f g : SequenceView → List (ℕ × ℕ)) (all : List SequenceView) →
+    ((k : ℕ) (s : SequenceView) → slice_get all k ≡ Some s → k < length all → f s ≡ g s) →
     flat_map f all ≡ flat_map g all
 flat_same f g [] same = refl
 flat_same f g (x ∷ all) same =
@@ -93,13 +102,15 @@ module _ (us : List BidiUnit) (direction : Direction) (only : SeparatorOnlyLast 
   all_here = sequences_of (leveled_of standard.depth (classes_of us) (para_level_of (classes_of us) direction))
 
   disjoint : AreDisjoint (length us) all_here
-  disjoint = sequences_are_apart standard.depth (omega arith) us (para_level_of (classes_of us) direction) (para_level-low (classes_of us) direction) only
+  disjoint = sequences_are_apart standard.depth (omega arith) us (para_level_of (classes_of us) direction)
+      (para_level-low (classes_of us) direction) only
 
   module _ (k : ℕ) (s : SequenceView) (at : slice_get all_here k ≡ Some s) (inside : k < length all_here) where
     abbrev here : List Class → List Class
     here cs = classes_at cs s.positions
 
-    through_pass : (pass : Pass) (cs : List Class) → length cs ≡ length us → here (rewritten (by_pass pass) all_here cs) ≡ by_pass pass s (here cs)
+    through_pass : (pass : Pass) (cs : List Class) → length cs ≡ length us →
+        here (rewritten (by_pass pass) all_here cs) ≡ by_pass pass s (here cs)
     through_pass pass cs n = rewritten_in disjoint at inside (by_pass pass) (pass_keeps pass) cs n
 
     through_w7 : here columns.weak.w7 ≡ after_weak s.sos (here columns.current)
@@ -120,9 +131,11 @@ module _ (us : List BidiUnit) (direction : Direction) (only : SeparatorOnlyLast 
         let fit = (columns_fit us direction).classes in
         through_pass pass.N2 columns.neutral.n1 (fit rule.N1)
         ∙ ap (by_pass pass.N2 s) (through_pass pass.N1 columns.neutral.n0 (fit rule.N0)
-        ∙ ap (by_pass pass.N1 s) (rewritten_in disjoint at inside (by_n0 us columns.current) (n0_keeps us columns.current) columns.weak.w7 (fit rule.W7)
+        ∙ ap (by_pass pass.N1 s) (rewritten_in disjoint at inside (by_n0 us columns.current)
+        (n0_keeps us columns.current) columns.weak.w7 (fit rule.W7)
         ∙ ap (after_brackets standard.brackets s us (here columns.current)) through_w7))
-        ∙ in_two_steps (direction_of s.level) s.sos s.eos (after_brackets standard.brackets s us (here columns.current) (after_weak s.sos (here columns.current)))
+        ∙ in_two_steps (direction_of s.level) s.sos s.eos (after_brackets standard.brackets s us (here columns.current)
+        (after_weak s.sos (here columns.current)))
 
     same_levels : implicit_in columns.neutral.n2 s ≡ levels_in standard.brackets us columns.current s
     same_levels = ap (λ (cs : List Class). zip s.positions (map (implicit_level s.level) cs)) through_n2
@@ -131,6 +144,8 @@ module _ (us : List BidiUnit) (direction : Direction) (only : SeparatorOnlyLast 
   unfolding columns_of resolved_levels implicit_of
   last_levels =
       let n : length columns.neutral.n2 ≡ length us = (columns_fit us direction).classes rule.N2 in
-      let joined = flat_same (implicit_in columns.neutral.n2) (levels_in standard.brackets us columns.current) all_here same_levels in
+      let joined = flat_same (implicit_in columns.neutral.n2) (levels_in standard.brackets us columns.current) all_here
+      same_levels in
       ap (λ (found : List (ℕ × ℕ)). map (value_beside found) (positions_from 0 (length columns.neutral.n2))) joined
-      ∙ ap (λ (size : ℕ). map (value_beside (flat_map (levels_in standard.brackets us columns.current) all_here)) (positions_from 0 size)) n
+      ∙ ap (λ (size : ℕ). map (value_beside (flat_map (levels_in standard.brackets us columns.current) all_here))
+      (positions_from 0 size)) n

@@ -36,13 +36,16 @@ value_holds P [] p all = tt
 value_holds P (x ∷ xs) p all =
     let Q : Option (ℕ × ℕ) → Type 0 = λ found. IfSome (option_map (λ (y : ℕ × ℕ). y.1) found) P in
     elim (cases_Bool (x.0 == p)) [
-      | inl same ↦ subst Q (sym (cond-true (x.0 == p) (Some x) (find (λ (y : ℕ × ℕ). y.0 == p) xs) same)) (All-head (λ (y : ℕ × ℕ). P y.1) x xs all)
+      | inl same ↦ subst Q (sym (cond-true (x.0 == p) (Some x) (find (λ (y : ℕ × ℕ). y.0 == p) xs) same))
+          (All-head (λ (y : ℕ × ℕ). P y.1) x xs all)
       | inr other ↦
-          subst Q (sym (cond-false (x.0 == p) (Some x) (find (λ (y : ℕ × ℕ). y.0 == p) xs) other)) (value_holds P xs p (All-tail (λ (y : ℕ × ℕ). P y.1) x xs all))
+          subst Q (sym (cond-false (x.0 == p) (Some x) (find (λ (y : ℕ × ℕ). y.0 == p) xs) other))
+          (value_holds P xs p (All-tail (λ (y : ℕ × ℕ). P y.1) x xs all))
     ]
 
 -- each closing bracket is in its paragraph
-closers_lie : (us : List BidiUnit) (weak : List Class) (extent : ℕ) (all : List SequenceView) → All (λ s. All (λ q. q < extent) s.positions) all →
+closers_lie : (us : List BidiUnit) (weak : List Class) (extent : ℕ) (all : List SequenceView) →
+    All (λ s. All (λ q. q < extent) s.positions) all →
     All (λ x. x.1 < extent) (flat_map (pairs_in us weak) all)
 closers_lie us weak extent [] within = All-nil (λ (x : ℕ × ℕ). x.1 < extent)
 closers_lie us weak extent (s ∷ all) within =
@@ -51,10 +54,12 @@ closers_lie us weak extent (s ∷ all) within =
     let ps : List ℕ = s.positions in
     let here : All (λ q. q < extent) ps = All-head Q s all within in
     All-append P (pairs_in us weak s) (flat_map (pairs_in us weak) all)
-    (All-map P (placed_pair ps) _ (All-weaker (LiesBelow (length ps)) (λ (pair : ℕ × ℕ). P (placed_pair ps pair)) (λ pair l. All-get_or (λ q. q < extent) ps pair.1 0 l.1 here) _ (pairs_lie us weak s)))
+    (All-map P (placed_pair ps) _ (All-weaker (LiesBelow (length ps)) (λ (pair : ℕ × ℕ). P (placed_pair ps pair))
+    (λ pair l. All-get_or (λ q. q < extent) ps pair.1 0 l.1 here) _ (pairs_lie us weak s)))
     (closers_lie us weak extent all (All-tail Q s all within))
 
-closer_inside : (us : List BidiUnit) (weak : List Class) (all : List SequenceView) → All (λ s. All (λ q. q < length us) s.positions) all →
+closer_inside : (us : List BidiUnit) (weak : List Class) (all : List SequenceView) →
+    All (λ s. All (λ q. q < length us) s.positions) all →
     (p : ℕ) → p < length us → IfSome (closer_in (closers_of all us weak) p) (λ q. q < length us)
 unfolding closers_of closer_of
 closer_inside us weak all within p h =
@@ -62,7 +67,8 @@ closer_inside us weak all within p h =
     let f : ℕ → Option ℕ = closer_of found in
     let m : length (positions_of us) ≡ length us = length-positions_from 0 (length us) in
     let at : slice_index (positions_of us) p ≡ p = omega (arith, get_or-positions_from 0 (length us) p 0 h) in
-    let is : closer_in (map f (positions_of us)) p ≡ f p = get_or-map f (positions_of us) p 0 None (omega arith) ∙ ap f at in
+    let is : closer_in (map f (positions_of us)) p ≡ f p = get_or-map f (positions_of us) p 0 None (omega arith) ∙
+    ap f at in
     let P : Option ℕ → Type 0 = λ o. IfSome o (λ q. q < length us) in
     subst P (sym is) (value_holds (λ q. q < length us) found p (closers_lie us weak (length us) all within))
 
@@ -75,9 +81,11 @@ unfolding first_strong
 strong_inside us = grind (arith, length-map, first_inside)
 
 -- the order of the first line has only positions of the text
-order_inside : (levels : List (Option ℕ)) (cuts : List ℕ) → All (λ c. c ≤ length levels) cuts → All (λ p. p < length levels) (slice_index_or (lines_cut_at levels cuts) 0 no_line).order
+order_inside : (levels : List (Option ℕ)) (cuts : List ℕ) → All (λ c. c ≤ length levels) cuts →
+    All (λ p. p < length levels) (slice_index_or (lines_cut_at levels cuts) 0 no_line).order
 order_inside [] cuts within = All-nil (λ p. p < 0)
-order_inside (level ∷ levels) [] within = line_order-places (level ∷ levels) 0 (length (level ∷ levels)) (omega arith) (omega arith)
+order_inside (level ∷ levels) [] within =
+    line_order-places (level ∷ levels) 0 (length (level ∷ levels)) (omega arith) (omega arith)
 order_inside (level ∷ levels) (cut ∷ cuts) within =
     line_order-places (level ∷ levels) 0 cut (omega arith) (All-head (λ c. c ≤ length (level ∷ levels)) cut cuts within)
 
@@ -89,11 +97,13 @@ cuts_inside own size n =
     let m : length (positions_from 1 (length own - 1)) ≡ length own - 1 = length-positions_from 1 (length own - 1) in
     omega (arith, get_or-positions_from 1 (length own - 1) i 0 (omega arith))))
 
-line_inside : (us : List BidiUnit) (direction : Direction) → All (λ p. p < length us) (slice_index_or (layout_of standard us direction []).lines 0 no_line).order
+line_inside : (us : List BidiUnit) (direction : Direction) →
+    All (λ p. p < length us) (slice_index_or (layout_of standard us direction []).lines 0 no_line).order
 unfolding layout_of
 line_inside us direction = grind (arith, length-levels, length-map, order_inside, cuts_inside)
 
-pub columns_inside : (us : List BidiUnit) (direction : Direction) → SeparatorOnlyLast us → NamesInside (columns_of us direction) (length us)
+pub columns_inside : (us : List BidiUnit) (direction : Direction) → SeparatorOnlyLast us →
+    NamesInside (columns_of us direction) (length us)
 unfolding columns_of
 columns_inside us direction only =
     grind (arith, sequences_are_apart, para_level-low, strong_inside, closer_inside, line_inside)

@@ -13,7 +13,8 @@ use Rattle.explicit.proofs.Matched.Nesting.{IsContained, holds_from, holds_down,
 -- a position inside an isolate is not outside of all isolates
 pub within_isolate : (cs : List Class) (i p : ℕ) → IsContained cs i p → isolate_around cs p ≢ None
 unfolding isolate_around
-within_isolate cs i p h none = false≢true (sym (last_below_none (λ i. isolate_holds cs i p) p none i h.after) ∙ holds_from cs i p h)
+within_isolate cs i p h none = false≢true (sym (last_below_none (λ i. isolate_holds cs i p) p none i h.after) ∙
+    holds_from cs i p h)
 
 module _ (cs : List Class) (p : ℕ) (outside : isolate_around cs p ≡ None) where
   in_no_isolate : (i : ℕ) → IsContained cs i p → ⊥
@@ -28,20 +29,33 @@ module _ (cs : List Class) (p : ℕ) (outside : isolate_around cs p ≡ None) wh
   outside_match a later match = grind (arith, around_nowhere, in_no_isolate, holds_down, inner_match)
 
   -- all positions up to this PDI are inside
-  pub inside_match : is_isolate_initiator (class_at cs p) ≡ true → (a : ℕ) → matching_pdi cs p ≡ Some a → (q : ℕ) → p < q → q < a → isolate_around cs q ≢ None
+  pub inside_match : is_isolate_initiator (class_at cs p) ≡ true → (a : ℕ) → matching_pdi cs p ≡ Some a → (q : ℕ) →
+      p < q → q < a → isolate_around cs q ≢ None
   inside_match opener a match q following before =
-      within_isolate cs p q (record { opener = opener; after = following; before = λ b e. let same : a ≡ b = (let both : Some a ≡ Some b = sym match ∙ e in cc) in omega (arith, same) })
+      within_isolate cs p q (record {
+        opener = opener;
+        after = following;
+        before = λ b e. let same : a ≡ b =
+            (let both : Some a ≡ Some b = sym match ∙ e in cc) in omega (arith, same);
+      })
 
   -- all positions after the initiator are inside, if no PDI matches it
-  pub inside_unmatched : is_isolate_initiator (class_at cs p) ≡ true → matching_pdi cs p ≡ None → (q : ℕ) → p < q → isolate_around cs q ≢ None
+  pub inside_unmatched : is_isolate_initiator (class_at cs p) ≡ true → matching_pdi cs p ≡ None → (q : ℕ) → p < q →
+      isolate_around cs q ≢ None
   inside_unmatched opener none q following =
-      within_isolate cs p q (record { opener = opener; after = following; before = λ b e. absurd (let both : Some b ≡ None = sym e ∙ none in cc) })
+      within_isolate cs p q (record {
+        opener = opener;
+        after = following;
+        before =
+            λ b e. absurd (let both : Some b ≡ None = sym e ∙ none in cc);
+      })
 
 -- a strong position outside of all isolates
 abbrev pub decides : List Class → ℕ → Bool
 decides cs q = is_strong (class_at cs q) && same_position (isolate_around cs q) None
 
-pub decides_outside : (cs : List Class) (q : ℕ) → is_strong (class_at cs q) ≡ true → isolate_around cs q ≡ None → decides cs q ≡ true
+pub decides_outside : (cs : List Class) (q : ℕ) → is_strong (class_at cs q) ≡ true → isolate_around cs q ≡ None →
+    decides cs q ≡ true
 decides_outside cs q strong outside = rw (strong, outside) refl
 
 pub weak_undecided : (cs : List Class) (q : ℕ) → is_strong (class_at cs q) ≡ false → decides cs q ≡ false
@@ -60,14 +74,18 @@ pub undecided_start : (cs : List Class) → IsUndecided cs 0
 unfolding isolate_around
 undecided_start cs = record { within = omega arith; before = λ q l. absurd (omega arith); outside = λ l. refl }
 
-pub undecided_next : (cs : List Class) (p next : ℕ) → IsUndecided cs p → is_strong (class_at cs p) ≡ false → p < next → next ≤ length cs →
-    (next < length cs → isolate_around cs next ≡ None) → ((q : ℕ) → p < q → q < next → isolate_around cs q ≢ None) → IsUndecided cs next
+pub undecided_next : (cs : List Class) (p next : ℕ) → IsUndecided cs p → is_strong (class_at cs p) ≡ false → p < next →
+    next ≤ length cs →
+    (next < length cs → isolate_around cs next ≡ None) → ((q : ℕ) → p < q → q < next → isolate_around cs q ≢ None) →
+    IsUndecided cs next
 undecided_next cs p next w weak later within outside inside = grind (arith, weak_undecided, inside_undecided)
 
-pub decided_at : (cs : List Class) (p : ℕ) → IsUndecided cs p → p < length cs → is_strong (class_at cs p) ≡ true → first_strong cs None ≡ Some p
+pub decided_at : (cs : List Class) (p : ℕ) → IsUndecided cs p → p < length cs → is_strong (class_at cs p) ≡ true →
+    first_strong cs None ≡ Some p
 unfolding first_strong
 decided_at cs p w within strong =
-    first_from_is (decides cs) 0 (length cs) p (omega arith) (omega arith) (decides_outside cs p strong (w.outside within)) (λ q from before. w.before q before)
+    first_from_is (decides cs) 0 (length cs) p (omega arith) (omega arith)
+    (decides_outside cs p strong (w.outside within)) (λ q from before. w.before q before)
 
 pub decided_nowhere : (cs : List Class) (p : ℕ) → IsUndecided cs p → length cs ≤ p → first_strong cs None ≡ None
 unfolding first_strong

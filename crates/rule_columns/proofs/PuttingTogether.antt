@@ -35,33 +35,40 @@ with_parts explicit classes shown = record {
   shown = shown;
 }
 
-module _ (us : List BidiUnit) (direction : Direction) (explicit : ExplicitOf) (current : List Class) (is : explicit ≡ explicit_part us direction)
-    (long : length explicit.leveled ≡ length us) (front : current ≡ current_of (take (length us) explicit.leveled)) where
-  whole : current ≡ current_of explicit.leveled
-  whole = front ∙ ap current_of (take_all (length us) explicit.leveled (omega arith))
+module _ (us : List BidiUnit) (direction : Direction) (explicit : ExplicitOf) (current : List Class) (is : explicit ≡
+    explicit_part us direction)
+    (long : length explicit.leveled ≡ length us) (front : current ≡ current_of (take (length us) explicit.leveled))
+  where
+    whole : current ≡ current_of explicit.leveled
+    whole = front ∙ ap current_of (take_all (length us) explicit.leveled (omega arith))
 
-  -- except for overrides and removed positions, the classes before W1 are the original ones
-  pub own_from : (ps : List ℕ) → AreOwn ps us current
-  own_from ps =
-      let cs : List Class = classes_of us in
-      let unchanged : AreOwn ps us (current_of (explicit_of standard.depth cs (para_level_of cs direction))) = classes_are_unchanged standard.depth us (para_level_of cs direction) ps in
-      subst (AreOwn ps us) (sym (whole ∙ ap (λ (x : ExplicitOf). current_of x.leveled) is)) unchanged
+    -- except for overrides and removed positions, the classes before W1 are the original ones
+    pub own_from : (ps : List ℕ) → AreOwn ps us current
+    own_from ps =
+        let cs : List Class = classes_of us in
+        let unchanged : AreOwn ps us (current_of (explicit_of standard.depth cs (para_level_of cs direction))) =
+        classes_are_unchanged standard.depth us (para_level_of cs direction) ps in
+        subst (AreOwn ps us) (sym (whole ∙ ap (λ (x : ExplicitOf). current_of x.leveled) is)) unchanged
 
-  pub columns_from : (classes : ClassesOf) (shown : ShownOf) → classes ≡ classes_part explicit.sequences us current → shown ≡ shown_part us direction →
-      with_parts explicit classes shown ≡ columns_of us direction
-  unfolding columns_of
-  columns_from classes shown c s = rw (s, c, whole, is) refl
+    pub columns_from : (classes : ClassesOf) (shown : ShownOf) → classes ≡ classes_part explicit.sequences us current →
+        shown ≡ shown_part us direction →
+        with_parts explicit classes shown ≡ columns_of us direction
+    unfolding columns_of
+    columns_from classes shown c s = rw (s, c, whole, is) refl
 
 -- the number of items of the columns
-length-rewritten : (rule : SequenceView → List Class → List Class) (all : List SequenceView) (cs : List Class) → length (rewritten rule all cs) ≡ length cs
+length-rewritten : (rule : SequenceView → List Class → List Class) (all : List SequenceView) (cs : List Class) →
+    length (rewritten rule all cs) ≡ length cs
 unfolding rewritten
 length-rewritten rule all cs = length-map (positions_of cs) _ ∙ length-positions_from 0 (length cs)
 
 -- the same after one more rule
-again : (rule : SequenceView → List Class → List Class) (all : List SequenceView) (cs : List Class) {n : ℕ} → length cs ≡ n → length (rewritten rule all cs) ≡ n
+again : (rule : SequenceView → List Class → List Class) (all : List SequenceView) (cs : List Class) {n : ℕ} →
+    length cs ≡ n → length (rewritten rule all cs) ≡ n
 again rule all cs long = length-rewritten rule all cs ∙ long
 
-length-closers_of : (all : List SequenceView) (us : List BidiUnit) (weak : List Class) → length (closers_of all us weak) ≡ length us
+length-closers_of : (all : List SequenceView) (us : List BidiUnit) (weak : List Class) →
+    length (closers_of all us weak) ≡ length us
 unfolding closers_of
 length-closers_of all us weak = length-map (positions_of us) _ ∙ length-positions_from 0 (length us)
 
@@ -84,11 +91,20 @@ module _ (us : List BidiUnit) (direction : Direction) where
   length-columns rule.W3 = again _ _ _ (again _ _ _ (again _ _ _ length-current))
   length-columns rule.W4 = again _ _ _ (again _ _ _ (again _ _ _ (again _ _ _ length-current)))
   length-columns rule.W5 = again _ _ _ (again _ _ _ (again _ _ _ (again _ _ _ (again _ _ _ length-current))))
-  length-columns rule.W6 = again _ _ _ (again _ _ _ (again _ _ _ (again _ _ _ (again _ _ _ (again _ _ _ length-current)))))
-  length-columns rule.W7 = again _ _ _ (again _ _ _ (again _ _ _ (again _ _ _ (again _ _ _ (again _ _ _ (again _ _ _ length-current))))))
-  length-columns rule.N0 = again _ _ _ (again _ _ _ (again _ _ _ (again _ _ _ (again _ _ _ (again _ _ _ (again _ _ _ (again _ _ _ length-current)))))))
-  length-columns rule.N1 = again _ _ _ (again _ _ _ (again _ _ _ (again _ _ _ (again _ _ _ (again _ _ _ (again _ _ _ (again _ _ _ (again _ _ _ length-current))))))))
-  length-columns rule.N2 = again _ _ _ (again _ _ _ (again _ _ _ (again _ _ _ (again _ _ _ (again _ _ _ (again _ _ _ (again _ _ _ (again _ _ _ (again _ _ _ length-current)))))))))
+  length-columns rule.W6 =
+      again _ _ _ (again _ _ _ (again _ _ _ (again _ _ _ (again _ _ _ (again _ _ _ length-current)))))
+  length-columns rule.W7 =
+      again _ _ _ (again _ _ _ (again _ _ _ (again _ _ _ (again _ _ _ (again _ _ _ (again _ _ _ length-current))))))
+  length-columns rule.N0 =
+      again _ _ _ (again _ _ _
+      (again _ _ _ (again _ _ _ (again _ _ _ (again _ _ _ (again _ _ _ (again _ _ _ length-current)))))))
+  length-columns rule.N1 =
+      again _ _ _ (again _ _ _
+      (again _ _ _ (again _ _ _ (again _ _ _ (again _ _ _ (again _ _ _ (again _ _ _ (again _ _ _ length-current))))))))
+  length-columns rule.N2 =
+      again _ _ _ (again _ _ _
+      (again _ _ _ (again _ _ _
+      (again _ _ _ (again _ _ _ (again _ _ _ (again _ _ _ (again _ _ _ (again _ _ _ length-current)))))))))
 
   pub columns_fit : HaveLength (columns_of us direction) (length us)
   unfolding columns_of
@@ -101,6 +117,7 @@ module _ (us : List BidiUnit) (direction : Direction) where
   }
 
 -- a property of a value holds for a result that is this value
-pub if_ok : (P : ColumnsOf → Type 0) (value : ColumnsOf) (result : Result ColumnsOf Memory) → IfOk result (λ columns. columns ≡ value) → P value → IfOk result P
+pub if_ok : (P : ColumnsOf → Type 0) (value : ColumnsOf) (result : Result ColumnsOf Memory) →
+    IfOk result (λ columns. columns ≡ value) → P value → IfOk result P
 if_ok P value (Ok columns) is holds = subst P (sym is) holds
 if_ok P value (Err e) is holds = tt

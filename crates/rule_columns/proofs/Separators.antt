@@ -18,9 +18,13 @@ pub record SeparatorPass (ps : List ℕ) (start now : List Class) (before : Clas
   pub pass : Pass ps (after_w4 (classes_at start ps)) start now k
   pub before_is : before ≡ nearest_before (classes_at start ps) is_any k ON
 
-pub separator_start : (ps : List ℕ) (start : List Class) → ArePositions ps (length start) → SeparatorPass ps start start ON 0
+pub separator_start : (ps : List ℕ) (start : List Class) → ArePositions ps (length start) →
+    SeparatorPass ps start start ON 0
 separator_start ps start p =
-    record { pass = pass_start ps _ start p (length-at_each _ (classes_at start ps) ∙ length-classes_at start ps); before_is = refl }
+    record {
+      pass = pass_start ps _ start p (length-at_each _ (classes_at start ps) ∙ length-classes_at start ps);
+      before_is = refl;
+    }
 
 -- the class just after an index, if there is one
 next_class : (cs : List Class) (k : ℕ) → k + 1 < length cs → nearest_after cs is_any k ON ≡ class_at cs (k + 1)
@@ -29,7 +33,8 @@ next_class cs k h = grind arith
 no_next_class : (cs : List Class) (k : ℕ) → length cs ≤ k + 1 → nearest_after cs is_any k ON ≡ ON
 no_next_class cs k h = grind arith
 
-pub separator_write : {ps : List ℕ} {start now : List Class} {before : Class} {k : ℕ} → SeparatorPass ps start now before k → k < length ps → (v : Class) →
+pub separator_write : {ps : List ℕ} {start now : List Class} {before : Class} {k : ℕ} →
+    SeparatorPass ps start now before k → k < length ps → (v : Class) →
     v ≡ by_w4 before (class_at now (slice_index ps k)) (class_or now (slice_get ps (k + 1)) ON) →
     SeparatorPass ps start (set now (slice_index ps k) v) (class_at now (slice_index ps k)) (k + 1)
 separator_write {ps} {start} {now} {before} {k} w inside v is =
@@ -45,7 +50,8 @@ separator_write {ps} {start} {now} {before} {k} w inside v is =
           ∙ get_or-drop (k + 1) from 0 L ∙ ap (class_at from) zero_more in
           ap (λ o. class_or now o ON) (slice_get-get_or ps (k + 1) 0 more)
           ∙ sym (class_at-classes_at now ps (k + 1) more) ∙ here ∙ sym (next_class from k (omega (arith, n)))
-      | inr last ↦ ap (λ o. class_or now o ON) (slice_get_past ps (k + 1) last) ∙ sym (no_next_class from k (omega (arith, n)))
+      | inr last ↦ ap (λ o. class_or now o ON) (slice_get_past ps (k + 1) last) ∙
+          sym (no_next_class from k (omega (arith, n)))
     ] in
     record {
       pass = pass_each w.pass inside _ refl v

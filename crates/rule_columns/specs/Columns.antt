@@ -133,7 +133,14 @@ classes_part all us current =
     let weak = weak_part all current in
     let brackets = bracket_part all us current weak.w7 in
     let neutral = neutral_part all brackets.n0 in
-    record { current = current; weak = weak; brackets = brackets; neutral = neutral; implicit = implicit_of all neutral.n2 }
+    record {
+      current = current;
+      weak = weak;
+      brackets = brackets;
+      neutral = neutral;
+      implicit =
+          implicit_of all neutral.n2;
+    }
 
 -- the results of L1 and L2 for a paragraph under a direction
 abbrev pub shown_part : List BidiUnit → Direction → ShownOf

@@ -38,7 +38,16 @@ impl Model for WeakPart {
 
     ghost Value = { WeakOf };
 
-    ghost view = { λ part. record { w1 = part.w1.items; w2 = part.w2.items; w3 = part.w3.items; w4 = part.w4.items; w5 = part.w5.items; w6 = part.w6.items; w7 = part.w7.items } };
+    ghost view = { λ part. record {
+      w1 = part.w1.items;
+      w2 = part.w2.items;
+      w3 = part.w3.items;
+      w4 = part.w4.items;
+      w5 =
+          part.w5.items;
+      w6 = part.w6.items;
+      w7 = part.w7.items;
+    } };
 }
 
 impl WeakPart {

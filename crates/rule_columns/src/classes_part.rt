@@ -28,7 +28,15 @@ impl Model for ClassesPart {
 
     ghost Value = { ClassesOf };
 
-    ghost view = { λ part. record { current = part.current.items; weak = part.weak; brackets = part.brackets; neutral = record { n0 = part.brackets.n0; n1 = part.resolved.n1.items; n2 = part.resolved.n2.items }; implicit = part.resolved.implicit.items } };
+    ghost view = { λ part. record {
+      current = part.current.items;
+      weak = part.weak;
+      brackets = part.brackets;
+      neutral =
+          record { n0 = part.brackets.n0; n1 = part.resolved.n1.items; n2 = part.resolved.n2.items };
+      implicit =
+          part.resolved.implicit.items;
+    } };
 }
 
 impl ClassesPart {

@@ -33,7 +33,15 @@ impl Model for Columns {
 
     ghost Value = { ColumnsOf };
 
-    ghost view = { λ columns. record { explicit = explicit_view columns.explicit; current = columns.classes.current; weak = columns.classes.weak; closers = columns.classes.brackets.closers; neutral = columns.classes.neutral; implicit = columns.classes.implicit; shown = columns.shown } };
+    ghost view = { λ columns. record {
+      explicit = explicit_view columns.explicit;
+      current = columns.classes.current;
+      weak = columns.classes.weak;
+      closers = columns.classes.brackets.closers;
+      neutral = columns.classes.neutral;
+      implicit = columns.classes.implicit;
+      shown = columns.shown;
+    } };
 }
 
 impl Columns {

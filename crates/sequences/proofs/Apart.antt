@@ -20,12 +20,14 @@ times-contains [] p (k, l, e) = absurd (omega (arith, l))
 times-contains (q ∷ ps) p (zero, l, e) = omega (arith, times-cons q ps p, one_if-same q p e)
 times-contains (q ∷ ps) p (suc k, l, e) = omega (arith, times-cons q ps p, times-contains ps p (k, omega (arith, l), e))
 
-times-occurs : (all : List SequenceView) (k p : ℕ) (s : SequenceView) → slice_get all k ≡ Some s → times s.positions p ≤ times (flat_of all) p
+times-occurs : (all : List SequenceView) (k p : ℕ) (s : SequenceView) → slice_get all k ≡ Some s →
+    times s.positions p ≤ times (flat_of all) p
 times-occurs [] k p s e = absurd cc
 times-occurs (x ∷ all) zero p s e = grind (arith, nat_tests, common_steps, times-append)
 times-occurs (x ∷ all) (suc k) p s e = omega (arith, times-append x.positions (flat_of all) p, times-occurs all k p s e)
 
-apart_in : (all : List SequenceView) (j k p : ℕ) (s other : SequenceView) → times (flat_of all) p ≤ 1 → slice_get all j ≡ Some s → slice_get all k ≡ Some other → j < k →
+apart_in : (all : List SequenceView) (j k p : ℕ) (s other : SequenceView) → times (flat_of all) p ≤ 1 →
+    slice_get all j ≡ Some s → slice_get all k ≡ Some other → j < k →
     Contains s.positions p → Contains other.positions p → ⊥
 apart_in [] j k p s other few e f h c d = absurd cc
 apart_in (x ∷ all) j zero p s other few e f h c d = omega arith
@@ -45,7 +47,12 @@ apart_in (x ∷ all) (suc j) (suc k) p s other few e f h c d =
 
 times-below : (end p : ℕ) (ps : List ℕ) → AreBelow end ps → end ≤ p → times ps p ≡ 0
 times-below end p [] b h = refl
-times-below end p (q ∷ ps) b h = omega (arith, times-cons q ps p, one_if-other q p (λ e. omega (arith, b.0, e)), times-below end p ps b.1 h)
+times-below end p (q ∷ ps) b h = omega (
+  arith,
+  times-cons q ps p,
+  one_if-other q p (λ e. omega (arith, b.0, e)),
+  times-below end p ps b.1 h,
+)
 
 few_times : (t : LeveledView) → IsLeveled t → IsNested t → (p : ℕ) → times (flat_of (sequences_of t)) p ≤ 1
 few_times t h n p =
@@ -54,9 +61,13 @@ few_times t h n p =
         | inl r ↦ omega (arith, sequences_hold_once t h n p l, cond-true {A = ℕ} (remains t p) 1 0 r)
         | inr f ↦ omega (arith, sequences_hold_once t h n p l, cond-false {A = ℕ} (remains t p) 1 0 f)
       ]
-      | inr past ↦ omega (arith, times-below (size_of t) p (flat_of (sequences_of t)) (flat_below t h 0 (size_of t) (omega arith)) past)
+      | inr past ↦ omega (
+        arith,
+        times-below (size_of t) p (flat_of (sequences_of t)) (flat_below t h 0 (size_of t) (omega arith)) past,
+      )
     ]
 
-pub sequences_apart : (t : LeveledView) (j k p : ℕ) (s other : SequenceView) → IsLeveled t → IsNested t → slice_get (sequences_of t) j ≡ Some s → slice_get (sequences_of t) k ≡ Some other →
+pub sequences_apart : (t : LeveledView) (j k p : ℕ) (s other : SequenceView) → IsLeveled t → IsNested t →
+    slice_get (sequences_of t) j ≡ Some s → slice_get (sequences_of t) k ≡ Some other →
     j < k → Contains s.positions p → Contains other.positions p → ⊥
 sequences_apart t j k p s other h n e f l c d = apart_in (sequences_of t) j k p s other (few_times t h n p) e f l c d

@@ -16,12 +16,15 @@ put_back n new old e = take_at new (drop (length new) old) n e
 removed_successor : (t : LeveledView) (p : ℕ) → level_of t p ≡ None → successor t p ≡ None
 removed_successor t p e = grind (arith, cond-false)
 
-followed_alike : (f g : ℕ → Option ℕ) → ((p : ℕ) → f p ≡ g p) → (n : ℕ) (at : Option ℕ) → followed f n at ≡ followed g n at
+followed_alike : (f g : ℕ → Option ℕ) → ((p : ℕ) → f p ≡ g p) → (n : ℕ) (at : Option ℕ) →
+    followed f n at ≡ followed g n at
 followed_alike f g e zero at = refl
 followed_alike f g e (suc n) None = refl
-followed_alike f g e (suc n) (Some p) = ap (λ (ps : List ℕ). p ∷ ps) (followed_alike f g e n (f p) ∙ ap (followed g n) (e p))
+followed_alike f g e (suc n) (Some p) =
+    ap (λ (ps : List ℕ). p ∷ ps) (followed_alike f g e n (f p) ∙ ap (followed g n) (e p))
 
-module _ (t : LeveledView) (links : List (Option ℕ)) (fit : length links ≡ size_of t) (are : AreSuccessors t links) where
+module _ (t : LeveledView) (links : List (Option ℕ)) (fit : length links ≡ size_of t)
+    (are : AreSuccessors t links) where
   -- past the end no position has a link or a successor
   pub links_are : (p : ℕ) → link_at links p ≡ successor t p
   links_are p = grind (arith, get_or_past, removed_successor)
@@ -32,4 +35,5 @@ module _ (t : LeveledView) (links : List (Option ℕ)) (fit : length links ≡ s
   -- following the links is following the successors
   pub linked_is : (p : ℕ) → linked links (Some p) ≡ followed (successor t) (size_of t) (Some p)
   linked_is p =
-      followed_alike (link_at links) (successor t) links_are (length links) (Some p) ∙ ap (λ n. followed (successor t) n (Some p)) fit
+      followed_alike (link_at links) (successor t) links_are (length links) (Some p) ∙
+      ap (λ n. followed (successor t) n (Some p)) fit

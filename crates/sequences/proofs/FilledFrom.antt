@@ -28,30 +28,39 @@ level_of_para-low Zero = omega arith
 level_of_para-low One = omega arith
 
 -- without a separator, units are one paragraph
-pub no_separator : (us : List BidiUnit) → list_any (λ (unit : BidiUnit). is_separator unit.class) us ≡ false → SeparatorOnlyLast us
+pub no_separator : (us : List BidiUnit) → list_any (λ (unit : BidiUnit). is_separator unit.class) us ≡ false →
+    SeparatorOnlyLast us
 no_separator [] e = tt
 no_separator (u ∷ []) e = tt
 no_separator (u ∷ v ∷ us) e = grind (arith, or_parts, no_separator (v ∷ us))
 
 -- the front of the column is what X1 to X9 give
-pub computed_front : (depth : ℕ) (explicit : List (Option (ℕ × Class))) (cs : List Class) (para : ℕ) → HoldsLevels explicit depth cs para → take (length cs) explicit ≡ explicit_of depth cs para
+pub computed_front : (depth : ℕ) (explicit : List (Option (ℕ × Class))) (cs : List Class) (para : ℕ) →
+    HoldsLevels explicit depth cs para → take (length cs) explicit ≡ explicit_of depth cs para
 computed_front depth explicit cs para holds =
     let n : length (explicit_of depth cs para) ≡ length cs = length-of_positions cs (explicit_at depth cs para) in
     let m : length (take (length cs) explicit) ≡ length cs = length-take-le (length cs) explicit holds.enough in
     ext_get_or None (take (length cs) explicit) (explicit_of depth cs para) (m ∙ sym n)
-    (λ i h. get_or-take (length cs) explicit i None (omega arith) ∙ holds.at i (omega arith) ∙ sym (get_or-of_positions cs (explicit_at depth cs para) i None (omega arith)))
+    (λ i h. get_or-take (length cs) explicit i None (omega arith) ∙ holds.at i (omega arith) ∙
+    sym (get_or-of_positions cs (explicit_at depth cs para) i None (omega arith)))
 
 -- with the levels of X1 to X9 up to a depth, the paragraph is the one of this depth
-pub leveled_by-is : (depth : ℕ) (explicit : List (Option (ℕ × Class))) (cs : List Class) (para : ℕ) → HoldsLevels explicit depth cs para → leveled_by explicit cs para ≡ leveled_of depth cs para
+pub leveled_by-is : (depth : ℕ) (explicit : List (Option (ℕ × Class))) (cs : List Class) (para : ℕ) →
+    HoldsLevels explicit depth cs para → leveled_by explicit cs para ≡ leveled_of depth cs para
 leveled_by-is depth explicit cs para holds = grind (arith, computed_front)
 
 -- the paragraph has as many positions as units
-pub size-of_paragraph : (explicit : List (Option (ℕ × Class))) (units : List BidiUnit) (para : ℕ) → AreExplicitLevels explicit (classes_of units) para → size_of (leveled_by explicit (classes_of units) para) ≡ length units
+pub size-of_paragraph : (explicit : List (Option (ℕ × Class))) (units : List BidiUnit) (para : ℕ) →
+    AreExplicitLevels explicit (classes_of units) para →
+    size_of (leveled_by explicit (classes_of units) para) ≡ length units
 size-of_paragraph explicit units para levels =
-    ap size_of (leveled_by-is levels.depth explicit (classes_of units) para levels.found) ∙ size-is levels.depth (classes_of units) para ∙ length-classes_of units
+    ap size_of (leveled_by-is levels.depth explicit (classes_of units) para levels.found) ∙
+    size-is levels.depth (classes_of units) para ∙ length-classes_of units
 
 -- the isolates and the explicit levels are those of the paragraph
-pub paragraph_of : (units : List BidiUnit) (isolates : Isolates) (explicit : List (Option (ℕ × Class))) (base : ℕ) → SeparatorOnlyLast units → IsFilledFrom isolates (classes_of units) → AreExplicitLevels explicit (classes_of units) base →
+pub paragraph_of : (units : List BidiUnit) (isolates : Isolates) (explicit : List (Option (ℕ × Class))) (base : ℕ) →
+    SeparatorOnlyLast units → IsFilledFrom isolates (classes_of units) →
+    AreExplicitLevels explicit (classes_of units) base →
     base ≤ 1 → AreOfParagraph units isolates explicit base
 paragraph_of units isolates explicit base only matched levels low =
     let e = leveled_by-is levels.depth explicit (classes_of units) base levels.found in
@@ -62,8 +71,10 @@ paragraph_of units isolates explicit base only matched levels low =
       nested = subst IsNested (sym e) (nested levels.depth units base only);
     }
 
-module _ {units : List BidiUnit} {isolates : Isolates} {explicit : List (Option (ℕ × Class))} {base : ℕ} {t : LeveledView}
-    (a : AreOfParagraph units isolates explicit base) (e : leveled_by explicit (classes_of units) base ≡ t) (p : ℕ) (h : p < size_of t) where
+module _ {units : List BidiUnit} {isolates : Isolates} {explicit : List (Option (ℕ × Class))} {base : ℕ}
+    {t : LeveledView}
+    (a : AreOfParagraph units isolates explicit base) (e : leveled_by explicit (classes_of units) base ≡ t) (p : ℕ)
+    (h : p < size_of t) where
   pub within_classes : p < length (classes_of units)
   within_classes = omega (arith, a.leveled.classes_fit, ap size_of e)
 
@@ -78,11 +89,14 @@ module _ {units : List BidiUnit} {isolates : Isolates} {explicit : List (Option 
   level-explicit = grind (arith, length-take-le, get_or-map, get_or-take)
 
   -- the matching PDI of an initiator is its partner
-  pub matched-partner : is_isolate_initiator (class_at t.classes p) ≡ true → matched_pdi t p ≡ partner_of (classes_of units) p
+  pub matched-partner : is_isolate_initiator (class_at t.classes p) ≡ true →
+      matched_pdi t p ≡ partner_of (classes_of units) p
   matched-partner i = grind (arith, cond-true, get_or-of_positions)
 
   pub level-within : IfSome (level_of t p) (λ l. l ≤ 125)
-  level-within = let P : LeveledView → Type 0 = λ v. IfSome (level_of v p) (λ l. l ≤ 125) in subst P e (a.leveled.levels_within p)
+  level-within = let P : LeveledView → Type 0 = λ v. IfSome (level_of v p) (λ l. l ≤ 125) in
+      subst P e (a.leveled.levels_within p)
 
   pub leveled_later : IfSome (matched_pdi t p) (λ q. (p < q) × (q < size_of t))
-  leveled_later = let P : LeveledView → Type 0 = λ v. IfSome (matched_pdi v p) (λ q. (p < q) × (q < size_of v)) in subst P e (a.leveled.later p)
+  leveled_later = let P : LeveledView → Type 0 = λ v. IfSome (matched_pdi v p) (λ q. (p < q) × (q < size_of v)) in
+      subst P e (a.leveled.later p)

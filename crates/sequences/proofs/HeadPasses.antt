@@ -24,18 +24,22 @@ pub record HeadPass (t : LeveledView) (k : ℕ) (heads : List Head) (column : Li
   pub last_within : IfSome last (λ q. q < k)
 
 module _ {t : LeveledView} {k : ℕ} {heads : List Head} {column : List ℕ} (w : Stored t k heads column) where
-  pub stored_room : IsLeveled t → IsNested t → k < size_of t → begins_sequence t k ≡ true → length column + length (sequence_from t k) ≤ size_of t
+  pub stored_room : IsLeveled t → IsNested t → k < size_of t → begins_sequence t k ≡ true →
+      length column + length (sequence_from t k) ≤ size_of t
   stored_room h n l b = omega (arith, ap length w.column_is, column_room t h n k l b)
 
-  pub stored_push : (new : List Head) (h : Head) (more : List ℕ) (start : ℕ) → begins_sequence t k ≡ true → h ≡ head_at t k start → start ≡ length column →
+  pub stored_push : (new : List Head) (h : Head) (more : List ℕ) (start : ℕ) → begins_sequence t k ≡ true →
+      h ≡ head_at t k start → start ≡ length column →
       new ≡ heads ++ h ∷ [] → more ≡ column ++ sequence_from t k → Stored t (k + 1) new more
   stored_push new h more start b e s n m = grind (arith, heads_push, length_push, column_push)
 
-  pub stored_same : (new : List Head) (more : List ℕ) → begins_sequence t k ≡ false → new ≡ heads → more ≡ column → Stored t (k + 1) new more
+  pub stored_same : (new : List Head) (more : List ℕ) → begins_sequence t k ≡ false → new ≡ heads → more ≡ column →
+      Stored t (k + 1) new more
   stored_same new more b n m = grind (arith, heads_same, column_same)
 
 -- the fronts of two columns
-module _ (t : LeveledView) (k count end : ℕ) (heads : List Head) (column : List ℕ) (w : Stored t k (take count heads) (take end column)) (c : count ≤ length heads) (e : end ≤ length column) where
+module _ (t : LeveledView) (k count end : ℕ) (heads : List Head) (column : List ℕ)
+    (w : Stored t k (take count heads) (take end column)) (c : count ≤ length heads) (e : end ≤ length column) where
   pub stored_count : count ≡ length (heads_from t 0 (firsts_before t k))
   stored_count = sym (length-take-le count heads c) ∙ ap length w.heads_are
 
@@ -45,7 +49,8 @@ module _ (t : LeveledView) (k count end : ℕ) (heads : List Head) (column : Lis
   pub stored_end : end ≡ length (column_before t k)
   stored_end = sym (length-take-le end column e) ∙ ap length w.column_is
 
-module _ {t : LeveledView} {k : ℕ} {heads : List Head} {column : List ℕ} {last : Option ℕ} (w : HeadPass t k heads column last)
+module _ {t : LeveledView} {k : ℕ} {heads : List Head} {column : List ℕ} {last : Option ℕ}
+    (w : HeadPass t k heads column last)
     {new : List Head} {more : List ℕ} (d : Stored t (k + 1) new more) where
   pub head_pass_same : remains t k ≡ false → HeadPass t (k + 1) new more last
   head_pass_same r = grind (arith, cond-false)
@@ -56,18 +61,23 @@ IsRun t first last = (p : ℕ) → first ≤ p → p < last → successor t p �
 
 module _ (t : LeveledView) (h : IsLeveled t) (n : IsNested t) (first last : ℕ) (run : IsRun t first last) where
   -- no sequence begins after the first of them
-  stored_run : (count k : ℕ) → k + count ≡ last → first ≤ k → (heads : List Head) (column : List ℕ) → Stored t (k + 1) heads column → Stored t (last + 1) heads column
-  stored_run zero k e low heads column w = let same : k ≡ last = omega (arith, e) in let P : ℕ → Type 0 = λ j. Stored t (j + 1) heads column in subst P same w
+  stored_run : (count k : ℕ) → k + count ≡ last → first ≤ k → (heads : List Head) (column : List ℕ) →
+      Stored t (k + 1) heads column → Stored t (last + 1) heads column
+  stored_run zero k e low heads column w = let same : k ≡ last = omega (arith, e) in let P : ℕ → Type 0 =
+      λ j. Stored t (j + 1) heads column in subst P same w
   stored_run (suc count) k e low heads column w =
       let led : successor t k ≡ Some (k + 1) = run k low (omega (arith, e)) in
-      stored_run count (k + 1) (omega (arith, e)) (omega arith) heads column (stored_same w heads column (begins_once t h n (k + 1) k led) refl refl)
+      stored_run count (k + 1) (omega (arith, e)) (omega arith) heads column
+      (stored_same w heads column (begins_once t h n (k + 1) k led) refl refl)
 
-  pub stored_past : first ≤ last → (heads : List Head) (column : List ℕ) → Stored t (first + 1) heads column → Stored t (last + 1) heads column
+  pub stored_past : first ≤ last → (heads : List Head) (column : List ℕ) → Stored t (first + 1) heads column →
+      Stored t (last + 1) heads column
   stored_past low = stored_run (last - first) first (omega arith) (omega arith)
 
   -- all of them remain
   run_remains : (count k : ℕ) → k + count ≡ last → first ≤ k → remains t k ≡ true → remains t last ≡ true
-  run_remains zero k e low r = let same : k ≡ last = omega (arith, e) in let P : ℕ → Type 0 = λ j. remains t j ≡ true in subst P same r
+  run_remains zero k e low r = let same : k ≡ last = omega (arith, e) in let P : ℕ → Type 0 = λ j. remains t j ≡ true in
+      subst P same r
   run_remains (suc count) k e low r =
       let led : successor t k ≡ Some (k + 1) = run k low (omega (arith, e)) in
       let P : Option ℕ → Type 0 = λ o. IfSome o (λ y. remains t y ≡ true) in
@@ -77,7 +87,8 @@ module _ (t : LeveledView) (h : IsLeveled t) (n : IsNested t) (first last : ℕ)
   last_remains low = run_remains (last - first) first (omega arith) (omega arith)
 
 -- the pass after the last position of a sequence's stretch
-pub head_pass_at : (t : LeveledView) (k : ℕ) (heads : List Head) (column : List ℕ) → Stored t (k + 1) heads column → remains t k ≡ true → HeadPass t (k + 1) heads column (Some k)
+pub head_pass_at : (t : LeveledView) (k : ℕ) (heads : List Head) (column : List ℕ) → Stored t (k + 1) heads column →
+    remains t k ≡ true → HeadPass t (k + 1) heads column (Some k)
 head_pass_at t k heads column d r =
     let one : k + 1 ≡ suc k = omega arith in
     record {
@@ -87,8 +98,10 @@ head_pass_at t k heads column d r =
     }
 
 -- or after a removed position, which the pass came to
-pub head_pass_next : {t : LeveledView} {p next : ℕ} {heads : List Head} {column : List ℕ} {last : Option ℕ} → HeadPass t p heads column last → (next ≡ p) ⊎ (remains t next ≡ true) →
-    (new : List Head) (more : List ℕ) → Stored t (next + 1) new more → remains t next ≡ false → HeadPass t (next + 1) new more last
+pub head_pass_next : {t : LeveledView} {p next : ℕ} {heads : List Head} {column : List ℕ} {last : Option ℕ} →
+    HeadPass t p heads column last → (next ≡ p) ⊎ (remains t next ≡ true) →
+    (new : List Head) (more : List ℕ) → Stored t (next + 1) new more → remains t next ≡ false →
+    HeadPass t (next + 1) new more last
 head_pass_next {t} {p} {next} {heads} {column} {last} w (inl e) new more d r =
     let P : ℕ → Type 0 = λ k. Stored t (k + 1) new more → remains t k ≡ false → HeadPass t (k + 1) new more last in
     subst P (sym e) (λ d' r'. head_pass_same w d' r') d r

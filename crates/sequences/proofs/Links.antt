@@ -10,12 +10,14 @@ abbrev pub IsRising : ℕ → ℕ → List ℕ → Type 0
 IsRising low high [] = Unit {0}
 IsRising low high (p ∷ ps) = (low ≤ p) × (p < high) × IsRising (p + 1) high ps
 
-rising_within : (low high : ℕ) (ps : List ℕ) → IsRising low high ps → (k : ℕ) → k < length ps → (low ≤ slice_index ps k) × (slice_index ps k < high)
+rising_within : (low high : ℕ) (ps : List ℕ) → IsRising low high ps → (k : ℕ) → k < length ps →
+    (low ≤ slice_index ps k) × (slice_index ps k < high)
 rising_within low high [] r k l = absurd (omega arith)
 rising_within low high (p ∷ ps) r zero l = (r.0, r.1)
 rising_within low high (p ∷ ps) r (suc k) l = grind (arith, rising_within (p + 1) high ps r.2 k)
 
-rising_order : (low high : ℕ) (ps : List ℕ) → IsRising low high ps → (j k : ℕ) → j < k → k < length ps → slice_index ps j < slice_index ps k
+rising_order : (low high : ℕ) (ps : List ℕ) → IsRising low high ps → (j k : ℕ) → j < k → k < length ps →
+    slice_index ps j < slice_index ps k
 rising_order low high [] r j k h l = absurd (omega arith)
 rising_order low high (p ∷ ps) r j zero h l = absurd (omega arith)
 rising_order low high (p ∷ ps) r zero (suc k) h l =
@@ -36,7 +38,8 @@ pub followed-none : (next : ℕ → Option ℕ) (n : ℕ) → followed next n No
 followed-none next zero = refl
 followed-none next (suc n) = refl
 
-followed-first : (next : ℕ → Option ℕ) (end n : ℕ) (at : Option ℕ) → HasSteps end n at → slice_get (followed next n at) 0 ≡ at
+followed-first : (next : ℕ → Option ℕ) (end n : ℕ) (at : Option ℕ) → HasSteps end n at →
+    slice_get (followed next n at) 0 ≡ at
 followed-first next end zero None h = refl
 followed-first next end (suc n) None h = refl
 followed-first next end zero (Some p) h = absurd (omega (arith, h.0, h.1))
@@ -47,7 +50,8 @@ module _ (next : ℕ → Option ℕ) (end : ℕ) (h : IsForward next end) where
   steps_on p steps e = IfSome_then (next p) (h p) (λ q w. (w.1, omega (arith, w.0)))
 
   -- more steps than that change nothing
-  pub followed-steps : (a b : ℕ) (at : Option ℕ) → HasSteps end a at → HasSteps end b at → followed next a at ≡ followed next b at
+  pub followed-steps : (a b : ℕ) (at : Option ℕ) → HasSteps end a at → HasSteps end b at →
+      followed next a at ≡ followed next b at
   followed-steps zero zero at ha hb = refl
   followed-steps zero (suc b) None ha hb = refl
   followed-steps (suc a) zero None ha hb = refl
@@ -60,13 +64,15 @@ module _ (next : ℕ → Option ℕ) (end : ℕ) (h : IsForward next end) where
   followed-at : (n p : ℕ) → n ≡ end → p < n → followed next n (Some p) ≡ p ∷ followed next n (next p)
   followed-at zero p e l = absurd (omega arith)
   followed-at (suc n) p e l =
-      ap (λ (ps : List ℕ). p ∷ ps) (followed-steps n (suc n) (next p) (steps_on p n (omega arith)) (steps_on p (suc n) (omega arith)))
+      ap (λ (ps : List ℕ). p ∷ ps) (followed-steps n (suc n) (next p) (steps_on p n (omega arith))
+      (steps_on p (suc n) (omega arith)))
 
   -- the positions from p on are p and the positions from the next one on
   pub followed-some : (p : ℕ) → p < end → followed next end (Some p) ≡ p ∷ followed next end (next p)
   followed-some p l = followed-at end p refl l
 
-  followed-rises : (n low : ℕ) (at : Option ℕ) → IfSome at (λ p. (low ≤ p) × (p < end)) → IsRising low end (followed next n at)
+  followed-rises : (n low : ℕ) (at : Option ℕ) → IfSome at (λ p. (low ≤ p) × (p < end)) →
+      IsRising low end (followed next n at)
   followed-rises zero low at w = tt
   followed-rises (suc n) low None w = tt
   followed-rises (suc n) low (Some p) w =
@@ -98,21 +104,26 @@ pub record IsPushed (links : List (Option ℕ)) (whole pushed : List ℕ) (at : 
   pub within : IfSome at (λ p. p < length links)
   pub all : pushed ++ linked links at ≡ whole
 
-module _ {links : List (Option ℕ)} {whole pushed : List ℕ} {at : Option ℕ} (h : LinksForward links) (w : IsPushed links whole pushed at) where
+module _ {links : List (Option ℕ)} {whole pushed : List ℕ} {at : Option ℕ} (h : LinksForward links)
+    (w : IsPushed links whole pushed at) where
   pub pushed_within : (p : ℕ) → at ≡ Some p → p < length links
   pushed_within p e = let P : Option ℕ → Type 0 = λ o. IfSome o (λ q. q < length links) in subst P e w.within
 
   pub pushed_step : (p : ℕ) → at ≡ Some p → linked links at ≡ p ∷ linked links (link_at links p)
   pushed_step p e = ap (linked links) e ∙ linked-some links p h (pushed_within p e)
 
-  pub pushed_more : (p : ℕ) → at ≡ Some p → (more : List ℕ) → more ≡ pushed ++ p ∷ [] → (next : Option ℕ) → next ≡ link_at links p → IsPushed links whole more next
+  pub pushed_more : (p : ℕ) → at ≡ Some p → (more : List ℕ) → more ≡ pushed ++ p ∷ [] → (next : Option ℕ) →
+      next ≡ link_at links p → IsPushed links whole more next
   pushed_more p e more m next n = grind (arith, append_assoc, pushed_step)
 
 -- before the first step nothing is pushed
-pub pushed_first : (links : List (Option ℕ)) (first : ℕ) → first < length links → (pushed : List ℕ) → IsPushed links (pushed ++ linked links (Some first)) pushed (Some first)
+pub pushed_first : (links : List (Option ℕ)) (first : ℕ) → first < length links → (pushed : List ℕ) →
+    IsPushed links (pushed ++ linked links (Some first)) pushed (Some first)
 pushed_first links first l pushed = record { within = l; all = refl }
 
 -- the positions are pushed up to one, whose link leads on
-pub pushed_to : (links : List (Option ℕ)) → LinksForward links → (whole pushed : List ℕ) (p : ℕ) → pushed ++ linked links (link_at links p) ≡ whole →
+pub pushed_to : (links : List (Option ℕ)) → LinksForward links → (whole pushed : List ℕ) (p : ℕ) →
+    pushed ++ linked links (link_at links p) ≡ whole →
     (next : Option ℕ) → next ≡ link_at links p → IsPushed links whole pushed next
-pushed_to links h whole pushed p e next n = rw n (record { within = IfSome_then (link_at links p) (h p) (λ q v. v.1); all = e })
+pushed_to links h whole pushed p e next n =
+    rw n (record { within = IfSome_then (link_at links p) (h p) (λ q v. v.1); all = e })

@@ -2,9 +2,9 @@
 #![tactic(auto)]
 
 mod heads;
-pub mod theorems;
 mod leveled;
 mod linking;
 mod one_sequence;
 pub mod sequence;
 pub mod sequences;
+pub mod theorems;

@@ -75,7 +75,11 @@ fn eos(t: &Leveled, p: usize, following: &Following) -> Class
     ensures { result ≡ eos_by t.now p following.now.next }
 {
     let is_unmatched = t.is_isolate_initiator(p) && t.matched_pdi(p).is_none();
-    let after = if is_unmatched { t.base() } else { following.level };
+    let after = if is_unmatched {
+        t.base()
+    } else {
+        following.level
+    };
     level_or_base(t, Some(p)).direction_with(after)
 }
 

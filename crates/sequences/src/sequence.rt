@@ -49,9 +49,17 @@ pub struct Sequence<'a> {
 impl<'a> Model for Sequence<'a> {
     ghost Value = { SequenceView };
 
-    ghost view = { λ s. record { positions = s.positions.now; level = s.level; sos = s.sos; eos = s.eos; extent = length s.links.now } };
+    ghost view = { λ s. record {
+      positions = s.positions.now;
+      level = s.level;
+      sos = s.sos;
+      eos = s.eos;
+      extent =
+          length s.links.now;
+    } };
 
-    ghost invariant = { λ s. ArePositions s.positions.now (length s.links.now) × IsChain s.positions.now s.links.now × (s.level ≤ 125) };
+    ghost invariant = { λ s. ArePositions s.positions.now (length s.links.now) × IsChain s.positions.now s.links.now ×
+        (s.level ≤ 125) };
 }
 
 impl<'a> Sequence<'a> {

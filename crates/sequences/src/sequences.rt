@@ -50,9 +50,16 @@ pub struct Sequences {
 impl Model for Sequences {
     ghost Value = { SequencesView };
 
-    ghost view = { λ s. record { all = map (sequence_of_head (boxed_slice_items s.column) s.size) (take s.count (boxed_slice_items s.heads)); extent = s.size; room = boxed_slice_len s.links } };
+    ghost view = { λ s. record {
+      all =
+          map (sequence_of_head (boxed_slice_items s.column) s.size) (take s.count (boxed_slice_items s.heads));
+      extent =
+          s.size;
+      room = boxed_slice_len s.links;
+    } };
 
-    ghost invariant = { λ s. HasRoomForSequences (boxed_slice_items s.links) (boxed_slice_items s.ends) (boxed_slice_items s.joined) (boxed_slice_items s.heads) (boxed_slice_items s.column) s.count s.size };
+    ghost invariant = { λ s. HasRoomForSequences (boxed_slice_items s.links) (boxed_slice_items s.ends)
+        (boxed_slice_items s.joined) (boxed_slice_items s.heads) (boxed_slice_items s.column) s.count s.size };
 }
 
 /// Fills the columns from the front on, and returns the number of sequences.

@@ -26,7 +26,11 @@ pub record IsNumbered (numbers : NumberedUnit) : Type 0 where
 
 -- the unit with these numbers
 abbrev pub numbered_unit : NumberedUnit → BidiUnit
-numbered_unit numbers = record { class = unwrap_or (class_numbered numbers.class) L; bracket = unwrap_or (bracket_numbered numbers.bracket numbers.key) No }
+numbered_unit numbers = record {
+  class = unwrap_or (class_numbered numbers.class) L;
+  bracket =
+      unwrap_or (bracket_numbered numbers.bracket numbers.key) No;
+}
 
 -- the units with these numbers
 abbrev pub numbered_units : List NumberedUnit → List BidiUnit

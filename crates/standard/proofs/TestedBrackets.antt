@@ -31,7 +31,8 @@ faultless = refl
 
 -- the kit's decompositions of the characters that keys stand for are these
 are_decomposed : decompositions_with decomposition_by_tree (data_of (stated_brackets BRACKETS)) ≡ decompositions
-unfolding stated_brackets pair_line_says decompositions decompositions_with nfd_with tables decomposition_stepped expand canonical_order sink
+unfolding stated_brackets pair_line_says decompositions decompositions_with nfd_with tables decomposition_stepped expand
+    canonical_order sink
 are_decomposed = refl
 
 counting : counts_up 0 numbering ≡ true

@@ -30,7 +30,8 @@ unfolding stated_classes class_line_says
 straight = refl
 
 agreeing : stages_ok same_class same_class-exact L NUMBERS VALUES (class_steps CLASSES) ≡ true
-unfolding stated_classes class_line_says tables any_steps block_starts all_same each_ok only_value covered numbers_ok stages_ok
+unfolding stated_classes class_line_says tables any_steps block_starts all_same each_ok only_value covered numbers_ok
+    stages_ok
 agreeing = refl
 
 pub tested_classes : AreClassConstants CLASSES class_stages

@@ -23,7 +23,8 @@ unfolding stated_mirrors pair_line_says rises_from
 rising = refl
 
 agreeing : stages_ok same_mirror same_mirror-exact None NUMBERS VALUES (mirror_steps MIRRORS) ≡ true
-unfolding stated_mirrors pair_line_says tables same_mirror block_starts all_same each_ok only_value covered numbers_ok stages_ok
+unfolding stated_mirrors pair_line_says tables same_mirror block_starts all_same each_ok only_value covered numbers_ok
+    stages_ok
 agreeing = refl
 
 pub tested_mirrors : AreMirrorConstants MIRRORS mirror_stages

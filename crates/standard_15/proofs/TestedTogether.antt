@@ -22,10 +22,15 @@ each_neutral = refl
 
 pub tested_neutral : AreNeutral class_stages bracket_stages
 tested_neutral =
-    constants-AreNeutral CLASSES SPANS class_stages bracket_stages each_neutral (classes-steps CLASSES class_stages tested_classes)
+    constants-AreNeutral CLASSES SPANS class_stages bracket_stages each_neutral
+    (classes-steps CLASSES class_stages tested_classes)
     (brackets-steps BRACKETS numbers SPANS bracket_stages tested_brackets)
 
-pub tested_tables : StateTables CLASSES BRACKETS MIRRORS (record { classes = class_stages; brackets = bracket_stages; mirrors = mirror_stages })
+pub tested_tables : StateTables CLASSES BRACKETS MIRRORS (record {
+  classes = class_stages;
+  brackets = bracket_stages;
+  mirrors = mirror_stages;
+})
 tested_tables = record {
   by_classes = classes-StatesClasses CLASSES class_stages tested_classes;
   by_brackets = brackets-StatesBrackets BRACKETS numbers SPANS bracket_stages tested_brackets;

@@ -66,7 +66,8 @@ pub record Numbers : Type 0 where
   pub decompositions : List (List ℕ)
 
 -- the stages and the brackets in order pass the tests for the bytes of the file
-pub record AreBracketConstants (bytes : List ℕ) (numbers : Numbers) (spans : List (Span Bracket)) (stages : Stages Bracket) : Type 0 where
+pub record AreBracketConstants (bytes : List ℕ) (numbers : Numbers) (spans : List (Span Bracket))
+    (stages : Stages Bracket) : Type 0 where
   pub faultless : fine 0 0 0 (stated_brackets bytes) ≡ true
   pub decomposed : decompositions_with decomposition_by_tree (data_of (stated_brackets bytes)) ≡ numbers.decompositions
   pub counting : counts_up 0 numbers.numbering ≡ true
@@ -75,18 +76,24 @@ pub record AreBracketConstants (bytes : List ℕ) (numbers : Numbers) (spans : L
   pub rising : rises_from 0 (rows spans) ≡ true
   pub agreeing : stages_ok same_bracket same_bracket-exact No stages.numbers stages.values (bracket_steps spans) ≡ true
 
-module _ (bytes : List ℕ) (numbers : Numbers) (spans : List (Span Bracket)) (stages : Stages Bracket) (tests : AreBracketConstants bytes numbers spans stages) where
+module _ (bytes : List ℕ) (numbers : Numbers) (spans : List (Span Bracket)) (stages : Stages Bracket)
+    (tests : AreBracketConstants bytes numbers spans stages) where
   pub brackets-AreStages : AreStages stages
-  brackets-AreStages = stages_ok-AreStages same_bracket same_bracket-exact No stages.numbers stages.values (bracket_steps spans) tests.agreeing
+  brackets-AreStages =
+      stages_ok-AreStages same_bracket same_bracket-exact No stages.numbers stages.values
+      (bracket_steps spans) tests.agreeing
 
   pub brackets-steps : (c : ℕ) → c ≤ 0x10FFFF → bracket_by stages c ≡ step_value No (bracket_steps spans) c
   unfolding bracket_by
-  brackets-steps c le = stages_ok-stage_at same_bracket same_bracket-exact No stages.numbers stages.values (bracket_steps spans) tests.agreeing c No le
+  brackets-steps c le =
+      stages_ok-stage_at same_bracket same_bracket-exact No stages.numbers stages.values
+      (bracket_steps spans) tests.agreeing c No le
 
   looks : (c : ℕ) → c ≤ 0x10FFFF → bracket_by stages c ≡ unwrap_or (value_by (find (holds c) spans) None) No
   looks c le =
       brackets-steps c le
-      ∙ sym (ap (λ o. unwrap_or o No) (span_steps-give spans c tests.rising) ∙ step_value-map_steps (λ (o : Option Bracket). unwrap_or o No) None (span_steps spans) c)
+      ∙ sym (ap (λ o. unwrap_or o No) (span_steps-give spans c tests.rising) ∙
+      step_value-map_steps (λ (o : Option Bracket). unwrap_or o No) None (span_steps spans) c)
 
   pub brackets-IsTableOf : IsTableOf spans stages
   brackets-IsTableOf = looks
@@ -108,15 +115,18 @@ module _ (bytes : List ℕ) (numbers : Numbers) (spans : List (Span Bracket)) (s
   keyed_spans : spans ≡ map (keyed_span (key_in numbers.numbering)) (data_of (stated_brackets bytes))
   keyed_spans =
       let data_lines = data_of (stated_brackets bytes) in
-      tests.keyed ∙ ap (keyed_with numbers.numbering data_lines) (sym are_decomposed) ∙ keyed_with-decompositions numbers.numbering data_lines
+      tests.keyed ∙ ap (keyed_with numbers.numbering data_lines) (sym are_decomposed) ∙
+      keyed_with-decompositions numbers.numbering data_lines
 
   are_keyed : AreKeyed (data_of (stated_brackets bytes)) spans
   are_keyed = record {
     numbers = numbers.numbering;
     numbering = counts_up-IsNumbering numbers.numbering tests.counting;
-    numbered = each_numbered-AreNumbered numbers.numbering (data_of (stated_brackets bytes)) (ap (each_numbered numbers.numbering) are_decomposed ∙ tests.numbered);
+    numbered = each_numbered-AreNumbered numbers.numbering (data_of (stated_brackets bytes))
+        (ap (each_numbered numbers.numbering) are_decomposed ∙ tests.numbered);
     keyed = keyed_spans;
   }
 
   pub brackets-StatesBrackets : StatesBrackets bytes (bracket_by stages)
-  brackets-StatesBrackets = states-brackets bytes stated represents spans are_keyed faultless_file (bracket_by stages) looks
+  brackets-StatesBrackets =
+      states-brackets bytes stated represents spans are_keyed faultless_file (bracket_by stages) looks

@@ -46,7 +46,8 @@ class_number FSI = 21
 class_number PDI = 22
 
 abbrev pub class_numbered : ℕ → Class
-class_numbered n = slice_index_or (L ∷ R ∷ AL ∷ EN ∷ ES ∷ ET ∷ AN ∷ CS ∷ NSM ∷ BN ∷ B ∷ S ∷ WS ∷ ON ∷ LRE ∷ LRO ∷ RLE ∷ RLO ∷ PDF ∷ LRI ∷ RLI ∷ FSI ∷ PDI ∷ []) n L
+class_numbered n = slice_index_or (L ∷ R ∷ AL ∷ EN ∷ ES ∷ ET ∷ AN ∷ CS ∷ NSM ∷ BN ∷ B ∷ S ∷ WS ∷ ON ∷ LRE ∷ LRO ∷ RLE ∷
+    RLO ∷ PDF ∷ LRI ∷ RLI ∷ FSI ∷ PDI ∷ []) n L
 
 class_back : (c : Class) → class_numbered (class_number c) ≡ c
 class_back L = refl
@@ -85,7 +86,8 @@ stated_classes bytes = map class_line_says (lines_of bytes)
 
 -- the classes of the code points, as steps
 abbrev pub class_steps : List ℕ → List (Step Class)
-class_steps bytes = map_steps (λ o. unwrap_or o L) (stated_steps (data_of (stated_classes bytes)) (defaults_of (stated_classes bytes)))
+class_steps bytes = map_steps (λ o.
+    unwrap_or o L) (stated_steps (data_of (stated_classes bytes)) (defaults_of (stated_classes bytes)))
 
 -- the stages pass the tests for the bytes of the file
 pub record AreClassConstants (bytes : List ℕ) (stages : Stages Class) : Type 0 where
@@ -96,18 +98,23 @@ pub record AreClassConstants (bytes : List ℕ) (stages : Stages Class) : Type 0
 
 module _ (bytes : List ℕ) (stages : Stages Class) (tests : AreClassConstants bytes stages) where
   pub classes-AreStages : AreStages stages
-  classes-AreStages = stages_ok-AreStages same_class same_class-exact L stages.numbers stages.values (class_steps bytes) tests.agreeing
+  classes-AreStages = stages_ok-AreStages same_class same_class-exact L stages.numbers stages.values
+      (class_steps bytes) tests.agreeing
 
   pub classes-steps : (c : ℕ) → c ≤ 0x10FFFF → class_by stages c ≡ step_value L (class_steps bytes) c
   unfolding class_by
-  classes-steps c le = stages_ok-stage_at same_class same_class-exact L stages.numbers stages.values (class_steps bytes) tests.agreeing c L le
+  classes-steps c le =
+      stages_ok-stage_at same_class same_class-exact L stages.numbers stages.values
+      (class_steps bytes) tests.agreeing c L le
 
-  looks : (c : ℕ) → c ≤ 0x10FFFF → class_by stages c ≡ unwrap_or (value_in (data_of (stated_classes bytes)) (defaults_of (stated_classes bytes)) c) L
+  looks : (c : ℕ) → c ≤ 0x10FFFF →
+      class_by stages c ≡ unwrap_or (value_in (data_of (stated_classes bytes)) (defaults_of (stated_classes bytes)) c) L
   looks c le =
       let data_lines = data_of (stated_classes bytes) in
       let default_lines = defaults_of (stated_classes bytes) in
       classes-steps c le
-      ∙ sym (ap (λ o. unwrap_or o L) (stated_steps-give data_lines default_lines c tests.rising tests.straight) ∙ step_value-map_steps (λ (o : Option Class). unwrap_or o L) None (stated_steps data_lines default_lines) c)
+      ∙ sym (ap (λ o. unwrap_or o L) (stated_steps-give data_lines default_lines c tests.rising tests.straight) ∙
+      step_value-map_steps (λ (o : Option Class). unwrap_or o L) None (stated_steps data_lines default_lines) c)
 
   abbrev stated : Stated Class
   stated = record { data_lines = data_of (stated_classes bytes); default_lines = defaults_of (stated_classes bytes) }

@@ -52,13 +52,16 @@ pub record AreMirrorConstants (bytes : List ℕ) (stages : Stages (Option ℕ)) 
 
 module _ (bytes : List ℕ) (stages : Stages (Option ℕ)) (tests : AreMirrorConstants bytes stages) where
   pub mirrors-AreStages : AreStages stages
-  mirrors-AreStages = stages_ok-AreStages same_mirror same_mirror-exact None stages.numbers stages.values (mirror_steps bytes) tests.agreeing
+  mirrors-AreStages = stages_ok-AreStages same_mirror same_mirror-exact None stages.numbers stages.values
+      (mirror_steps bytes) tests.agreeing
 
   looks : (c : ℕ) → c ≤ 0x10FFFF → mirror_by stages c ≡ unwrap_or (value_by (find (holds c) (images bytes)) None) None
   unfolding mirror_by
   looks c le =
-      stages_ok-stage_at same_mirror same_mirror-exact None stages.numbers stages.values (mirror_steps bytes) tests.agreeing c None le
-      ∙ sym (ap (λ o. unwrap_or o None) (span_steps-give (images bytes) c tests.rising) ∙ step_value-map_steps (λ (o : Option (Option ℕ)). unwrap_or o None) None (span_steps (images bytes)) c)
+      stages_ok-stage_at same_mirror same_mirror-exact None stages.numbers stages.values
+      (mirror_steps bytes) tests.agreeing c None le
+      ∙ sym (ap (λ o. unwrap_or o None) (span_steps-give (images bytes) c tests.rising) ∙
+      step_value-map_steps (λ (o : Option (Option ℕ)). unwrap_or o None) None (span_steps (images bytes)) c)
 
   abbrev stated : Stated ℕ
   stated = record { data_lines = data_of (stated_mirrors bytes); default_lines = defaults_of (stated_mirrors bytes) }
@@ -72,4 +75,5 @@ module _ (bytes : List ℕ) (stages : Stages (Option ℕ)) (tests : AreMirrorCon
   faultless_file = fine-none (pair_line_says mirror_in) Twice (lines_of bytes) tests.faultless
 
   pub mirrors-StatesMirrors : StatesMirrors bytes (mirror_by stages)
-  mirrors-StatesMirrors = states-mirrors bytes stated (images bytes) (mirror_by stages) faultless_file represents refl looks
+  mirrors-StatesMirrors =
+      states-mirrors bytes stated (images bytes) (mirror_by stages) faultless_file represents refl looks

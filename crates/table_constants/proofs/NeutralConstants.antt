@@ -29,12 +29,14 @@ all_from n (s ∷ ss) =
     let stored = s.1 && all_from s.0 ss in
     cond (nat_le s.0 n) empty stored
 
-all_true : (ss : List (Step Bool)) (d : Bool) (n c : ℕ) → d ≡ true → n ≤ c → all_from n ss ≡ true → step_value d ss c ≡ true
+all_true : (ss : List (Step Bool)) (d : Bool) (n c : ℕ) → d ≡ true → n ≤ c → all_from n ss ≡ true →
+    step_value d ss c ≡ true
 unfolding all_from
 all_true [] d n c e le h = step_value-nil d c ∙ e
 all_true (s ∷ ss) d n c e le h =
     cond_both (nat_le s.0 n) (all_from n ss) (s.1 && all_from s.0 ss) (λ b. b ≡ true → step_value d (s ∷ ss) c ≡ true)
-    (λ empty rest. let low = leb-true s.0 n empty in step_value-later d s ss c (omega arith) ∙ all_true ss d n c e le rest)
+    (λ empty rest. let low = leb-true s.0 n empty in step_value-later d s ss c (omega arith) ∙
+    all_true ss d n c e le rest)
     (λ _ stored.
     let parts = and_parts s.1 (all_from s.0 ss) stored in
     elim (cases_lt c s.0) [
@@ -58,7 +60,8 @@ module _ (bytes : List ℕ) (spans : List (Span Bracket)) (classes : Stages Clas
       → ((c : ℕ) → c ≤ 0x10FFFF → bracket_by brackets c ≡ step_value No (bracket_steps spans) c)
       → (c : ℕ) → c ≤ 0x10FFFF → is_neutral (class_by classes c) (bracket_by brackets c) ≡ true
   is_neutral-at tested by_class by_bracket c le =
-      ap₂ is_neutral (by_class c le) (by_bracket c le) ∙ step_value-zip_steps is_neutral L No (class_steps bytes) (bracket_steps spans) c
+      ap₂ is_neutral (by_class c le) (by_bracket c le) ∙
+      step_value-zip_steps is_neutral L No (class_steps bytes) (bracket_steps spans) c
       ∙ all_true (neutral_steps bytes spans) (is_neutral L No) 0 c default_neutral zero-le tested
 
   pub constants-AreNeutral : all_from 0 (neutral_steps bytes spans) ≡ true
@@ -66,7 +69,8 @@ module _ (bytes : List ℕ) (spans : List (Span Bracket)) (classes : Stages Clas
       → ((c : ℕ) → c ≤ 0x10FFFF → bracket_by brackets c ≡ step_value No (bracket_steps spans) c)
       → AreNeutral classes brackets
   constants-AreNeutral tested by_class by_bracket c le other =
-      elim (one_true (same_class (class_by classes c) ON) (same_bracket (bracket_by brackets c) No) (is_neutral-at tested by_class by_bracket c le)) [
+      elim (one_true (same_class (class_by classes c) ON) (same_bracket (bracket_by brackets c) No)
+      (is_neutral-at tested by_class by_bracket c le)) [
         | inl on ↦ absurd (other (same_class-exact _ _ on))
         | inr none ↦ same_bracket-exact _ _ none
       ]

@@ -12,7 +12,8 @@ unfoldable pub block_starts : ℕ → {V : Type 0} → List V → List (List V)
 block_starts zero vs = []
 block_starts (suc n) vs = vs ∷ block_starts n (drop 128 vs)
 
-get_or-block_starts : {V : Type 0} (n : ℕ) (vs : List V) (k : ℕ) → 0 < length (get_or (block_starts n vs) k []) → get_or (block_starts n vs) k [] ≡ drop (k * 128) vs
+get_or-block_starts : {V : Type 0} (n : ℕ) (vs : List V) (k : ℕ) → 0 < length (get_or (block_starts n vs) k []) →
+    get_or (block_starts n vs) k [] ≡ drop (k * 128) vs
 unfolding block_starts
 get_or-block_starts zero vs k h = absurd (not-suc-le-zero h)
 get_or-block_starts (suc n) vs zero h = refl
@@ -70,7 +71,8 @@ module _ {V : Type 0} (eq : V → V → Bool) (exact : (x y : V) → eq x y ≡ 
     room : n ≤ length vs
     values : (i : ℕ) (none : V) → i < n → slice_index_or vs i none ≡ v
 
-  same-cons : (n : ℕ) (v w : V) (vs : List V) → w ≡ v → Same n v vs → (i : ℕ) (none : V) → i < suc n → slice_index_or (w ∷ vs) i none ≡ v
+  same-cons : (n : ℕ) (v w : V) (vs : List V) → w ≡ v → Same n v vs → (i : ℕ) (none : V) → i < suc n →
+      slice_index_or (w ∷ vs) i none ≡ v
   same-cons n v w vs e rest zero none lt = e
   same-cons n v w vs e rest (suc i) none lt = rest.values i none (le_of_suc-le-suc lt)
 
@@ -84,7 +86,8 @@ module _ {V : Type 0} (eq : V → V → Bool) (exact : (x y : V) → eq x y ≡ 
       let room = rest.room in
       record { room = omega arith; values = same-cons n v w vs (exact w v parts.0) rest }
 
-  holds-cons : (n c : ℕ) (w : V) (vs : List V) (ss : List (Step V)) → w ≡ step_value d ss c → Holds n vs (c + 1) ss → (i : ℕ) (none : V) → i < suc n → slice_index_or (w ∷ vs) i none ≡ step_value d ss (c + i)
+  holds-cons : (n c : ℕ) (w : V) (vs : List V) (ss : List (Step V)) → w ≡ step_value d ss c → Holds n vs (c + 1) ss →
+      (i : ℕ) (none : V) → i < suc n → slice_index_or (w ∷ vs) i none ≡ step_value d ss (c + i)
   holds-cons n c w vs ss e rest zero none lt = let at : c ≡ c + zero = omega arith in e ∙ ap (step_value d ss) at
   holds-cons n c w vs ss e rest (suc i) none lt =
       let at : c + 1 + i ≡ c + suc i = omega arith in
@@ -98,7 +101,11 @@ module _ {V : Type 0} (eq : V → V → Bool) (exact : (x y : V) → eq x y ≡ 
       let parts = and_parts (eq w (step_value d (skip ss c) c)) (each_ok n vs (c + 1) (skip ss c)) h in
       let rest = each_ok-true n vs (c + 1) (skip ss c) parts.1 in
       let room = rest.room in
-      Holds-skip (suc n) (w ∷ vs) c ss (record { room = omega arith; values = holds-cons n c w vs (skip ss c) (exact w _ parts.0) rest })
+      Holds-skip (suc n) (w ∷ vs) c ss (record {
+        room = omega arith;
+        values =
+            holds-cons n c w vs (skip ss c) (exact w _ parts.0) rest;
+      })
 
   covered-true : (vs : List V) (c : ℕ) (ss : List (Step V)) → covered (only_value vs) c ss ≡ true → Holds 128 vs c ss
   unfolding only_value covered
@@ -107,38 +114,56 @@ module _ {V : Type 0} (eq : V → V → Bool) (exact : (x y : V) → eq x y ≡ 
       cond_both (all_same 128 v (v ∷ vs)) (Some v) None (λ o. covered o c [] ≡ true → Holds 128 (v ∷ vs) c [])
       (λ same is.
       let all = all_same-true 128 v (v ∷ vs) same in
-      record { room = all.room; values = λ i none lt. all.values i none lt ∙ exact v d is ∙ sym (step_value-nil d (c + i)) })
+      record {
+        room = all.room;
+        values = λ i none lt. all.values i none lt ∙ exact v d is ∙
+            sym (step_value-nil d (c + i));
+      })
       (λ other bad. cc) h
   covered-true (v ∷ vs) c (s ∷ ss) h =
-      cond_both (all_same 128 v (v ∷ vs)) (Some v) None (λ o. covered o c (s ∷ ss) ≡ true → Holds 128 (v ∷ vs) c (s ∷ ss))
+      cond_both (all_same 128 v (v ∷ vs)) (Some v) None (λ o. covered o c (s ∷ ss) ≡ true →
+      Holds 128 (v ∷ vs) c (s ∷ ss))
       (λ same is.
       let parts = and_parts (nat_le (c + 128) s.0) (eq v s.1) is in
       let le = leb-true (c + 128) s.0 parts.0 in
       let all = all_same-true 128 v (v ∷ vs) same in
-      record { room = all.room; values = λ i none lt. all.values i none lt ∙ exact v s.1 parts.1 ∙ sym (step_value-here d s ss (c + i) (omega arith)) })
+      record {
+        room = all.room;
+        values = λ i none lt. all.values i none lt ∙ exact v s.1 parts.1 ∙
+            sym (step_value-here d s ss (c + i) (omega arith));
+      })
       (λ other bad. cc) h
 
-  numbers_ok-true : (blocks : List (List V)) (ks : List ℕ) (c : ℕ) (ss : List (Step V)) → numbers_ok (map only_value blocks) blocks ks c ss ≡ true → (b : ℕ) → b < length ks
+  numbers_ok-true : (blocks : List (List V)) (ks : List ℕ) (c : ℕ) (ss : List (Step V)) →
+      numbers_ok (map only_value blocks) blocks ks c ss ≡ true → (b : ℕ) → b < length ks
       → Holds 128 (get_or blocks (slice_index_or ks b 0) []) (c + b * 128) ss
   unfolding numbers_ok
   numbers_ok-true blocks [] c ss h b lt = absurd (not-suc-le-zero lt)
   numbers_ok-true blocks (k ∷ ks) c ss h zero lt =
       let onlys = map only_value blocks in
-      let parts = and_parts (cond (covered (get_or onlys k None) c (skip ss c)) true (each_ok 128 (get_or blocks k []) c (skip ss c))) (numbers_ok onlys blocks ks (c + 128) (skip ss c)) h in
+      let parts = and_parts (cond (covered (get_or onlys k None) c (skip ss c)) true
+      (each_ok 128 (get_or blocks k []) c (skip ss c))) (numbers_ok onlys blocks ks (c + 128) (skip ss c)) h in
       let at : c ≡ c + zero * 128 = omega (arith, zero-mul 128) in
       subst (λ x. Holds 128 (get_or blocks k []) x ss) at
       (Holds-skip 128 (get_or blocks k []) c ss
-      (cond_both (covered (get_or onlys k None) c (skip ss c)) true (each_ok 128 (get_or blocks k []) c (skip ss c)) (λ b. b ≡ true → Holds 128 (get_or blocks k []) c (skip ss c))
-      (λ is _. covered-true (get_or blocks k []) c (skip ss c) (ap (λ o. covered o c (skip ss c)) (sym (only-at blocks k)) ∙ is))
+      (cond_both (covered (get_or onlys k None) c (skip ss c)) true (each_ok 128 (get_or blocks k []) c (skip ss c))
+      (λ b. b ≡ true → Holds 128 (get_or blocks k []) c (skip ss c))
+      (λ is _. covered-true (get_or blocks k []) c (skip ss c)
+      (ap (λ o. covered o c (skip ss c)) (sym (only-at blocks k)) ∙ is))
       (λ _ each. each_ok-true 128 (get_or blocks k []) c (skip ss c) each)
       parts.0))
   numbers_ok-true blocks (k ∷ ks) c ss h (suc b) lt =
       let onlys = map only_value blocks in
-      let parts = and_parts (cond (covered (get_or onlys k None) c (skip ss c)) true (each_ok 128 (get_or blocks k []) c (skip ss c))) (numbers_ok onlys blocks ks (c + 128) (skip ss c)) h in
+      let parts = and_parts (cond (covered (get_or onlys k None) c (skip ss c)) true
+      (each_ok 128 (get_or blocks k []) c (skip ss c))) (numbers_ok onlys blocks ks (c + 128) (skip ss c)) h in
       let at : c + 128 + b * 128 ≡ c + suc b * 128 = omega (arith, suc-mul b 128) in
       let rest = numbers_ok-true blocks ks (c + 128) (skip ss c) parts.1 b (le_of_suc-le-suc lt) in
       subst (λ x. Holds 128 (get_or blocks (slice_index_or ks b 0) []) x ss) at
-      (record { room = rest.room; values = λ i none lt. rest.values i none lt ∙ step_value-skip d ss c (c + 128 + b * 128 + i) (omega arith) })
+      (record {
+        room = rest.room;
+        values = λ i none lt. rest.values i none lt ∙
+            step_value-skip d ss c (c + 128 + b * 128 + i) (omega arith);
+      })
 
   -- the whole test
   unfoldable pub stages_ok : List ℕ → List V → List (Step V) → Bool
@@ -154,12 +179,14 @@ module _ {V : Type 0} (eq : V → V → Bool) (exact : (x y : V) → eq x y ≡ 
     unfolding stages_ok
     count = eqb-true _ _ (and_parts (length numbers == 8704) _ ok).0
 
-    block_at : (b : ℕ) → b < length numbers → Holds 128 (drop (slice_index_or numbers b 0 * 128) values) (0 + b * 128) ss
+    block_at : (b : ℕ) → b < length numbers →
+        Holds 128 (drop (slice_index_or numbers b 0 * 128) values) (0 + b * 128) ss
     unfolding stages_ok blocks
     block_at b lt =
         let stored = numbers_ok-true blocks numbers 0 ss (and_parts (length numbers == 8704) _ ok).1 b lt in
         let room = stored.room in
-        subst (λ vs. Holds 128 vs (0 + b * 128) ss) (get_or-block_starts (length values / 128) values (slice_index_or numbers b 0) (omega arith)) stored
+        subst (λ vs. Holds 128 vs (0 + b * 128) ss) (get_or-block_starts (length values / 128) values
+        (slice_index_or numbers b 0) (omega arith)) stored
 
     stages : Stages V
     stages = record { numbers = numbers; values = values }
@@ -167,10 +194,16 @@ module _ {V : Type 0} (eq : V → V → Bool) (exact : (x y : V) → eq x y ≡ 
     pub stages_ok-AreStages : AreStages (record { numbers = numbers; values = values })
     stages_ok-AreStages = record {
       blocks = count;
-      within = λ k e lt. omega (arith, (block_at k lt).room, length-drop (slice_index_or numbers k 0 * 128) values, get_or_default numbers k 0 e lt);
+      within = λ k e lt. omega (
+        arith,
+        (block_at k lt).room,
+        length-drop (slice_index_or numbers k 0 * 128) values,
+        get_or_default numbers k 0 e lt,
+      );
     }
 
-    pub stages_ok-stage_at : (c : ℕ) (none : V) → c ≤ 0x10FFFF → stage_at (record { numbers = numbers; values = values }) c none ≡ step_value d ss c
+    pub stages_ok-stage_at : (c : ℕ) (none : V) → c ≤ 0x10FFFF →
+        stage_at (record { numbers = numbers; values = values }) c none ≡ step_value d ss c
     stages_ok-stage_at c none le =
         let b = c / 128 in
         let whole = div-add-mod' c 128 in

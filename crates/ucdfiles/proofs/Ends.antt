@@ -16,7 +16,8 @@ use Rattle.ucdfiles.specs.Reading.{Reads}
 use Rattle.ucdfiles.proofs.FirstFault.{first_fault-at, first_fault-push, fault_of_line-is}
 use Rattle.ucdfiles.proofs.LinesWith.{lines_of-ended, lines_of-begun}
 
-module _ (before after : List (List ℕ) → Type 0) (fault : List (List ℕ) → List ℕ → Option Fault) (splitter : Cutting) (b : List ℕ) (r : Reads before fault splitter b) where
+module _ (before after : List (List ℕ) → Type 0) (fault : List (List ℕ) → List ℕ →
+    Option Fault) (splitter : Cutting) (b : List ℕ) (r : Reads before fault splitter b) where
   same : (lines : List (List ℕ)) (rest : List ℕ) → CutsInto b lines rest → lines ≡ r.lines
   same lines rest whole = sym (ended_lines-CutsInto b lines rest whole) ∙ ended_lines-CutsInto b r.lines r.rest r.whole
 
@@ -30,18 +31,26 @@ module _ (before after : List (List ℕ) → Type 0) (fault : List (List ℕ) �
 
   module _ (last : ℕ × Bor (List ℕ)) (finishes : Finishes b (Some last)) where
     begun : lines_of b ≡ r.lines ++ last.1.now ∷ []
-    begun = lines_of-begun b finishes.1.0 last.1.now finishes.1.1 finishes.0 ∙ ap (λ ls. ls ++ last.1.now ∷ []) (same finishes.1.0 last.1.now finishes.1.1)
+    begun = lines_of-begun b finishes.1.0 last.1.now finishes.1.1 finishes.0 ∙
+        ap (λ ls. ls ++ last.1.now ∷ []) (same finishes.1.0 last.1.now finishes.1.1)
 
-    pub end-ok : ((lines : List (List ℕ)) → before lines → (fault lines last.1.now ≡ None) × after (lines ++ last.1.now ∷ [])) → (first_fault fault [] (lines_of b) ≡ None) × after (lines_of b)
+    pub end-ok : ((lines : List (List ℕ)) → before lines → (fault lines last.1.now ≡ None) ×
+        after (lines ++ last.1.now ∷ [])) → (first_fault fault [] (lines_of b) ≡ None) × after (lines_of b)
     end-ok adds =
-        let does = adds r.lines r.table in
-        (ap (first_fault fault []) begun ∙ first_fault-push fault r.lines last.1.now r.faultless does.0, subst after (sym begun) does.1)
+        let does = adds r.lines r.table in (
+          ap (first_fault fault []) begun ∙ first_fault-push fault r.lines last.1.now r.faultless does.0,
+          subst after (sym begun) does.1,
+        )
 
-    pub end-err : (e : TableFault) → ((lines : List (List ℕ)) → before lines → (e ≡ Memory) ⊎ (option_map (λ f. fault_at f last.0) (fault lines last.1.now) ≡ Some e))
+    pub end-err : (e : TableFault) →
+        ((lines : List (List ℕ)) → before lines →
+        (e ≡ Memory) ⊎ (option_map (λ f. fault_at f last.0) (fault lines last.1.now) ≡ Some e))
         → (e ≡ Memory) ⊎ (first_fault fault [] (lines_of b) ≡ Some e)
     end-err e rejects = elim (rejects r.lines r.table) [
       | inl memory ↦ inl memory
       | inr faulty ↦ inr (ap (first_fault fault []) begun
-          ∙ first_fault-at fault r.lines last.1.now [] e r.faultless (fault_of_line-is (fault r.lines last.1.now) (length r.lines) last.0 e
-          (finishes.1.2 ∙ ap (λ (ls : List (List ℕ)). saturated (length ls + 1)) (same finishes.1.0 last.1.now finishes.1.1)) faulty))
+          ∙ first_fault-at fault r.lines last.1.now [] e r.faultless (fault_of_line-is (fault r.lines last.1.now)
+          (length r.lines) last.0 e
+          (finishes.1.2 ∙ ap (λ (ls : List (List ℕ)). saturated (length ls + 1))
+          (same finishes.1.0 last.1.now finishes.1.1)) faulty))
     ]

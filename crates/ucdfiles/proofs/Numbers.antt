@@ -20,16 +20,21 @@ module _ {K : Type 0} (items : K → List ℕ) where
   abbrev pub compared : K → K → Ordering
   compared a b = slice_cmp nat_cmp (items a) (items b)
 
-  pub number_in-lookup : (es : List (K × ℕ)) (a : List ℕ) → number_in (read es) a ≡ lookup (λ k. is_eq (slice_cmp nat_cmp a (items k))) es
+  pub number_in-lookup : (es : List (K × ℕ)) (a : List ℕ) →
+      number_in (read es) a ≡ lookup (λ k. is_eq (slice_cmp nat_cmp a (items k))) es
   number_in-lookup [] a = refl
   number_in-lookup (e ∷ es) a = grind (arith, is_eq-slice_cmp, number_in-lookup es a)
 
   module _ (e : K × ℕ) (es : List (K × ℕ)) (k : K) (n : ℕ) (a : List ℕ) where
-    after : (later : number_in (read es) (items k) ≡ None → number_in (read (insert_entry compared es k n)) a ≡ cond (bytes_eq a (items k)) (Some n) (number_in (read es) a))
+    after : (later : number_in (read es) (items k) ≡ None →
+        number_in (read (insert_entry compared es k n)) a ≡
+        cond (bytes_eq a (items k)) (Some n) (number_in (read es) a))
         → (o : Ordering) → is_eq o ≡ bytes_eq (items k) (items e.0) → number_in (read (e ∷ es)) (items k) ≡ None
-        → number_in (read (match_ordering o ((k, n) ∷ e ∷ es) ((e.0, n) ∷ es) (e ∷ insert_entry compared es k n))) a ≡ cond (bytes_eq a (items k)) (Some n) (number_in (read (e ∷ es)) a)
+        → number_in (read (match_ordering o ((k, n) ∷ e ∷ es) ((e.0, n) ∷ es) (e ∷ insert_entry compared es k n))) a ≡
+        cond (bytes_eq a (items k)) (Some n) (number_in (read (e ∷ es)) a)
     after later Less is none = refl
-    after later Equal is none = absurd (let found : number_in (read (e ∷ es)) (items k) ≡ Some e.1 = rw (← is) refl in let bad : ⊥ = cc in bad)
+    after later Equal is none = absurd (let found : number_in (read (e ∷ es)) (items k) ≡ Some e.1 = rw (← is) refl in
+        let bad : ⊥ = cc in bad)
     after later Greater is none =
         let apart : bytes_eq (items k) (items e.0) ≡ false = sym is in
         let rest : number_in (read es) (items k) ≡ None = rw apart at none in
@@ -46,7 +51,8 @@ module _ {K : Type 0} (items : K → List ℕ) where
       → number_in (read (insert_entry compared es k n)) a ≡ cond (bytes_eq a (items k)) (Some n) (number_in (read es) a)
   number_in-insert [] k n a none = refl
   number_in-insert (e ∷ es) k n a none =
-      after e es k n a (λ rest. number_in-insert es k n a rest) (slice_cmp nat_cmp (items k) (items e.0)) (is_eq-slice_cmp (items k) (items e.0)) none
+      after e es k n a (λ rest. number_in-insert es k n a rest) (slice_cmp nat_cmp (items k) (items e.0))
+      (is_eq-slice_cmp (items k) (items e.0)) none
 
 -- a new decomposition with the next number
 module _ (old new : List (List ℕ × ℕ)) (key : List ℕ) (none : number_in old key ≡ None)

@@ -31,7 +31,8 @@ module _ {V : Type 0} (read : List (List ℕ) → Result (Span V) Fault) where
   unfolding pair_line_says
   line-data line = grind (arith, content-data)
 
-  defaults_of-plain : (line : FileLine V) (lines : List (FileLine V)) → IsNoDefault line → defaults_of (line ∷ lines) ≡ defaults_of lines
+  defaults_of-plain : (line : FileLine V) (lines : List (FileLine V)) → IsNoDefault line →
+      defaults_of (line ∷ lines) ≡ defaults_of lines
   defaults_of-plain Silent lines is = refl
   defaults_of-plain (Data span) lines is = refl
   defaults_of-plain (Default span) lines is = absurd is
@@ -39,8 +40,12 @@ module _ {V : Type 0} (read : List (List ℕ) → Result (Span V) Fault) where
 
   defaults_of-pairs : (lines : List (List ℕ)) → defaults_of (map (pair_line_says read) lines) ≡ []
   defaults_of-pairs [] = refl
-  defaults_of-pairs (line ∷ lines) = defaults_of-plain (pair_line_says read line) (map (pair_line_says read) lines) (line-data line) ∙ defaults_of-pairs lines
+  defaults_of-pairs (line ∷ lines) =
+      defaults_of-plain (pair_line_says read line) (map (pair_line_says read) lines) (line-data line) ∙
+      defaults_of-pairs lines
 
   -- so the data lines alone state the values
-  pub value_of-pairs : (stated : Stated V) (bytes : List ℕ) (c : ℕ) → AreStatedBy (pair_line_says read) stated (lines_of bytes) → value_of (pair_line_says read) bytes c ≡ value_by (find (holds c) stated.data_lines) None
+  pub value_of-pairs : (stated : Stated V) (bytes : List ℕ) (c : ℕ) →
+      AreStatedBy (pair_line_says read) stated (lines_of bytes) →
+      value_of (pair_line_says read) bytes c ≡ value_by (find (holds c) stated.data_lines) None
   value_of-pairs stated bytes c represents = grind (arith, defaults_of-pairs, value_in-represents)

@@ -36,7 +36,8 @@ range_in named _ = Err Fields
 -- what a comment states: a default if it begins with `@missing:`
 abbrev pub comment_says : List ℕ → FileLine Class
 comment_says comment =
-    if starts_with nat_eq comment (codes "@missing:") then span_says Default (range_in class_of_name (fields_of (content_of (drop 9 comment)))) else Silent
+    if starts_with nat_eq comment (codes "@missing:") then span_says Default
+    (range_in class_of_name (fields_of (content_of (drop 9 comment)))) else Silent
 
 -- what a line with this content states: its comment is read only if the content is empty
 abbrev pub class_content_says : List ℕ → List ℕ → FileLine Class
@@ -45,7 +46,8 @@ class_content_says line (b ∷ bs) = span_says Data (range_in class_of_short (fi
 
 -- what a line states
 unfoldable pub class_line_says : List ℕ → FileLine Class
-class_line_says line = if nat_lt longest_line (length line) then Faulty LineTooLong else class_content_says line (content_of line)
+class_line_says line =
+    if nat_lt longest_line (length line) then Faulty LineTooLong else class_content_says line (content_of line)
 
 -- the fault of a line after the earlier ones
 abbrev pub class_fault : List (List ℕ) → List ℕ → Option Fault

@@ -63,4 +63,5 @@ fault_of_line index (Some fault) = Some (fault_at fault (line_number index))
 -- the fault of the first faulty line; a line is checked against the earlier ones
 abbrev pub first_fault : (List (List ℕ) → List ℕ → Option Fault) → List (List ℕ) → List (List ℕ) → Option TableFault
 first_fault fault earlier [] = None
-first_fault fault earlier (line ∷ lines) = option_or (fault_of_line (length earlier) (fault earlier line)) (first_fault fault (earlier ++ line ∷ []) lines)
+first_fault fault earlier (line ∷ lines) =
+    option_or (fault_of_line (length earlier) (fault earlier line)) (first_fault fault (earlier ++ line ∷ []) lines)

@@ -37,7 +37,8 @@ single c v = record { first = c; last = c; value = v }
 
 -- `o` or `c`
 abbrev pub side_named : List ℕ → Option BracketSide
-side_named field = if bytes_eq field (codes "o") then Some Open else if bytes_eq field (codes "c") then Some Close else None
+side_named field = if bytes_eq field (codes "o") then Some Open else if bytes_eq field
+    (codes "c") then Some Close else None
 
 -- a bracket of this side: the key of an opening one is that of its paired bracket, the key of a closing one its own
 abbrev pub bracket_read : ℕ → ℕ → Option BracketSide → Result (Span SidedBracket) Fault
@@ -74,7 +75,8 @@ pair_content_says read (b ∷ bs) = span_says Data (read (fields_of (b ∷ bs)))
 
 -- what a line states: its fields decide it
 unfoldable pub pair_line_says : {V : Type 0} → (List (List ℕ) → Result (Span V) Fault) → List ℕ → FileLine V
-pair_line_says read line = if nat_lt longest_line (length line) then Faulty LineTooLong else pair_content_says read (content_of line)
+pair_line_says read line =
+    if nat_lt longest_line (length line) then Faulty LineTooLong else pair_content_says read (content_of line)
 
 -- the fault of a line of BidiBrackets.txt after the earlier ones
 abbrev pub bracket_fault : List (List ℕ) → List ℕ → Option Fault
@@ -121,7 +123,8 @@ IsEquivalent a b = nfd (a ∷ []) ≡ nfd (b ∷ [])
 
 -- some line states that a bracket has the key of this character
 abbrev pub IsKeyed : List ℕ → ℕ → Type 0
-IsKeyed bytes a = (c : ℕ) × (stated : SidedBracket) × (c ≤ 0x10FFFF) × (bracket_of bytes c ≡ Some stated) × (stated.keyed_by ≡ a)
+IsKeyed bytes a = (c : ℕ) × (stated : SidedBracket) × (c ≤ 0x10FFFF) × (bracket_of bytes c ≡ Some stated) ×
+    (stated.keyed_by ≡ a)
 
 -- BD14 to BD16: the bytes are not faulty, and these are the brackets that they state for the characters; keys are equal
 -- exactly if their characters are canonically equivalent

@@ -24,7 +24,9 @@ most_defaults = 1024
 -- the fault of a data line after these: there are too many, or an earlier one has one of its code points (`Overlap` or
 -- `Twice`)
 abbrev pub data_fault : {V : Type 0} → Fault → List (Span V) → Span V → Option Fault
-data_fault taken earlier span = if nat_le most_data (length earlier) then Some TooMany else if list_any (overlaps span) earlier then Some taken else None
+data_fault taken earlier span =
+    if nat_le most_data (length earlier) then Some TooMany else if list_any (overlaps span) earlier then Some taken else
+    None
 
 -- the fault of a default line after these, which may overlap
 abbrev pub default_fault : {V : Type 0} → List (Span V) → Option Fault
@@ -43,7 +45,8 @@ value_in spans defaults c = value_by (find (holds c) spans) (find (holds c) (rev
 -- each span's first code point is at most its last, and each span is wholly before the later ones
 pub record IsRising {V : Type 0} (spans : List (Span V)) : Type 0 where
   pub each : All (λ (s : Span V). s.first ≤ s.last) spans
-  pub apart : (i j : ℕ) (d : Span V) → i < j → j < length spans → (slice_index_or spans i d).last < (slice_index_or spans j d).first
+  pub apart : (i j : ℕ) (d : Span V) → i < j → j < length spans →
+      (slice_index_or spans i d).last < (slice_index_or spans j d).first
 
 -- the new spans contain what the old ones and one more contain, in any order
 pub record Adds {V : Type 0} (old : List (Span V)) (span : Span V) (new : List (Span V)) : Type 0 where

@@ -37,4 +37,5 @@ pub record AreStages {V : Type 0} (stages : Stages V) : Type 0 where
 
 -- the block with a number has these values
 abbrev pub HasBlock : {V : Type 0} → List V → ℕ → List V → Type 0
-HasBlock {V} values number block = (k : ℕ) (d : V) → k < 128 → slice_index_or values (number * 128 + k) d ≡ slice_index_or block k d
+HasBlock {V} values number block = (k : ℕ) (d : V) → k < 128 →
+    slice_index_or values (number * 128 + k) d ≡ slice_index_or block k d

@@ -67,8 +67,10 @@ stated_fault taken stated (Default span) = default_fault stated.default_lines
 abbrev pub Becomes : {V : Type 0} → Fault → Stated V → FileLine V → Stated V → Type 0
 Becomes taken old Silent new = new ≡ old
 Becomes taken old (Faulty fault) new = ⊥
-Becomes taken old (Data span) new = Adds old.data_lines span new.data_lines × (data_fault taken old.data_lines span ≡ None) × (new.default_lines ≡ old.default_lines)
-Becomes taken old (Default span) new = (new.default_lines ≡ old.default_lines ++ span ∷ []) × (default_fault old.default_lines ≡ None) × (new.data_lines ≡ old.data_lines)
+Becomes taken old (Data span) new = Adds old.data_lines span new.data_lines ×
+    (data_fault taken old.data_lines span ≡ None) × (new.default_lines ≡ old.default_lines)
+Becomes taken old (Default span) new = (new.default_lines ≡ old.default_lines ++ span ∷ []) ×
+    (default_fault old.default_lines ≡ None) × (new.data_lines ≡ old.data_lines)
 
 -- these are the statements of these lines
 pub record IsStatedBy {V : Type 0} (stated : Stated V) (lines : List (FileLine V)) : Type 0 where

@@ -91,12 +91,14 @@ unfolding classes_compute
 surrogates = refl
 
 -- ranges that have one code point in common, the last of one
-pub overlap_at_last : class_file_fault (codes "0040..0045 ; L" ++ lf ++ codes "0030..0040 ; R" ++ lf ++ codes "0050") ≡ Some (Overlap 2)
+pub overlap_at_last : class_file_fault (codes "0040..0045 ; L" ++ lf ++ codes "0030..0040 ; R" ++ lf ++ codes "0050") ≡
+    Some (Overlap 2)
 unfolding classes_compute
 overlap_at_last = refl
 
 -- the fault is that of the later line
-pub overlap_far_away : class_file_fault (lf ++ lf ++ lf ++ codes "0040..0045 ; L" ++ lf ++ lf ++ lf ++ lf ++ lf ++ codes "0045 ; R" ++ lf) ≡ Some (Overlap 9)
+pub overlap_far_away : class_file_fault (lf ++ lf ++ lf ++ codes "0040..0045 ; L" ++ lf ++ lf ++ lf ++ lf ++ lf ++
+    codes "0045 ; R" ++ lf) ≡ Some (Overlap 9)
 unfolding classes_compute
 overlap_far_away = refl
 
@@ -107,7 +109,8 @@ overlap_by_value = refl
 
 -- two default lines and a data line
 abbrev defaults : List ℕ
-defaults = codes "# @missing: 0000..10FFFF; Left_To_Right" ++ lf ++ codes "# @missing: 0590..05FF; R" ++ lf ++ codes "05D0 ; AN" ++ lf
+defaults = codes "# @missing: 0000..10FFFF; Left_To_Right" ++ lf ++ codes "# @missing: 0590..05FF; R" ++ lf ++
+    codes "05D0 ; AN" ++ lf
 
 -- default lines may overlap
 pub defaults_overlap : class_file_fault defaults ≡ None
@@ -152,7 +155,8 @@ unfolding pairs_compute
 bracket_twice = refl
 
 -- by its value
-pub bracket_twice_by_value : bracket_file_fault (codes "0028; 0029; o" ++ lf ++ codes "000028; 0029; c") ≡ Some (Twice 2)
+pub bracket_twice_by_value : bracket_file_fault (codes "0028; 0029; o" ++ lf ++ codes "000028; 0029; c") ≡
+    Some (Twice 2)
 unfolding pairs_compute
 bracket_twice_by_value = refl
 
@@ -174,7 +178,9 @@ no_bracket = refl
 -- four pairs of brackets
 abbrev brackets : List ℕ
 brackets =
-    codes "0028; 0029; o" ++ lf ++ codes "0029; 0028; c" ++ lf ++ codes "005B; 005D; o" ++ lf ++ codes "005D; 005B; c" ++ lf ++ codes "2329; 232A; o" ++ lf ++ codes "232A; 2329; c" ++ lf ++ codes "3008; 3009; o" ++ lf
+    codes "0028; 0029; o" ++ lf ++ codes "0029; 0028; c" ++ lf ++ codes "005B; 005D; o" ++ lf ++
+    codes "005D; 005B; c" ++ lf ++ codes "2329; 232A; o" ++ lf ++ codes "232A; 2329; c" ++ lf ++
+    codes "3008; 3009; o" ++ lf
     ++ codes "3009; 3008; c" ++ lf
 
 -- brackets and their counterparts

@@ -8,7 +8,7 @@ use crate::reading::{LineTable, read_lines};
 use crate::sided_bracket::SidedBracket;
 use crate::span::Span;
 use crate::statements::Statements;
-use crate::two_stage::{TableStages, BorrowedStages, TwoStage};
+use crate::two_stage::{BorrowedStages, TableStages, TwoStage};
 use std::alloc::Global;
 use std::borrow::CowSlice;
 use std::marker::Model;

@@ -5,7 +5,7 @@ use crate::class_line::class_line;
 use crate::fault::{Fault, TableFault};
 use crate::reading::{LineTable, read_lines};
 use crate::statements::Statements;
-use crate::two_stage::{TableStages, BorrowedStages, TwoStage};
+use crate::two_stage::{BorrowedStages, TableStages, TwoStage};
 use std::alloc::Global;
 use std::marker::Model;
 use units::class::Class;

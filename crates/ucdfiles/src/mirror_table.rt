@@ -7,7 +7,7 @@ use crate::pair_line::mirror_line;
 use crate::reading::{LineTable, read_lines};
 use crate::span::Span;
 use crate::statements::Statements;
-use crate::two_stage::{TableStages, BorrowedStages, TwoStage};
+use crate::two_stage::{BorrowedStages, TableStages, TwoStage};
 use std::alloc::{AllocError, Global};
 use std::marker::Model;
 use units::source::ByteSource;

@@ -42,7 +42,8 @@ fn take_cut<T: LineTable>(table: &mut T, taken: Cut<'_>) -> Result<(), TableFaul
 }
 
 fn feed<T: LineTable>(table: &mut T, splitter: &mut LineCut, piece: &[u8]) -> Result<(), TableFault>
-    ensures ok { OnOk result (ReadsOn (T.represents table.old) (T.represents table.new) T.fault splitter.old splitter.new
+    ensures ok { OnOk result
+        (ReadsOn (T.represents table.old) (T.represents table.new) T.fault splitter.old splitter.new
         piece.now) }
     ensures err { IfErr result (λ e. (b : List ℕ) → Reads (T.represents table.old) T.fault splitter.old b
         → RejectsBytes T.fault (b ++ piece.now) e) }

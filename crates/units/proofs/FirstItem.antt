@@ -9,7 +9,8 @@ use Rattle.units.specs.Text.{is_blank, has_bytes, items_of, without_blanks_befor
 use Rattle.units.proofs.Cuts.{pieces-none, pieces-some}
 
 trimmed-yes : (x : ℕ) (xs : List ℕ) → is_blank x ≡ true → without_blanks_before (x ∷ xs) ≡ without_blanks_before xs
-trimmed-yes x xs e = ap (λ b. drop (cond b (1 + prefix_len is_blank xs) 0) (x ∷ xs)) e ∙ ap (λ n. drop n (x ∷ xs)) (one-add (prefix_len is_blank xs))
+trimmed-yes x xs e = ap (λ b. drop (cond b (1 + prefix_len is_blank xs) 0) (x ∷ xs)) e ∙
+    ap (λ n. drop n (x ∷ xs)) (one-add (prefix_len is_blank xs))
 
 trimmed-no : (x : ℕ) (xs : List ℕ) → is_blank x ≡ false → without_blanks_before (x ∷ xs) ≡ x ∷ xs
 trimmed-no x xs e = ap (λ b. drop (cond b (1 + prefix_len is_blank xs) 0) (x ∷ xs)) e
@@ -20,7 +21,8 @@ items-trimmed [] = refl
 items-trimmed (x ∷ xs) = grind (arith, trimmed-yes, slice_split-cons_yes, trimmed-no, items-trimmed xs)
 
 -- what is trimmed begins with no blank
-pub trimmed-begins : (xs : List ℕ) → 0 < length (without_blanks_before xs) → is_blank (get_or (without_blanks_before xs) 0 0) ≡ false
+pub trimmed-begins : (xs : List ℕ) → 0 < length (without_blanks_before xs) →
+    is_blank (get_or (without_blanks_before xs) 0 0) ≡ false
 trimmed-begins [] some = absurd (omega arith)
 trimmed-begins (x ∷ xs) some = grind (arith, trimmed-yes, trimmed-no, trimmed-begins xs)
 
@@ -30,14 +32,17 @@ some_bytes [] h = absurd (omega arith)
 some_bytes (x ∷ xs) h = refl
 
 -- an item is first if no blank is before it
-pub items-one : (field xs : List ℕ) → xs ≡ without_blanks_before field → 0 < length xs → IsFirstByte is_blank xs None → items_of field ≡ xs ∷ []
+pub items-one : (field xs : List ℕ) → xs ≡ without_blanks_before field → 0 < length xs → IsFirstByte is_blank xs None →
+    items_of field ≡ xs ∷ []
 items-one field xs is some none =
-    sym (items-trimmed field) ∙ ap items_of (sym is) ∙ ap (filter has_bytes) (pieces-none is_blank xs none) ∙ rw (some_bytes xs some) refl
+    sym (items-trimmed field) ∙ ap items_of (sym is) ∙ ap (filter has_bytes) (pieces-none is_blank xs none) ∙
+    rw (some_bytes xs some) refl
 
 begins-late : (xs : List ℕ) (k : ℕ) → is_blank (get_or xs 0 0) ≡ false → is_blank (get_or xs k 0) ≡ true → 0 < k
 begins-late xs k other blank = grind (arith, false≢true)
 
-pub items-first : (field xs : List ℕ) (k : ℕ) → xs ≡ without_blanks_before field → 0 < length xs → IsFirstByte is_blank xs (Some k)
+pub items-first : (field xs : List ℕ) (k : ℕ) → xs ≡ without_blanks_before field → 0 < length xs →
+    IsFirstByte is_blank xs (Some k)
     → items_of field ≡ take k xs ∷ items_of (take (length xs - (k + 1)) (drop (k + 1) xs))
 items-first field xs k is some first =
     grind (arith, trimmed-begins, begins-late, some_bytes, length-take, items-trimmed, pieces-some)

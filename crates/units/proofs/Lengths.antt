@@ -38,34 +38,42 @@ unfolding after_weak
 length-after_weak sos cs =
     grind (arith, length-after_w7, length-map, length-after_w5, length-after_w4, length-after_w2, length-after_w1)
 
-length-with_direction : (before cs : List Class) (o c : ℕ) (direction : Option Class) → length (with_direction before cs o c direction) ≡ length cs
+length-with_direction : (before cs : List Class) (o c : ℕ) (direction : Option Class) →
+    length (with_direction before cs o c direction) ≡ length cs
 length-with_direction before cs o c None = refl
 length-with_direction before cs o c (Some d) = length-at_each _ (given_to before o d cs) ∙ length-at_each _ cs
 
-pub length-after_pair : (embedding sos : Class) (before cs : List Class) (o : ℕ) (closer : Option ℕ) → length (after_pair embedding sos before cs o closer) ≡ length cs
+pub length-after_pair : (embedding sos : Class) (before cs : List Class) (o : ℕ) (closer : Option ℕ) →
+    length (after_pair embedding sos before cs o closer) ≡ length cs
 length-after_pair embedding sos before cs o None = refl
 length-after_pair embedding sos before cs o (Some c) = length-with_direction before cs o c _
 
-length-pairs : (embedding sos : Class) (before : List Class) (closer : ℕ → Option ℕ) (cs : List Class) (os : List ℕ) → length (fold (λ now o. after_pair embedding sos before now o (closer o)) cs os) ≡ length cs
+length-pairs : (embedding sos : Class) (before : List Class) (closer : ℕ → Option ℕ) (cs : List Class) (os : List ℕ) →
+    length (fold (λ now o. after_pair embedding sos before now o (closer o)) cs os) ≡ length cs
 length-pairs embedding sos before closer cs [] = refl
 length-pairs embedding sos before closer cs (o ∷ os) =
-    length-pairs embedding sos before closer (after_pair embedding sos before cs o (closer o)) os ∙ length-after_pair embedding sos before cs o (closer o)
+    length-pairs embedding sos before closer (after_pair embedding sos before cs o (closer o)) os ∙
+    length-after_pair embedding sos before cs o (closer o)
 
-pub length-after_paired : (embedding sos : Class) (before : List Class) (closer : ℕ → Option ℕ) (cs : List Class) → length (after_paired embedding sos before closer cs) ≡ length cs
+pub length-after_paired : (embedding sos : Class) (before : List Class) (closer : ℕ → Option ℕ) (cs : List Class) →
+    length (after_paired embedding sos before closer cs) ≡ length cs
 unfolding after_paired
 length-after_paired embedding sos before closer cs = length-pairs embedding sos before closer cs (positions_of cs)
 
-pub length-after_neutral : (embedding sos eos : Class) (cs : List Class) → length (after_neutral embedding sos eos cs) ≡ length cs
+pub length-after_neutral : (embedding sos eos : Class) (cs : List Class) →
+    length (after_neutral embedding sos eos cs) ≡ length cs
 unfolding after_neutral
 length-after_neutral embedding sos eos cs = length-at_each _ cs
 
-pub length-levels_of_sequence : (room : ℕ) (s : SequenceView) (us : List BidiUnit) (before : List Class) → length (levels_of_sequence room s us before) ≡ length before
+pub length-levels_of_sequence : (room : ℕ) (s : SequenceView) (us : List BidiUnit) (before : List Class) →
+    length (levels_of_sequence room s us before) ≡ length before
 length-levels_of_sequence room s us before =
     grind (arith, length-map, length-after_neutral, length-after_paired, length-after_weak)
 
 pub length-classes_of : (us : List BidiUnit) → length (classes_of us) ≡ length us
 length-classes_of us = length-map us (λ (u : BidiUnit). u.class)
 
-pub length-resolved_levels : (limits : LimitsOf) (us : List BidiUnit) (para_level : ℕ) → length (resolved_levels limits us para_level) ≡ length us
+pub length-resolved_levels : (limits : LimitsOf) (us : List BidiUnit) (para_level : ℕ) →
+    length (resolved_levels limits us para_level) ≡ length us
 unfolding resolved_levels
 length-resolved_levels limits us para_level = length-map (positions_of us) _ ∙ length-positions_from 0 (length us)

@@ -25,25 +25,31 @@ cut_lines-rest (x ∷ rest) free =
     rw (e, cut_lines-rest rest (All-tail (λ y. y ≢ 10) x rest free)) refl
 
 -- lines that have ended, and then more bytes
-pub cut_lines-ended : (lines : List (List ℕ)) (xs : List ℕ) → All IsLine lines → cut_lines (flat_map ended lines ++ xs) ≡ lines ++ cut_lines xs
+pub cut_lines-ended : (lines : List (List ℕ)) (xs : List ℕ) → All IsLine lines →
+    cut_lines (flat_map ended lines ++ xs) ≡ lines ++ cut_lines xs
 cut_lines-ended [] xs each = refl
 cut_lines-ended (line ∷ lines) xs each =
-    let again : cut_lines (flat_map ended lines ++ xs) ≡ lines ++ cut_lines xs = cut_lines-ended lines xs (All-tail IsLine line lines each) in
+    let again : cut_lines (flat_map ended lines ++ xs) ≡ lines ++ cut_lines xs =
+    cut_lines-ended lines xs (All-tail IsLine line lines each) in
     let first : cut_lines (line ++ 10 ∷ (flat_map ended lines ++ xs)) ≡ line ∷ cut_lines (flat_map ended lines ++ xs) =
     cut_lines-line line (flat_map ended lines ++ xs) (All-head IsLine line lines each).feeds in
     let regroup : flat_map ended (line ∷ lines) ++ xs ≡ line ++ 10 ∷ (flat_map ended lines ++ xs) = simp append_assoc in
     ap cut_lines regroup ∙ first ∙ ap (λ ls. line ∷ ls) again
 
-pub cut_lines-CutsInto : (bytes : List ℕ) (lines : List (List ℕ)) (rest : List ℕ) → CutsInto bytes lines rest → cut_lines bytes ≡ lines ++ rest ∷ []
+pub cut_lines-CutsInto : (bytes : List ℕ) (lines : List (List ℕ)) (rest : List ℕ) → CutsInto bytes lines rest →
+    cut_lines bytes ≡ lines ++ rest ∷ []
 cut_lines-CutsInto bytes lines rest cut =
-    ap cut_lines cut.whole ∙ cut_lines-ended lines rest cut.each ∙ ap (λ ls. lines ++ ls) (cut_lines-rest rest cut.partial.feeds)
+    ap cut_lines cut.whole ∙ cut_lines-ended lines rest cut.each ∙
+    ap (λ ls. lines ++ ls) (cut_lines-rest rest cut.partial.feeds)
 
 -- a first line as long as what begins with no line feed, at least
-pub cut_lines-long : (long more : List ℕ) → HasNoFeed long → (line : List ℕ) × (rest : List (List ℕ)) × (cut_lines (long ++ more) ≡ line ∷ rest) × (length long ≤ length line)
+pub cut_lines-long : (long more : List ℕ) → HasNoFeed long → (line : List ℕ) × (rest : List (List ℕ)) ×
+    (cut_lines (long ++ more) ≡ line ∷ rest) × (length long ≤ length line)
 cut_lines-long [] [] free = ([], [], refl, omega arith)
 cut_lines-long [] (x ∷ more) free =
     let again = cut_lines-long [] more (λ k d lt. absurd (omega arith)) in
-    elim (x == 10) as (λ b. (line : List ℕ) × (rest : List (List ℕ)) × ((if b then [] ∷ cut_lines more else onto_first x (cut_lines more)) ≡ line ∷ rest) × (0 ≤ length line)) [
+    elim (x == 10) as (λ b. (line : List ℕ) × (rest : List (List ℕ)) ×
+    ((if b then [] ∷ cut_lines more else onto_first x (cut_lines more)) ≡ line ∷ rest) × (0 ≤ length line)) [
       | true ↦ ([], cut_lines more, refl, omega arith)
       | false ↦ (x ∷ again.0, again.1, ap (onto_first x) again.2, omega arith)
     ]
@@ -53,16 +59,24 @@ cut_lines-long (x ∷ long) more free =
     (x ∷ again.0, again.1, rw e (ap (onto_first x) again.2), omega (arith, again.3))
 
 -- no cutting into lines of a byte list with an over-long line
-pub never_both : (bytes : List ℕ) (lines others : List (List ℕ)) (rest : List ℕ) → IsTooLongAfter bytes lines → CutsInto bytes others rest → ⊥
+pub never_both : (bytes : List ℕ) (lines others : List (List ℕ)) (rest : List ℕ) → IsTooLongAfter bytes lines →
+    CutsInto bytes others rest → ⊥
 never_both bytes lines others rest over cut =
     let first = cut_lines-long over.long over.more over.feeds in
     let tail : (flat_map ended lines ++ over.long) ++ over.more ≡ flat_map ended lines ++ (over.long ++ over.more) =
     append_assoc (flat_map ended lines) over.long over.more in
     let here : cut_lines bytes ≡ lines ++ first.0 ∷ first.1 =
-    ap cut_lines (over.whole ∙ tail) ∙ cut_lines-ended lines (over.long ++ over.more) over.each ∙ ap (λ ls. lines ++ ls) first.2 in
-    let there : others ++ rest ∷ [] ≡ lines ++ first.0 ∷ first.1 = sym (cut_lines-CutsInto bytes others rest cut) ∙ here in
-    let each : All IsLine (lines ++ first.0 ∷ first.1) = All-same IsLine (lines ++ first.0 ∷ first.1) (others ++ rest ∷ []) (sym there) (All-push IsLine others rest cut.each cut.partial) in
-    let at : get_or (lines ++ first.0 ∷ first.1) (length lines) [] ≡ first.0 = get_or-append_seam lines first.0 first.1 [] in
-    let inside : length lines < length (lines ++ first.0 ∷ first.1) = omega (arith, length-append lines (first.0 ∷ first.1)) in
-    let short : length (get_or (lines ++ first.0 ∷ first.1) (length lines) []) ≤ longest_line = (each (length lines) [] inside).short in
+    ap cut_lines (over.whole ∙ tail) ∙ cut_lines-ended lines (over.long ++ over.more) over.each ∙
+    ap (λ ls. lines ++ ls) first.2 in
+    let there : others ++ rest ∷ [] ≡ lines ++ first.0 ∷ first.1 = sym (cut_lines-CutsInto bytes others rest cut) ∙
+    here in
+    let each : All IsLine (lines ++ first.0 ∷ first.1) =
+    All-same IsLine (lines ++ first.0 ∷ first.1) (others ++ rest ∷ []) (sym there)
+    (All-push IsLine others rest cut.each cut.partial) in
+    let at : get_or (lines ++ first.0 ∷ first.1) (length lines) [] ≡ first.0 =
+    get_or-append_seam lines first.0 first.1 [] in
+    let inside : length lines < length (lines ++ first.0 ∷ first.1) =
+    omega (arith, length-append lines (first.0 ∷ first.1)) in
+    let short : length (get_or (lines ++ first.0 ∷ first.1) (length lines) []) ≤ longest_line =
+    (each (length lines) [] inside).short in
     omega (arith, short, ap length at, first.3, over.above)

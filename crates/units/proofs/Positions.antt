@@ -9,7 +9,9 @@ or_else None b = b
 or_else (Some a) b = Some a
 
 -- one place more
-pub first_from_more : (test : ℕ → Bool) (start count : ℕ) → first_from test start (suc count) ≡ or_else (first_from test start count) (cond (test (start + count)) (Some (start + count)) None)
+pub first_from_more : (test : ℕ → Bool) (start count : ℕ) →
+    first_from test start (suc count) ≡
+    or_else (first_from test start count) (cond (test (start + count)) (Some (start + count)) None)
 first_from_more test start zero = let e : start + 0 ≡ start = omega arith in rw e refl
 first_from_more test start (suc count) = grind (arith, first_from_more test (start + 1) count)
 
@@ -20,20 +22,24 @@ pub record IsFirst (test : ℕ → Bool) (start : ℕ) (count : ℕ) (at : ℕ) 
   pub passes : test at ≡ true
   pub fails_before : (q : ℕ) → start ≤ q → q < at → test q ≡ false
 
-pub first_from_some : (test : ℕ → Bool) (start count at : ℕ) → first_from test start count ≡ Some at → IsFirst test start count at
+pub first_from_some : (test : ℕ → Bool) (start count at : ℕ) → first_from test start count ≡ Some at →
+    IsFirst test start count at
 first_from_some test start zero at e = absurd (cc)
 first_from_some test start (suc count) at e = grind (arith, first_from_some test (start + 1) count at)
 
-pub first_from_none : (test : ℕ → Bool) (start count : ℕ) → first_from test start count ≡ None → (q : ℕ) → start ≤ q → q < start + count → test q ≡ false
+pub first_from_none : (test : ℕ → Bool) (start count : ℕ) → first_from test start count ≡ None → (q : ℕ) → start ≤ q →
+    q < start + count → test q ≡ false
 first_from_none test start zero e q a b = absurd (omega arith)
 first_from_none test start (suc count) e q a b = grind (arith, first_from_none test (start + 1) count)
 
 -- these facts determine the position
-pub first_from_is : (test : ℕ → Bool) (start count at : ℕ) → start ≤ at → at < start + count → test at ≡ true → ((q : ℕ) → start ≤ q → q < at → test q ≡ false) → first_from test start count ≡ Some at
+pub first_from_is : (test : ℕ → Bool) (start count at : ℕ) → start ≤ at → at < start + count → test at ≡ true →
+    ((q : ℕ) → start ≤ q → q < at → test q ≡ false) → first_from test start count ≡ Some at
 first_from_is test start zero at a b holds before = absurd (omega arith)
 first_from_is test start (suc count) at a b holds before = grind (arith, first_from_is test (start + 1) count at)
 
-pub first_from_nowhere : (test : ℕ → Bool) (start count : ℕ) → ((q : ℕ) → start ≤ q → q < start + count → test q ≡ false) → first_from test start count ≡ None
+pub first_from_nowhere : (test : ℕ → Bool) (start count : ℕ) → ((q : ℕ) → start ≤ q → q < start + count →
+    test q ≡ false) → first_from test start count ≡ None
 first_from_nowhere test start zero h = refl
 first_from_nowhere test start (suc count) h = grind (arith, first_from_nowhere test (start + 1) count)
 
@@ -51,7 +57,8 @@ pub last_below_none : (test : ℕ → Bool) (end : ℕ) → last_below test end 
 last_below_none test zero e q b = absurd (omega arith)
 last_below_none test (suc end) e q b = grind (arith, last_below_none test end)
 
-pub last_below_is : (test : ℕ → Bool) (end at : ℕ) → at < end → test at ≡ true → ((q : ℕ) → at < q → q < end → test q ≡ false) → last_below test end ≡ Some at
+pub last_below_is : (test : ℕ → Bool) (end at : ℕ) → at < end → test at ≡ true →
+    ((q : ℕ) → at < q → q < end → test q ≡ false) → last_below test end ≡ Some at
 last_below_is test zero at b holds after = absurd (omega arith)
 last_below_is test (suc end) at b holds after = grind (arith, last_below_is test end at)
 
@@ -75,9 +82,12 @@ is_before-earlier y None h = refl
 is_before-earlier y (Some j) h = lt-ltb y j (let k : suc y < j = ltb-true (suc y) j h in omega arith)
 
 -- the list of positions, one longer
-pub positions_from-next : (start count : ℕ) → positions_from start (suc count) ≡ positions_from start count ++ (start + count) ∷ []
+pub positions_from-next : (start count : ℕ) → positions_from start (suc count) ≡ positions_from start count ++
+    (start + count) ∷ []
 positions_from-next start zero = ap (λ k. k ∷ []) (omega arith)
-positions_from-next start (suc count) = ap (λ r. start ∷ r) (positions_from-next (start + 1) count ∙ ap (λ k. positions_from (start + 1) count ++ k ∷ []) (omega arith))
+positions_from-next start (suc count) =
+    ap (λ r. start ∷ r) (positions_from-next (start + 1) count ∙
+    ap (λ k. positions_from (start + 1) count ++ k ∷ []) (omega arith))
 
 -- its length and its elements
 pub length-positions_from : (start count : ℕ) → length (positions_from start count) ≡ count
@@ -87,4 +97,5 @@ length-positions_from start (suc count) = ap suc (length-positions_from (start +
 pub get_or-positions_from : (start count k d : ℕ) → k < count → get_or (positions_from start count) k d ≡ start + k
 get_or-positions_from start zero k d h = absurd (omega arith)
 get_or-positions_from start (suc count) zero d h = omega arith
-get_or-positions_from start (suc count) (suc k) d h = let ih = get_or-positions_from (start + 1) count k d (omega arith) in omega (arith, ih)
+get_or-positions_from start (suc count) (suc k) d h = let ih =
+    get_or-positions_from (start + 1) count k d (omega arith) in omega (arith, ih)

@@ -16,11 +16,13 @@ ends_of_pieces-four a [] c d more = refl
 ends_of_pieces-four a (x ∷ b) c d more = refl
 
 -- what a cut gives is never nothing
-pub cut_at-some : (separator : ℕ) (bs : List ℕ) → (piece : List ℕ) × (pieces : List (List ℕ)) × (cut_at separator bs ≡ piece ∷ pieces)
+pub cut_at-some : (separator : ℕ) (bs : List ℕ) → (piece : List ℕ) × (pieces : List (List ℕ)) ×
+    (cut_at separator bs ≡ piece ∷ pieces)
 cut_at-some separator [] = ([], [], refl)
 cut_at-some separator (b ∷ bs) =
     let again = cut_at-some separator bs in
-    elim (b == separator) as (λ t. (piece : List ℕ) × (pieces : List (List ℕ)) × (cond t ([] ∷ cut_at separator bs) (onto_first b (cut_at separator bs)) ≡ piece ∷ pieces)) [
+    elim (b == separator) as (λ t. (piece : List ℕ) × (pieces : List (List ℕ)) ×
+    (cond t ([] ∷ cut_at separator bs) (onto_first b (cut_at separator bs)) ≡ piece ∷ pieces)) [
       | true ↦ ([], cut_at separator bs, refl)
       | false ↦ (b ∷ again.0, again.1, ap (onto_first b) again.2)
     ]

@@ -9,7 +9,8 @@ use Rattle.units.specs.declared.unread.Unread.TheVariants.{TooLarge}
 use Rattle.units.specs.Provides.{Provides, failures_of, Consumes-nothing}
 
 from-open : (state : State) → state ≡ Open → failures_of state ≡ 1 → ⊥
-from-open state is failed = let open' : failures_of state ≡ 0 = ap failures_of is in absurd (omega (arith, open', failed))
+from-open state is failed = let open' : failures_of state ≡ 0 = ap failures_of is in
+    absurd (omega (arith, open', failed))
 
 not_failed : (state : State) (unread : Unread) → failures_of state ≡ 0 → state ≡ Failed unread → ⊥
 not_failed state unread z e = let k : failures_of state ≡ 1 = ap failures_of e in absurd (omega (arith, k, z))

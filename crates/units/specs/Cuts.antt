@@ -17,4 +17,5 @@ fields_after (Some rest) = fields_of rest.now
 -- the bytes after the first separator; none if there is no separator
 abbrev pub IsAfterFirst : ℕ → List ℕ → Option (Bor (List ℕ)) → Type 0
 IsAfterFirst separator bytes following =
-    MatchOption following (before_first (λ b. b == separator) bytes ≡ bytes) (λ rest. rest.now ≡ after_first (λ b. b == separator) bytes)
+    MatchOption following (before_first (λ b. b == separator) bytes ≡ bytes) (λ rest.
+    rest.now ≡ after_first (λ b. b == separator) bytes)

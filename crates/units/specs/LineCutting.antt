@@ -13,7 +13,8 @@ pub record Cutting : Type 0 where
 -- what a line splitter in this phase stores after these lines
 abbrev pub HoldsAfter : Phase → ℕ → List ℕ → List ℕ → List (List ℕ) → Type 0
 HoldsAfter Within done stored bytes lines = CutsInto bytes lines stored × (done ≡ saturated (length lines))
-HoldsAfter Ended done stored bytes lines = CutsInto bytes (lines ++ stored ∷ []) [] × (done ≡ saturated (length lines + 1))
+HoldsAfter Ended done stored bytes lines = CutsInto bytes (lines ++ stored ∷ []) [] ×
+    (done ≡ saturated (length lines + 1))
 HoldsAfter Failed done stored bytes lines = IsTooLongAfter bytes lines × (done ≡ saturated (length lines))
 
 -- a line splitter that was given these bytes, in any pieces

@@ -102,4 +102,5 @@ standard_layout text direction breaks =
 
 -- P1 to L2: with the standard limits the layout is that of the rules with the numbers in them
 abbrev pub IsStandardLayout : List BidiUnit → Direction → List ℕ → Type 0
-IsStandardLayout text direction breaks = layout_of standard text direction breaks ≡ standard_layout text direction breaks
+IsStandardLayout text direction breaks =
+    layout_of standard text direction breaks ≡ standard_layout text direction breaks

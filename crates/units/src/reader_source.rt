@@ -77,7 +77,8 @@ impl<R: Read + Drop> ByteSource for ReaderSource<R> {
 
     ghost gives_nothing = { λ s. Provides-nothing s.remaining s.limit s.state };
 
-    ghost gives_joined = { λ s t u xs ys f g. Provides-joined s.remaining t.remaining u.remaining s.limit t.limit u.limit s.state t.state u.state xs ys f g };
+    ghost gives_joined = { λ s t u xs ys f g.
+        Provides-joined s.remaining t.remaining u.remaining s.limit t.limit u.limit s.state t.state u.state xs ys f g };
 
     fn read(&mut self, buf: &mut [u8]) -> Result<usize, SourceFault> {
         match self.state {

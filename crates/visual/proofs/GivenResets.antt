@@ -29,28 +29,34 @@ class_resets PDF later = refl
 class_resets BN later = refl
 class_resets _ later = refl
 
-separator_resets : (c : Class) (later : Bool) → resets_before c (is_separator c || false || later) ≡ resets_before c later
+separator_resets : (c : Class) (later : Bool) →
+    resets_before c (is_separator c || false || later) ≡ resets_before c later
 separator_resets B later = refl
 separator_resets _ later = refl
 
 -- whether the positions before p are reset, from whether those before p + 1 are
-resets_next : (own : List Class) (p : ℕ) (resets : Bool) → p < length own → resets ≡ resets_to own [] (p + 1) → resets_before (class_at own p) resets ≡ resets_to own [] p
+resets_next : (own : List Class) (p : ℕ) (resets : Bool) → p < length own → resets ≡ resets_to own [] (p + 1) →
+    resets_before (class_at own p) resets ≡ resets_to own [] p
 resets_next own p resets low is =
-    let next : (is_separator (class_at own p) || false || resets) ≡ resets_in own [] (p + 1) = resets_in-next own [] p (is_separator (class_at own p)) false resets low refl refl is in
-    sym (separator_resets (class_at own p) resets) ∙ ap (resets_before (class_at own p)) next ∙ sym (resets_to-is own [] p low)
+    let next : (is_separator (class_at own p) || false || resets) ≡ resets_in own [] (p + 1) =
+    resets_in-next own [] p (is_separator (class_at own p)) false resets low refl refl is in
+    sym (separator_resets (class_at own p) resets) ∙ ap (resets_before (class_at own p)) next ∙
+    sym (resets_to-is own [] p low)
 
 -- this is whether p itself is reset
 reset_is : (own : List Class) (p : ℕ) → p < length own → is_reset_in own p ≡ resets_to own [] p
 reset_is own p low = class_resets (class_at own p) (resets_in own [] (p + 1)) ∙ sym (resets_to-is own [] p low)
 
 -- the positions from p on are reset, and those before p are unchanged
-pub record IsResetFrom (own : List Class) (para : ℕ) (old : List ℕ) (p : ℕ) (resets : Bool) (levels : List ℕ) : Type 0 where
+pub record IsResetFrom (own : List Class) (para : ℕ) (old : List ℕ) (p : ℕ) (resets : Bool)
+    (levels : List ℕ) : Type 0 where
   pub len : length levels ≡ length old
   pub flag : resets ≡ resets_to own [] p
   pub below : (k : ℕ) → k < p → get_or levels k 0 ≡ get_or old k 0
   pub done : (k : ℕ) → p ≤ k → k < length old → get_or levels k 0 ≡ cond (is_reset_in own k) para (get_or old k 0)
 
-pub reset_none : (own : List Class) (para : ℕ) (old : List ℕ) → length own ≡ length old → IsResetFrom own para old (length old) true old
+pub reset_none : (own : List Class) (para : ℕ) (old : List ℕ) → length own ≡ length old →
+    IsResetFrom own para old (length old) true old
 reset_none own para old all =
     record {
       len = refl;
@@ -59,14 +65,18 @@ reset_none own para old all =
       done = λ k from low. absurd (omega arith);
     }
 
-pub reset_one : (own : List Class) (para : ℕ) (old : List ℕ) (p : ℕ) (resets resets2 : Bool) (levels levels2 : List ℕ) → length own ≡ length old → p < length old → resets2 ≡ resets_before (class_at own p) resets → levels2 ≡ set levels p (cond resets2 para (get_or levels p 0)) → IsResetFrom own para old (p + 1) resets levels → IsResetFrom own para old p resets2 levels2
+pub reset_one : (own : List Class) (para : ℕ) (old : List ℕ) (p : ℕ) (resets resets2 : Bool) (levels levels2 : List ℕ) →
+    length own ≡ length old → p < length old → resets2 ≡ resets_before (class_at own p) resets →
+    levels2 ≡ set levels p (cond resets2 para (get_or levels p 0)) → IsResetFrom own para old (p + 1) resets levels →
+    IsResetFrom own para old p resets2 levels2
 reset_one own para old p resets resets2 levels levels2 all low flag is r =
     let f : resets2 ≡ resets_to own [] p = flag ∙ resets_next own p resets (omega arith) r.flag in
     let put : ℕ = cond resets2 para (get_or levels p 0) in
     record {
       len = ap length is ∙ length-set levels p put ∙ r.len;
       flag = f;
-      below = λ k less. ap (λ xs. get_or xs k 0) is ∙ get_or-set_other levels p k put 0 (omega arith) ∙ r.below k (omega arith);
+      below = λ k less. ap (λ xs. get_or xs k 0) is ∙ get_or-set_other levels p k put 0 (omega arith) ∙
+          r.below k (omega arith);
       done = λ k from within. elim (cases_eq k p) [
         | inl same ↦
             let here : get_or levels2 p 0 ≡ cond (is_reset_in own p) para (get_or old p 0) =
@@ -74,11 +84,13 @@ reset_one own para old p resets resets2 levels levels2 all low flag is r =
             ∙ ap (λ b. cond b para (get_or levels p 0)) (f ∙ sym (reset_is own p (omega arith)))
             ∙ ap (λ n. cond (is_reset_in own p) para n) (r.below p (omega arith)) in
             subst (λ m. get_or levels2 m 0 ≡ cond (is_reset_in own m) para (get_or old m 0)) (sym same) here
-        | inr other ↦ ap (λ xs. get_or xs k 0) is ∙ get_or-set_other levels p k put 0 other ∙ r.done k (omega arith) within
+        | inr other ↦ ap (λ xs. get_or xs k 0) is ∙ get_or-set_other levels p k put 0 other ∙
+            r.done k (omega arith) within
       ];
     }
 
-pub reset_all : (own : List Class) (para : ℕ) (old : List ℕ) (p : ℕ) (resets : Bool) (levels : List ℕ) → p ≡ 0 → IsResetFrom own para old p resets levels → levels ≡ levels_reset_in own para old
+pub reset_all : (own : List Class) (para : ℕ) (old : List ℕ) (p : ℕ) (resets : Bool) (levels : List ℕ) → p ≡ 0 →
+    IsResetFrom own para old p resets levels → levels ≡ levels_reset_in own para old
 unfolding levels_reset_in
 reset_all own para old p resets levels none r =
     let f : ℕ → ℕ = λ k. cond (is_reset_in own k) para (slice_index old k) in

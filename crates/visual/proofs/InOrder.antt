@@ -24,7 +24,8 @@ level_from_some : (o : Option ℕ) → IsSome o → (v : ℕ) × (o ≡ Some v)
 level_from_some None h = cc
 level_from_some (Some w) h = (w, refl)
 
-pub place_of : (levels : List (Option ℕ)) (start end : ℕ) (order : List ℕ) (p v : ℕ) → IsLineOrder levels start end order → start ≤ p → p < end → HasLevel levels p v → PlaceOf order p
+pub place_of : (levels : List (Option ℕ)) (start end : ℕ) (order : List ℕ) (p v : ℕ) →
+    IsLineOrder levels start end order → start ≤ p → p < end → HasLevel levels p v → PlaceOf order p
 place_of levels start end order p v o low high h =
     let c = (o.remaining p).1 (low, high, some_from_level (slice_index_or levels p None) v h) in
     record { at = c.0; inside = c.1; is = get_or_default order c.0 0 p c.1 ∙ c.2 }
@@ -36,7 +37,8 @@ pub record IsRemaining (levels : List (Option ℕ)) (start end p : ℕ) : Type 0
   pub level : ℕ
   pub has : HasLevel levels p level
 
-pub remaining_at : (levels : List (Option ℕ)) (start end : ℕ) (order : List ℕ) (i : ℕ) → IsLineOrder levels start end order → i < length order → IsRemaining levels start end (slice_index order i)
+pub remaining_at : (levels : List (Option ℕ)) (start end : ℕ) (order : List ℕ) (i : ℕ) →
+    IsLineOrder levels start end order → i < length order → IsRemaining levels start end (slice_index order i)
 remaining_at levels start end order i o lt =
     let p = slice_index order i in
     let c : Contains order p = (i, lt, get_or_default order i p 0 lt) in
@@ -44,7 +46,9 @@ remaining_at levels start end order i o lt =
     let l = level_from_some (slice_index_or levels p None) s.2 in
     record { low = s.0; high = s.1; level = l.0; has = l.1 }
 
-pub left_at : (levels : List (Option ℕ)) (start end : ℕ) (order : List ℕ) (i j : ℕ) → IsLineOrder levels start end order → i < j → j < length order → Left levels (slice_index order i) (slice_index order j)
+pub left_at : (levels : List (Option ℕ)) (start end : ℕ) (order : List ℕ) (i j : ℕ) →
+    IsLineOrder levels start end order → i < j → j < length order →
+    Left levels (slice_index order i) (slice_index order j)
 left_at levels start end order i j o lt within =
     left_from_stand levels (slice_index order i) (slice_index order j) (o.pairs i j 0 lt within)
 
@@ -57,7 +61,10 @@ pub record IsSameLevel (levels : List (Option ℕ)) (order : List ℕ) (from to 
   pub after : to < length order → HasLevel levels (slice_index order to) v → ⊥
 
 -- a position at another place is before both or after both of two positions at these places
-outside_at : (levels : List (Option ℕ)) (start end : ℕ) (order : List ℕ) (from to v i j k : ℕ) → IsLineOrder levels start end order → IsSameLevel levels order from to v → from ≤ i → i < to → from ≤ j → j < to → k < length order → (k < from) ⊎ (to ≤ k) → Outside levels (slice_index order i) (slice_index order j) (slice_index order k)
+outside_at : (levels : List (Option ℕ)) (start end : ℕ) (order : List ℕ) (from to v i j k : ℕ) →
+    IsLineOrder levels start end order → IsSameLevel levels order from to v → from ≤ i → i < to → from ≤ j → j < to →
+    k < length order → (k < from) ⊎ (to ≤ k) →
+    Outside levels (slice_index order i) (slice_index order j) (slice_index order k)
 outside_at levels start end order from to v i j k o s ai bi aj bj lt out =
     elim out [
       | inl l ↦ inl (
@@ -70,7 +77,8 @@ outside_at levels start end order from to v i j k o s ai bi aj bj lt out =
       )
     ]
 
-place_outside : (levels : List (Option ℕ)) (order : List ℕ) (from to v k d u : ℕ) → IsSameLevel levels order from to v → slice_index order k ≡ d → HasLevel levels d u → u ≢ v → (k < from) ⊎ (to ≤ k)
+place_outside : (levels : List (Option ℕ)) (order : List ℕ) (from to v k d u : ℕ) → IsSameLevel levels order from to v →
+    slice_index order k ≡ d → HasLevel levels d u → u ≢ v → (k < from) ⊎ (to ≤ k)
 place_outside levels order from to v k d u s is h ne =
     elim (cases_lt k from) [
       | inl l ↦ inl l
@@ -81,7 +89,10 @@ place_outside levels order from to v k d u s is h ne =
     ]
 
 -- the remaining positions between two of them have their level too
-pub between_same : (levels : List (Option ℕ)) (start end : ℕ) (order : List ℕ) (from to v i j d u : ℕ) → IsLineOrder levels start end order → IsSameLevel levels order from to v → from ≤ i → i < to → from ≤ j → j < to → slice_index order i < d → d < slice_index order j → HasLevel levels d u → (k : ℕ) × (from ≤ k) × (k < to) × (slice_index order k ≡ d)
+pub between_same : (levels : List (Option ℕ)) (start end : ℕ) (order : List ℕ) (from to v i j d u : ℕ) →
+    IsLineOrder levels start end order → IsSameLevel levels order from to v → from ≤ i → i < to → from ≤ j → j < to →
+    slice_index order i < d → d < slice_index order j → HasLevel levels d u → (k : ℕ) × (from ≤ k) × (k < to) ×
+    (slice_index order k ≡ d)
 between_same levels start end order from to v i j d u o s ai bi aj bj xd dy h =
     let x = slice_index order i in
     let y = slice_index order j in
@@ -89,14 +100,17 @@ between_same levels start end order from to v i j d u o s ai bi aj bj xd dy h =
     let ry = remaining_at levels start end order j o (omega (arith, s.inside)) in
     let place : (d u : ℕ) → x < d → d < y → HasLevel levels d u → PlaceOf order d =
     λ d u a b h. place_of levels start end order d u o (omega (arith, rx.low)) (omega (arith, ry.high)) h in
-    let out : (d u : ℕ) (a : x < d) (b : d < y) (h : HasLevel levels d u) → ((place d u a b h).at < from) ⊎ (to ≤ (place d u a b h).at) → Outside levels x y d =
+    let out : (d u : ℕ) (a : x < d) (b : d < y) (h : HasLevel levels d u) → ((place d u a b h).at < from) ⊎
+    (to ≤ (place d u a b h).at) → Outside levels x y d =
     λ d u a b h w.
     let p = place d u a b h in
-    subst (λ n. Outside levels x y n) p.is (outside_at levels start end order from to v i j p.at o s ai bi aj bj p.inside w) in
+    subst (λ n. Outside levels x y n) p.is
+    (outside_at levels start end order from to v i j p.at o s ai bi aj bj p.inside w) in
     let here = place d u xd dy h in
     let never : ((here.at < from) ⊎ (to ≤ here.at)) → ⊥ = λ w.
     none_outside levels x y d v u (s.same i ai bi) (s.same j aj bj) h xd dy (out d u xd dy h w)
-    (λ c t a b k ne. out c t a b k (place_outside levels order from to v (place c t a b k).at c t s (place c t a b k).is k ne)) in
+    (λ c t a b k ne. out c t a b k (place_outside levels order from to v (place c t a b k).at c t s
+    (place c t a b k).is k ne)) in
     elim (cases_lt here.at from) [
       | inl l ↦ absurd (never (inl l))
       | inr l ↦ elim (cases_lt here.at to) [
@@ -106,7 +120,9 @@ between_same levels start end order from to v i j d u o s ai bi aj bj xd dy h =
     ]
 
 -- the least level between two of them is theirs
-least_same : (levels : List (Option ℕ)) (start end : ℕ) (order : List ℕ) (from to v i j : ℕ) → IsLineOrder levels start end order → IsSameLevel levels order from to v → from ≤ i → i < to → from ≤ j → j < to → slice_index order i < slice_index order j → least levels (slice_index order i) (slice_index order j) ≡ v
+least_same : (levels : List (Option ℕ)) (start end : ℕ) (order : List ℕ) (from to v i j : ℕ) →
+    IsLineOrder levels start end order → IsSameLevel levels order from to v → from ≤ i → i < to → from ≤ j → j < to →
+    slice_index order i < slice_index order j → least levels (slice_index order i) (slice_index order j) ≡ v
 least_same levels start end order from to v i j o s ai bi aj bj lt =
     let x = slice_index order i in
     let y = slice_index order j in
@@ -121,7 +137,9 @@ least_same levels start end order from to v i j o s ai bi aj bj lt =
     ])
 
 -- at an even level the positions rise
-pub same-rising : (levels : List (Option ℕ)) (start end : ℕ) (order : List ℕ) (from to v i j : ℕ) → IsLineOrder levels start end order → IsSameLevel levels order from to v → v % 2 ≡ 0 → from ≤ i → i < j → j < to → slice_index order i < slice_index order j
+pub same-rising : (levels : List (Option ℕ)) (start end : ℕ) (order : List ℕ) (from to v i j : ℕ) →
+    IsLineOrder levels start end order → IsSameLevel levels order from to v → v % 2 ≡ 0 → from ≤ i → i < j → j < to →
+    slice_index order i < slice_index order j
 same-rising levels start end order from to v i j o s even ai lt bj =
     let l = left_at levels start end order i j o lt (omega (arith, s.inside)) in
     elim (cases_lt (slice_index order i) (slice_index order j)) [
@@ -134,7 +152,9 @@ same-rising levels start end order from to v i j o s even ai lt bj =
     ]
 
 -- at an odd level the positions fall
-pub same-falling : (levels : List (Option ℕ)) (start end : ℕ) (order : List ℕ) (from to v i j : ℕ) → IsLineOrder levels start end order → IsSameLevel levels order from to v → v % 2 ≡ 1 → from ≤ i → i < j → j < to → slice_index order j < slice_index order i
+pub same-falling : (levels : List (Option ℕ)) (start end : ℕ) (order : List ℕ) (from to v i j : ℕ) →
+    IsLineOrder levels start end order → IsSameLevel levels order from to v → v % 2 ≡ 1 → from ≤ i → i < j → j < to →
+    slice_index order j < slice_index order i
 same-falling levels start end order from to v i j o s odd ai lt bj =
     let l = left_at levels start end order i j o lt (omega (arith, s.inside)) in
     elim (cases_lt (slice_index order j) (slice_index order i)) [
@@ -146,7 +166,8 @@ same-falling levels start end order from to v i j o s odd ai lt bj =
           let z : v % 2 ≡ 0 = ap (λ k. k % 2) (sym e) ∙ even in absurd (omega arith)
     ]
 
-none_between : (levels : List (Option ℕ)) (x y c v w : ℕ) → x ≢ y → HasLevel levels x v → HasLevel levels y v → HasLevel levels c w → NoneBetween levels x y → NoneBetween levels y x → Left levels x c → Left levels c y → ⊥
+none_between : (levels : List (Option ℕ)) (x y c v w : ℕ) → x ≢ y → HasLevel levels x v → HasLevel levels y v →
+    HasLevel levels c w → NoneBetween levels x y → NoneBetween levels y x → Left levels x c → Left levels c y → ⊥
 none_between levels x y c v w ne hx hy hc up down l r =
     elim (cases_lt x y) [
       | inl a ↦ none_between_rising levels x y c v w a hx hy hc up l r
@@ -154,7 +175,10 @@ none_between levels x y c v w ne hx hy hc up down l r =
     ]
 
 -- a position of their level is at one of these places, if no position remains between it and one of them in the text
-pub beside_same : (levels : List (Option ℕ)) (start end : ℕ) (order : List ℕ) (from to v i q : ℕ) → IsLineOrder levels start end order → IsSameLevel levels order from to v → from ≤ i → i < to → start ≤ q → q < end → HasLevel levels q v → NoneBetween levels (slice_index order i) q → NoneBetween levels q (slice_index order i) → (k : ℕ) × (from ≤ k) × (k < to) × (slice_index order k ≡ q)
+pub beside_same : (levels : List (Option ℕ)) (start end : ℕ) (order : List ℕ) (from to v i q : ℕ) →
+    IsLineOrder levels start end order → IsSameLevel levels order from to v → from ≤ i → i < to → start ≤ q → q < end →
+    HasLevel levels q v → NoneBetween levels (slice_index order i) q → NoneBetween levels q (slice_index order i) →
+    (k : ℕ) × (from ≤ k) × (k < to) × (slice_index order k ≡ q)
 beside_same levels start end order from to v i q o s ai bi low high h up down =
     let x = slice_index order i in
     let p = place_of levels start end order q v o low high h in
@@ -163,11 +187,19 @@ beside_same levels start end order from to v i q o s ai bi low high h up down =
           let c = slice_index order (from - 1) in
           let e : from - 1 + 1 ≡ from = omega arith in
           let r = remaining_at levels start end order (from - 1) o (omega (arith, s.inside, s.some)) in
-          let right : Left levels c x = left_at levels start end order (from - 1) i o (omega arith) (omega (arith, s.inside)) in
+          let right : Left levels c x =
+          left_at levels start end order (from - 1) i o (omega arith) (omega (arith, s.inside)) in
           elim (cases_lt p.at (from - 1)) [
             | inl m ↦
-                let left : Left levels q c = subst (λ n. Left levels n c) p.is (left_at levels start end order p.at (from - 1) o m (omega (arith, s.inside, s.some))) in
-                let all : Left levels q x = subst (λ n. Left levels n x) p.is (left_at levels start end order p.at i o (omega arith) (omega (arith, s.inside))) in
+                let left : Left levels q c =
+                subst (λ n. Left levels n c) p.is (left_at levels start end order p.at (from - 1) o m (omega (
+                  arith,
+                  s.inside,
+                  s.some,
+                ))) in
+                let all : Left levels q x =
+                subst (λ n. Left levels n x) p.is (left_at levels start end order p.at i o (omega arith)
+                (omega (arith, s.inside))) in
                 absurd (none_between levels q x c v r.level all.apart h (s.same i ai bi) r.has down up left right)
             | inr m ↦
                 let same : p.at ≡ from - 1 = omega arith in
@@ -181,8 +213,10 @@ beside_same levels start end order from to v i q o s ai bi low high h up down =
               let c = slice_index order to in
               let r = remaining_at levels start end order to o (omega (arith, p.inside)) in
               let left : Left levels x c = left_at levels start end order i to o bi (omega (arith, p.inside)) in
-              let right : Left levels c q = subst (λ n. Left levels c n) p.is (left_at levels start end order to p.at o n p.inside) in
-              let all : Left levels x q = subst (λ n. Left levels x n) p.is (left_at levels start end order i p.at o (omega arith) p.inside) in
+              let right : Left levels c q =
+              subst (λ n. Left levels c n) p.is (left_at levels start end order to p.at o n p.inside) in
+              let all : Left levels x q =
+              subst (λ n. Left levels x n) p.is (left_at levels start end order i p.at o (omega arith) p.inside) in
               absurd (none_between levels x q c v r.level all.apart (s.same i ai bi) h r.has up down left right)
           | inr n ↦
               let same : p.at ≡ to = omega arith in

@@ -8,7 +8,9 @@ use Rattle.visual.specs.declared.line_runs.Runs.{Runs}
 use Rattle.visual.specs.declared.runs.VisualRun.{VisualRun}
 
 -- the run of removed positions comes next
-pub next_removed-is : (old new : Runs) (run : VisualRun) → new.line ≡ old.line → new.place ≡ old.place → (old.end_pending ≡ false → new.end_pending ≡ false) → IsRemovedRun old.line run × (old.end_pending ≡ true) × (new.end_pending ≡ false) × (old.place ≡ end_place old.line) → IsNextRun old run new
+pub next_removed-is : (old new : Runs) (run : VisualRun) → new.line ≡ old.line → new.place ≡ old.place →
+    (old.end_pending ≡ false → new.end_pending ≡ false) → IsRemovedRun old.line run × (old.end_pending ≡ true) ×
+    (new.end_pending ≡ false) × (old.place ≡ end_place old.line) → IsNextRun old run new
 next_removed-is old new run line place closed given =
     record {
       line = line;
@@ -19,7 +21,11 @@ next_removed-is old new run line place closed given =
     }
 
 -- a run that shows positions comes next
-pub next_shown-is : (old mid new : Runs) (run : VisualRun) → mid.line ≡ old.line → mid.place ≡ old.place → (old.end_pending ≡ false → mid.end_pending ≡ false) → (mid.end_pending ≡ old.end_pending) ⊎ JoinTheLast old.line → BeginsAt mid.line mid.place → (IsInOrder mid.line → BeginsAt mid.line mid.place → IsRunAt mid.line mid.place run) → 0 < run.shown → new.line ≡ mid.line → new.place ≡ mid.place + run.shown → new.end_pending ≡ mid.end_pending → IsNextRun old run new
+pub next_shown-is : (old mid new : Runs) (run : VisualRun) → mid.line ≡ old.line → mid.place ≡ old.place →
+    (old.end_pending ≡ false → mid.end_pending ≡ false) → (mid.end_pending ≡ old.end_pending) ⊎ JoinTheLast old.line →
+    BeginsAt mid.line mid.place → (IsInOrder mid.line → BeginsAt mid.line mid.place → IsRunAt mid.line mid.place run) →
+    0 < run.shown → new.line ≡ mid.line → new.place ≡ mid.place + run.shown → new.end_pending ≡ mid.end_pending →
+    IsNextRun old run new
 next_shown-is old mid new run line place closed left begins is some line2 place2 end2 =
     record {
       line = line2 ∙ line;

@@ -23,28 +23,33 @@ abbrev starts : List VisualRun → List ℕ
 starts runs = map (λ run. run.start) runs
 
 -- a number is among these exactly if one of the runs begins there
-start_of : (runs : List VisualRun) (q : ℕ) → is_member nat_eq (starts runs) q ≡ true → (k : ℕ) × (k < length runs) × ((run_numbered runs k).start ≡ q)
+start_of : (runs : List VisualRun) (q : ℕ) → is_member nat_eq (starts runs) q ≡ true → (k : ℕ) × (k < length runs) ×
+    ((run_numbered runs k).start ≡ q)
 start_of [] q h = absurd (let z : false ≡ true = h in cc)
 start_of (run ∷ runs) q h =
     elim (eqb_tells q run.start) [
       | inl t ↦ (0, omega arith, sym t.1)
       | inr t ↦
-          let rest : is_member nat_eq (starts runs) q ≡ true = subst (λ (b : Bool). (b || is_member nat_eq (starts runs) q) ≡ true) t.0 h in
+          let rest : is_member nat_eq (starts runs) q ≡ true =
+          subst (λ (b : Bool). (b || is_member nat_eq (starts runs) q) ≡ true) t.0 h in
           let m = start_of runs q rest in
           (suc m.0, omega (arith, m.1), m.2)
     ]
 
-is_start : (runs : List VisualRun) (k : ℕ) → k < length runs → is_member nat_eq (starts runs) (run_numbered runs k).start ≡ true
+is_start : (runs : List VisualRun) (k : ℕ) → k < length runs →
+    is_member nat_eq (starts runs) (run_numbered runs k).start ≡ true
 is_start [] k lt = absurd (omega arith)
 is_start (run ∷ runs) zero lt =
-    subst (λ (b : Bool). (b || is_member nat_eq (starts runs) run.start) ≡ true) (sym (eq-eqb run.start run.start refl)) refl
+    subst (λ (b : Bool). (b || is_member nat_eq (starts runs) run.start) ≡ true)
+    (sym (eq-eqb run.start run.start refl)) refl
 is_start (run ∷ runs) (suc k) lt =
     let q = (run_numbered runs k).start in
     let rest = is_start runs k (omega arith) in
     subst (λ (b : Bool). (nat_eq q run.start || b) ≡ true) (sym rest) (or-true (nat_eq q run.start))
 
 -- none of them begins at this position
-none_begins : (runs : List VisualRun) (q : ℕ) → ((k : ℕ) → k < length runs → (run_numbered runs k).start ≢ q) → AllByRecursion (λ (y : ℕ). nat_eq q y ≡ false) (starts runs)
+none_begins : (runs : List VisualRun) (q : ℕ) → ((k : ℕ) → k < length runs → (run_numbered runs k).start ≢ q) →
+    AllByRecursion (λ (y : ℕ). nat_eq q y ≡ false) (starts runs)
 none_begins [] q differ = tt
 none_begins (run ∷ runs) q differ =
     let first : nat_eq q run.start ≡ false = elim (eqb_tells q run.start) [
@@ -57,7 +62,9 @@ none_distinct : IsDistinct nat_eq []
 unfolding IsDistinct
 none_distinct = tt
 
-distinct : (runs : List VisualRun) → ((i j : ℕ) → i < j → j < length runs → (run_numbered runs i).start ≢ (run_numbered runs j).start) → IsDistinct nat_eq (starts runs)
+distinct : (runs : List VisualRun) →
+    ((i j : ℕ) → i < j → j < length runs → (run_numbered runs i).start ≢ (run_numbered runs j).start) →
+    IsDistinct nat_eq (starts runs)
 distinct [] differ = none_distinct
 distinct (run ∷ runs) differ =
     IsDistinct-cons nat_eq run.start (starts runs)
@@ -65,24 +72,31 @@ distinct (run ∷ runs) differ =
     (distinct runs (λ i j lt within. differ (suc i) (suc j) (omega (arith, lt)) (omega (arith, within))))
 
 -- two runs that share a position begin at the same position
-same_start : (line : OrderedLine) (run other : VisualRun) (p : ℕ) → IsLevelRun line run → IsLevelRun line other → Covers run p → Covers other p → run.start ≡ other.start
+same_start : (line : OrderedLine) (run other : VisualRun) (p : ℕ) → IsLevelRun line run → IsLevelRun line other →
+    Covers run p → Covers other p → run.start ≡ other.start
 same_start line run other p r o c d =
     let a : Covers other run.start = same_span line run other p run.start r o c d (omega arith, r.some) in
     let b : Covers run other.start = same_span line other run p other.start o r d c (omega arith, o.some) in
     omega (arith, a.0, b.0)
 
-pub level_run : (line : OrderedLine) (runs : List VisualRun) (k : ℕ) → AreRunsOf line runs → k < length runs → IsLevelRun line (run_numbered runs k)
+pub level_run : (line : OrderedLine) (runs : List VisualRun) (k : ℕ) → AreRunsOf line runs → k < length runs →
+    IsLevelRun line (run_numbered runs k)
 level_run line runs k are lt =
     let t = run_at line 0 runs (length line.order.now) k are.stand lt in
     t.2.level
 
-starts_apart : (line : OrderedLine) (runs : List VisualRun) → AreRunsOf line runs → (i j : ℕ) → i < j → j < length runs → (run_numbered runs i).start ≢ (run_numbered runs j).start
+starts_apart : (line : OrderedLine) (runs : List VisualRun) → AreRunsOf line runs → (i j : ℕ) → i < j →
+    j < length runs → (run_numbered runs i).start ≢ (run_numbered runs j).start
 starts_apart line runs are i j lt within same =
     let a = level_run line runs i are (omega (arith, lt, within)) in
     let b = level_run line runs j are within in
-    are.apart i j (run_numbered runs i).start lt within (omega arith, a.some) (omega (arith, same), omega (arith, same, b.some))
+    are.apart i j (run_numbered runs i).start lt within (omega arith, a.some) (
+      omega (arith, same),
+      omega (arith, same, b.some),
+    )
 
-no_more : (line : OrderedLine) (runs others : List VisualRun) → AreRunsOf line runs → AreRunsOf line others → length runs ≤ length others
+no_more : (line : OrderedLine) (runs others : List VisualRun) → AreRunsOf line runs → AreRunsOf line others →
+    length runs ≤ length others
 no_more line runs others are too =
     let other : (q : ℕ) → is_member nat_eq (starts runs) q ≡ true → is_member nat_eq (starts others) q ≡ true = λ q h.
     let m = start_of runs q h in
@@ -93,11 +107,18 @@ no_more line runs others are too =
     let same : (run_numbered others t.0).start ≡ q =
     sym (same_start line (run_numbered runs m.0) (run_numbered others t.0) q r o c t.2) ∙ m.2 in
     subst (λ (n : ℕ). is_member nat_eq (starts others) n ≡ true) same (is_start others t.0 t.1) in
-    let few = length-le_from_is_member nat_eq_equiv (starts runs) (starts others) (distinct runs (starts_apart line runs are)) other in
-    omega (arith, few, length-map runs (λ (run : VisualRun). run.start), length-map others (λ (run : VisualRun). run.start))
+    let few = length-le_from_is_member nat_eq_equiv (starts runs) (starts others)
+    (distinct runs (starts_apart line runs are)) other in
+    omega (
+      arith,
+      few,
+      length-map runs (λ (run : VisualRun). run.start),
+      length-map others (λ (run : VisualRun). run.start),
+    )
 
 -- two lists of all runs of a line have the same length
-pub same_count : (line : OrderedLine) (runs others : List VisualRun) → AreRunsOf line runs → AreRunsOf line others → length runs ≡ length others
+pub same_count : (line : OrderedLine) (runs others : List VisualRun) → AreRunsOf line runs → AreRunsOf line others →
+    length runs ≡ length others
 same_count line runs others are too = omega (arith, no_more line runs others are too, no_more line others runs too are)
 
 -- a line has no other number of runs
@@ -105,15 +126,18 @@ pub at_most : (line : OrderedLine) (count most : ℕ) → HasRuns line count →
 at_most line count most has le runs are = omega (arith, le, has.counted, same_count line runs has.runs are has.are)
 
 -- the position is one of these
-is_position : (start count q : ℕ) → start ≤ q → q < start + count → is_member nat_eq (positions_from start count) q ≡ true
+is_position : (start count q : ℕ) → start ≤ q → q < start + count →
+    is_member nat_eq (positions_from start count) q ≡ true
 is_position start zero q le lt = absurd (omega (arith, le, lt))
 is_position start (suc count) q le lt =
     let others = positions_from (start + 1) count in
     elim (cases_lt start q) [
       | inl below ↦
-          let rest : is_member nat_eq others q ≡ true = is_position (start + 1) count q (omega (arith, below)) (omega (arith, lt)) in
+          let rest : is_member nat_eq others q ≡ true =
+          is_position (start + 1) count q (omega (arith, below)) (omega (arith, lt)) in
           subst (λ (b : Bool). (nat_eq q start || b) ≡ true) (sym rest) (or-true (nat_eq q start))
-      | inr above ↦ subst (λ (b : Bool). (b || is_member nat_eq others q) ≡ true) (sym (eq-eqb q start (omega (arith, above, le)))) refl
+      | inr above ↦ subst (λ (b : Bool). (b || is_member nat_eq others q) ≡ true)
+          (sym (eq-eqb q start (omega (arith, above, le)))) refl
     ]
 
 -- a line has no more runs than positions
@@ -123,6 +147,18 @@ few_runs line runs are =
     let other : (q : ℕ) → is_member nat_eq (starts runs) q ≡ true → is_member nat_eq positions q ≡ true = λ q h.
     let m = start_of runs q h in
     let r = level_run line runs m.0 are m.1 in
-    is_position line.start (line.end - line.start) q (omega (arith, m.2, r.from)) (omega (arith, m.2, r.from, r.some, r.within)) in
-    let few = length-le_from_is_member nat_eq_equiv (starts runs) positions (distinct runs (starts_apart line runs are)) other in
-    omega (arith, few, length-map runs (λ (run : VisualRun). run.start), length-positions_from line.start (line.end - line.start))
+    is_position line.start (line.end - line.start) q (omega (arith, m.2, r.from)) (omega (
+      arith,
+      m.2,
+      r.from,
+      r.some,
+      r.within,
+    )) in
+    let few = length-le_from_is_member nat_eq_equiv (starts runs) positions (distinct runs (starts_apart line runs are))
+    other in
+    omega (
+      arith,
+      few,
+      length-map runs (λ (run : VisualRun). run.start),
+      length-positions_from line.start (line.end - line.start),
+    )

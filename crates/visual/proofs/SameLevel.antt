@@ -31,15 +31,20 @@ level_same levels p q v w e h k =
     let t : Some v ≡ Some w = sym h ∙ ap (λ n. slice_index_or levels n None) e ∙ k in cc
 
 -- then the least levels from c to the one and to the other differ in parity
-outside_parity : (levels : List (Option ℕ)) (x y c : ℕ) → x < c → c < y → Outside levels x y c → least levels x c % 2 ≢ least levels c y % 2
+outside_parity : (levels : List (Option ℕ)) (x y c : ℕ) → x < c → c < y → Outside levels x y c →
+    least levels x c % 2 ≢ least levels c y % 2
 outside_parity levels x y c a b o =
     elim o [
-      | inl t ↦ let u : least levels x c % 2 ≡ 1 = t.0.falling a in let w : least levels c y % 2 ≡ 0 = t.1.rising b in omega arith
-      | inr t ↦ let u : least levels x c % 2 ≡ 0 = t.0.rising a in let w : least levels c y % 2 ≡ 1 = t.1.falling b in omega arith
+      | inl t ↦ let u : least levels x c % 2 ≡ 1 = t.0.falling a in let w : least levels c y % 2 ≡ 0 = t.1.rising b in
+          omega arith
+      | inr t ↦ let u : least levels x c % 2 ≡ 0 = t.0.rising a in let w : least levels c y % 2 ≡ 1 = t.1.falling b in
+          omega arith
     ]
 
 -- if each position of another level between two positions of one level is outside of both, no position between them is
-pub none_outside : (levels : List (Option ℕ)) (x y c v w : ℕ) → HasLevel levels x v → HasLevel levels y v → HasLevel levels c w → x < c → c < y → Outside levels x y c → ((d u : ℕ) → x < d → d < y → HasLevel levels d u → u ≢ v → Outside levels x y d) → ⊥
+pub none_outside : (levels : List (Option ℕ)) (x y c v w : ℕ) → HasLevel levels x v → HasLevel levels y v →
+    HasLevel levels c w → x < c → c < y → Outside levels x y c → ((d u : ℕ) → x < d → d < y → HasLevel levels d u →
+    u ≢ v → Outside levels x y d) → ⊥
 none_outside levels x y c v w hx hy hc a b o others =
     let s = least-splits levels x c y v w (omega arith) (omega arith) hx hc in
     let n : least levels x c % 2 ≢ least levels c y % 2 = outside_parity levels x y c a b o in
@@ -48,28 +53,36 @@ none_outside levels x y c v w hx hy hc a b o others =
     let ne : least levels x c ≢ least levels c y = λ e. n (ap (λ k. k % 2) e) in
     let below : least levels x y < v = omega (arith, s.left, s.right, lx, ly, ne) in
     let d = least-attained levels x y v (omega arith) hx in
-    let dx : d.at ≢ x = λ e. let t : least levels x y ≡ v = level_same levels d.at x (least levels x y) v e d.is hx in omega arith in
-    let dy : d.at ≢ y = λ e. let t : least levels x y ≡ v = level_same levels d.at y (least levels x y) v e d.is hy in omega arith in
+    let dx : d.at ≢ x = λ e. let t : least levels x y ≡ v = level_same levels d.at x (least levels x y) v e d.is hx in
+    omega arith in
+    let dy : d.at ≢ y = λ e. let t : least levels x y ≡ v = level_same levels d.at y (least levels x y) v e d.is hy in
+    omega arith in
     let xd : x < d.at = omega (arith, d.from, dx) in
     let dy2 : d.at < y = omega (arith, d.to, dy) in
     let t = least-splits levels x d.at y v (least levels x y) (omega arith) (omega arith) hx d.is in
-    let p : least levels x d.at ≤ least levels x y = least-le levels x d.at d.at (least levels x y) (omega arith) (omega arith) d.is in
-    let q : least levels d.at y ≤ least levels x y = least-le levels d.at y d.at (least levels x y) (omega arith) (omega arith) d.is in
+    let p : least levels x d.at ≤ least levels x y =
+    least-le levels x d.at d.at (least levels x y) (omega arith) (omega arith) d.is in
+    let q : least levels d.at y ≤ least levels x y =
+    least-le levels d.at y d.at (least levels x y) (omega arith) (omega arith) d.is in
     let e : least levels x d.at ≡ least levels d.at y = omega (arith, t.left, t.right, p, q) in
-    (outside_parity levels x y d.at xd dy2 (others d.at (least levels x y) xd dy2 d.is (omega arith)) (ap (λ k. k % 2) e))
+    (outside_parity levels x y d.at xd dy2 (others d.at (least levels x y) xd dy2 d.is (omega arith))
+    (ap (λ k. k % 2) e))
 
 -- if all remaining positions between two have their level, it is the least
-pub least_of_one : (levels : List (Option ℕ)) (x y v : ℕ) → x < y → HasLevel levels x v → ((d u : ℕ) → x ≤ d → d ≤ y → HasLevel levels d u → u ≡ v) → least levels x y ≡ v
+pub least_of_one : (levels : List (Option ℕ)) (x y v : ℕ) → x < y → HasLevel levels x v →
+    ((d u : ℕ) → x ≤ d → d ≤ y → HasLevel levels d u → u ≡ v) → least levels x y ≡ v
 least_of_one levels x y v lt hx all =
     let a : least levels x y ≤ v = least-le levels x y x v (omega arith) (omega arith) hx in
-    let b : v ≤ least levels x y = least-ge levels x y v v (omega arith) hx (λ c w l h k. let e : w ≡ v = all c w l h k in omega arith) in
+    let b : v ≤ least levels x y = least-ge levels x y v v (omega arith) hx (λ c w l h k. let e : w ≡ v =
+    all c w l h k in omega arith) in
     omega arith
 
 -- no position remains between them
 abbrev pub NoneBetween : List (Option ℕ) → ℕ → ℕ → Type 0
 NoneBetween levels x y = (d u : ℕ) → x < d → d < y → HasLevel levels d u → ⊥
 
-least_of_two : (levels : List (Option ℕ)) (x y v : ℕ) → x < y → HasLevel levels x v → HasLevel levels y v → NoneBetween levels x y → least levels x y ≡ v
+least_of_two : (levels : List (Option ℕ)) (x y v : ℕ) → x < y → HasLevel levels x v → HasLevel levels y v →
+    NoneBetween levels x y → least levels x y ≡ v
 least_of_two levels x y v lt hx hy none =
     least_of_one levels x y v lt hx (λ d u l h k. elim (cases_lt x d) [
       | inl xd ↦ elim (cases_lt d y) [
@@ -81,7 +94,8 @@ least_of_two levels x y v lt hx hy none =
 
 -- if no position remains between two positions of one level in the text, none is between them on the line; here the
 -- earlier one is on the left
-pub none_between_rising : (levels : List (Option ℕ)) (x y c v w : ℕ) → x < y → HasLevel levels x v → HasLevel levels y v → HasLevel levels c w → NoneBetween levels x y → Left levels x c → Left levels c y → ⊥
+pub none_between_rising : (levels : List (Option ℕ)) (x y c v w : ℕ) → x < y → HasLevel levels x v →
+    HasLevel levels y v → HasLevel levels c w → NoneBetween levels x y → Left levels x c → Left levels c y → ⊥
 none_between_rising levels x y c v w lt hx hy hc none l r =
     let e : least levels x y ≡ v = least_of_two levels x y v lt hx hy none in
     elim (cases_lt c x) [
@@ -106,7 +120,8 @@ none_between_rising levels x y c v w lt hx hy hc none l r =
     ]
 
 -- the same, with the later one on the left
-pub none_between_falling : (levels : List (Option ℕ)) (x y c v w : ℕ) → y < x → HasLevel levels x v → HasLevel levels y v → HasLevel levels c w → NoneBetween levels y x → Left levels x c → Left levels c y → ⊥
+pub none_between_falling : (levels : List (Option ℕ)) (x y c v w : ℕ) → y < x → HasLevel levels x v →
+    HasLevel levels y v → HasLevel levels c w → NoneBetween levels y x → Left levels x c → Left levels c y → ⊥
 none_between_falling levels x y c v w lt hx hy hc none l r =
     let e : least levels y x ≡ v = least_of_two levels y x v lt hy hx none in
     elim (cases_lt c y) [

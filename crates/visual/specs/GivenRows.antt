@@ -5,7 +5,8 @@ use Rattle.units.specs.declared.class.Class.TheVariants.{L, R, BN, S, WS, LRI, R
 use Rattle.visual.specs.GivenLevels.{all_present, levels_reset_in}
 
 -- a Hebrew letter, a soft hyphen and a space before a tab, then a letter, a space and a PDF at the line's end
-pub before_tab : levels_reset_in (R ∷ BN ∷ WS ∷ S ∷ R ∷ WS ∷ PDF ∷ []) 0 (1 ∷ 1 ∷ 1 ∷ 1 ∷ 1 ∷ 1 ∷ 1 ∷ []) ≡ 1 ∷ 0 ∷ 0 ∷ 0 ∷ 1 ∷ 0 ∷ 0 ∷ []
+pub before_tab : levels_reset_in (R ∷ BN ∷ WS ∷ S ∷ R ∷ WS ∷ PDF ∷ []) 0 (1 ∷ 1 ∷ 1 ∷ 1 ∷ 1 ∷ 1 ∷ 1 ∷ []) ≡
+    1 ∷ 0 ∷ 0 ∷ 0 ∷ 1 ∷ 0 ∷ 0 ∷ []
 unfolding levels_reset_in
 before_tab = refl
 

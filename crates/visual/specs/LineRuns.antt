@@ -25,7 +25,8 @@ run_numbered runs k = slice_index_or runs k no_run
 pub record AreRunsOf (line : OrderedLine) (runs : List VisualRun) : Type 0 where
   pub stand : AreSideBySide line 0 runs (length line.order.now)
   pub covered : (p : ℕ) → line.start ≤ p → p < line.end → (k : ℕ) × (k < length runs) × Covers (run_numbered runs k) p
-  pub apart : (i j p : ℕ) → i < j → j < length runs → Covers (run_numbered runs i) p → Covers (run_numbered runs j) p → ⊥
+  pub apart : (i j p : ℕ) → i < j → j < length runs → Covers (run_numbered runs i) p → Covers (run_numbered runs j) p →
+      ⊥
 
 -- the line has this number of runs
 pub record HasRuns (line : OrderedLine) (count : ℕ) : Type 0 where

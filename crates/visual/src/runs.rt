@@ -69,7 +69,8 @@ impl<'a> OrderedLine<'a> {
         ensures following { from < result }
         ensures inside { result ≤ length self.now.order.now }
         ensures same { (i : ℕ) → from ≤ i → i < result → level_at_place self.now i ≡ level_at_place self.now from }
-        ensures ends { result < length self.now.order.now → level_at_place self.now result ≢ level_at_place self.now from }
+        ensures ends { result < length self.now.order.now →
+            level_at_place self.now result ≢ level_at_place self.now from }
     {
         let level = self.level_or_para(self.order[from]);
         for place in from + 1..self.order.len() {

@@ -18,17 +18,20 @@ pub alike : (depth : ℕ) (cs : List Class) (para : ℕ) (xs : List ℕ) → IsR
 alike depth cs para xs = record { entries = refl; isolates = refl; embeddings = refl; taken = refl }
 
 -- an initiator that adds nothing
-alike-from_adds : (depth : ℕ) (cs : List Class) (para q : ℕ) (qs : List ℕ) → Adds depth cs para q qs [] 0 0 0 → IsRepresentedAlike depth cs para (q ∷ qs) qs
+alike-from_adds : (depth : ℕ) (cs : List Class) (para q : ℕ) (qs : List ℕ) → Adds depth cs para q qs [] 0 0 0 →
+    IsRepresentedAlike depth cs para (q ∷ qs) qs
 alike-from_adds depth cs para q qs a = grind (arith, append-nil)
 
 -- within an overflow isolate a PDF changes nothing
-pub pdf-ignored : (depth : ℕ) (cs : List Class) (para : ℕ) (qs : List ℕ) → 0 < overflow_isolates_of depth cs para qs → IsRepresentedAlike depth cs para qs (after_pdf cs qs)
+pub pdf-ignored : (depth : ℕ) (cs : List Class) (para : ℕ) (qs : List ℕ) → 0 < overflow_isolates_of depth cs para qs →
+    IsRepresentedAlike depth cs para qs (after_pdf cs qs)
 pdf-ignored depth cs para [] h = absurd (omega arith)
 pdf-ignored depth cs para (q ∷ qs) h =
     elim (cases_Bool (is_isolate cs q)) [
       | inl u ↦ rw u (alike depth cs para (q ∷ qs))
       | inr u ↦ elim (cases_Bool (is_taken depth cs para q qs)) [
-        | inl t ↦ absurd (let z : overflow_isolates_of depth cs para (q ∷ qs) ≡ 0 = (no_overflow depth cs para (q ∷ qs) t).0 in omega arith)
+        | inl t ↦ absurd (let z : overflow_isolates_of depth cs para (q ∷ qs) ≡ 0 =
+            (no_overflow depth cs para (q ∷ qs) t).0 in omega arith)
         | inr t ↦ elim (cases_lt 0 (overflow_isolates_of depth cs para qs)) [
           | inl k ↦ rw u (alike-from_adds depth cs para q qs (adds-embedding_within depth cs para q qs t u k))
           | inr k ↦ absurd (let a = adds-embedding depth cs para q qs t u (omega arith) in omega (arith, a.isolates_is))
@@ -43,11 +46,13 @@ pub record IsOneLess (depth : ℕ) (cs : List Class) (para : ℕ) (xs ys : List 
   pub embeddings : overflow_embeddings_of depth cs para xs ≡ suc (overflow_embeddings_of depth cs para ys)
   pub taken : taken_isolates depth cs para xs ≡ taken_isolates depth cs para ys
 
-pub pdf-rejected : (depth : ℕ) (cs : List Class) (para : ℕ) (qs : List ℕ) → overflow_isolates_of depth cs para qs ≡ 0 → 0 < overflow_embeddings_of depth cs para qs → IsOneLess depth cs para qs (after_pdf cs qs)
+pub pdf-rejected : (depth : ℕ) (cs : List Class) (para : ℕ) (qs : List ℕ) → overflow_isolates_of depth cs para qs ≡ 0 →
+    0 < overflow_embeddings_of depth cs para qs → IsOneLess depth cs para qs (after_pdf cs qs)
 pdf-rejected depth cs para [] z h = absurd (omega arith)
 pdf-rejected depth cs para (q ∷ qs) z h =
     elim (cases_Bool (is_taken depth cs para q qs)) [
-      | inl t ↦ absurd (let k : overflow_embeddings_of depth cs para (q ∷ qs) ≡ 0 = (no_overflow depth cs para (q ∷ qs) t).1 in omega arith)
+      | inl t ↦ absurd (let k : overflow_embeddings_of depth cs para (q ∷ qs) ≡ 0 =
+          (no_overflow depth cs para (q ∷ qs) t).1 in omega arith)
       | inr t ↦ elim (cases_Bool (is_isolate cs q)) [
         | inl u ↦ absurd (let a = adds-isolate depth cs para q qs t u in omega (arith, a.isolates_is))
         | inr u ↦ elim (cases_lt 0 (overflow_isolates_of depth cs para qs)) [
@@ -83,7 +88,10 @@ after_pdf-isolate cs q qs u = rw u refl
 after_pdf-embedding : (cs : List Class) (q : ℕ) (qs : List ℕ) → is_isolate cs q ≡ false → qs ≡ after_pdf cs (q ∷ qs)
 after_pdf-embedding cs q qs u = rw u refl
 
-pub pdf-taken : (depth : ℕ) (cs : List Class) (para : ℕ) (qs : List ℕ) → overflow_isolates_of depth cs para qs ≡ 0 → overflow_embeddings_of depth cs para qs ≡ 0 → IsOneEntryLess depth cs para qs (after_pdf cs qs) ⊎ (IsRepresentedAlike depth cs para qs (after_pdf cs qs) × ((length (entries_of depth cs para qs) ≡ 1) ⊎ ends_in_isolate (entries_of depth cs para qs)))
+pub pdf-taken : (depth : ℕ) (cs : List Class) (para : ℕ) (qs : List ℕ) → overflow_isolates_of depth cs para qs ≡ 0 →
+    overflow_embeddings_of depth cs para qs ≡ 0 → IsOneEntryLess depth cs para qs (after_pdf cs qs) ⊎
+    (IsRepresentedAlike depth cs para qs (after_pdf cs qs) × ((length (entries_of depth cs para qs) ≡ 1) ⊎
+    ends_in_isolate (entries_of depth cs para qs)))
 pdf-taken depth cs para [] z h = inr (alike depth cs para [], inl refl)
 pdf-taken depth cs para (q ∷ qs) z h =
     grind (arith, some_overflow, adds-taken, after_pdf-isolate, alike, after_pdf-embedding)

@@ -16,7 +16,8 @@ pub before-isolate : (xs : List Status) (e : Status) → e.is_isolate ≡ true �
 before-isolate [] e u = refl
 before-isolate (x ∷ xs) e u = grind (arith, any-snoc, before-isolate xs e u)
 
-pub before-other : (xs : List Status) (e : Status) → e.is_isolate ≡ false → before_isolate (xs ++ e ∷ []) ≡ before_isolate xs
+pub before-other : (xs : List Status) (e : Status) → e.is_isolate ≡ false →
+    before_isolate (xs ++ e ∷ []) ≡ before_isolate xs
 before-other [] e u = refl
 before-other (x ∷ xs) e u = grind (arith, any-snoc, before-other xs e u)
 
@@ -37,15 +38,18 @@ pub record IsIsolateLess (depth : ℕ) (cs : List Class) (para : ℕ) (xs ys : L
 past-here : (cs : List Class) (q : ℕ) (qs : List ℕ) → is_isolate cs q ≡ true → qs ≡ past_isolate cs (q ∷ qs)
 past-here cs q qs u = rw u refl
 
-past-further : (cs : List Class) (q : ℕ) (qs : List ℕ) → is_isolate cs q ≡ false → past_isolate cs qs ≡ past_isolate cs (q ∷ qs)
+past-further : (cs : List Class) (q : ℕ) (qs : List ℕ) → is_isolate cs q ≡ false →
+    past_isolate cs qs ≡ past_isolate cs (q ∷ qs)
 past-further cs q qs u = rw u refl
 
-past-rejected : (depth : ℕ) (cs : List Class) (para : ℕ) (qs : List ℕ) → list_any (is_isolate cs) qs ≡ true → 0 < overflow_isolates_of depth cs para qs → IsOverflowLess depth cs para qs (past_isolate cs qs)
+past-rejected : (depth : ℕ) (cs : List Class) (para : ℕ) (qs : List ℕ) → list_any (is_isolate cs) qs ≡ true →
+    0 < overflow_isolates_of depth cs para qs → IsOverflowLess depth cs para qs (past_isolate cs qs)
 past-rejected depth cs para [] v h = absurd (omega arith)
 past-rejected depth cs para (q ∷ qs) v h =
     let P : List ℕ → Type 0 = λ ys. IsOverflowLess depth cs para (q ∷ qs) ys in
     elim (cases_Bool (is_taken depth cs para q qs)) [
-      | inl t ↦ absurd (let z : overflow_isolates_of depth cs para (q ∷ qs) ≡ 0 = (no_overflow depth cs para (q ∷ qs) t).0 in omega arith)
+      | inl t ↦ absurd (let z : overflow_isolates_of depth cs para (q ∷ qs) ≡ 0 =
+          (no_overflow depth cs para (q ∷ qs) t).0 in omega arith)
       | inr t ↦ elim (cases_Bool (is_isolate cs q)) [
         | inl u ↦
             let a = adds-isolate depth cs para q qs t u in
@@ -70,31 +74,50 @@ past-rejected depth cs para (q ∷ qs) v h =
       ]
     ]
 
-past-taken : (depth : ℕ) (cs : List Class) (para : ℕ) (qs : List ℕ) → list_any (is_isolate cs) qs ≡ true → overflow_isolates_of depth cs para qs ≡ 0 → IsIsolateLess depth cs para qs (past_isolate cs qs)
+past-taken : (depth : ℕ) (cs : List Class) (para : ℕ) (qs : List ℕ) → list_any (is_isolate cs) qs ≡ true →
+    overflow_isolates_of depth cs para qs ≡ 0 → IsIsolateLess depth cs para qs (past_isolate cs qs)
 past-taken depth cs para [] v h = absurd (false≢true v)
 past-taken depth cs para (q ∷ qs) v h =
-    grind (arith, adds-taken, no_overflow, taken-outer, past-here, before-isolate, past-further, before-other, adds-isolate, adds-embedding_within, adds-embedding, append-nil, past-taken depth cs para qs)
+    grind (
+      arith,
+      adds-taken,
+      no_overflow,
+      taken-outer,
+      past-here,
+      before-isolate,
+      past-further,
+      before-other,
+      adds-isolate,
+      adds-embedding_within,
+      adds-embedding,
+      append-nil,
+      past-taken depth cs para qs,
+    )
 
 -- if no isolate is open, both counts of isolates are 0
-no_isolates : (depth : ℕ) (cs : List Class) (para : ℕ) (qs : List ℕ) → list_any (is_isolate cs) qs ≡ false → (overflow_isolates_of depth cs para qs ≡ 0) × (taken_isolates depth cs para qs ≡ 0)
+no_isolates : (depth : ℕ) (cs : List Class) (para : ℕ) (qs : List ℕ) → list_any (is_isolate cs) qs ≡ false →
+    (overflow_isolates_of depth cs para qs ≡ 0) × (taken_isolates depth cs para qs ≡ 0)
 no_isolates depth cs para [] v = (refl, refl)
 no_isolates depth cs para (q ∷ qs) v = grind (arith, false≢true, no_isolates depth cs para qs)
 
-pub pdi-rejected : (depth : ℕ) (cs : List Class) (para : ℕ) (qs : List ℕ) → 0 < overflow_isolates_of depth cs para qs → IsOverflowLess depth cs para qs (after_pdi cs qs)
+pub pdi-rejected : (depth : ℕ) (cs : List Class) (para : ℕ) (qs : List ℕ) → 0 < overflow_isolates_of depth cs para qs →
+    IsOverflowLess depth cs para qs (after_pdi cs qs)
 pdi-rejected depth cs para qs h =
     elim (cases_Bool (list_any (is_isolate cs) qs)) [
       | inl v ↦ rw v (past-rejected depth cs para qs v h)
       | inr v ↦ absurd (let z = no_isolates depth cs para qs v in omega (arith, z.0))
     ]
 
-pub pdi-taken : (depth : ℕ) (cs : List Class) (para : ℕ) (qs : List ℕ) → overflow_isolates_of depth cs para qs ≡ 0 → 0 < taken_isolates depth cs para qs → IsIsolateLess depth cs para qs (after_pdi cs qs)
+pub pdi-taken : (depth : ℕ) (cs : List Class) (para : ℕ) (qs : List ℕ) → overflow_isolates_of depth cs para qs ≡ 0 →
+    0 < taken_isolates depth cs para qs → IsIsolateLess depth cs para qs (after_pdi cs qs)
 pdi-taken depth cs para qs z h =
     elim (cases_Bool (list_any (is_isolate cs) qs)) [
       | inl v ↦ rw v (past-taken depth cs para qs v z)
       | inr v ↦ absurd (let k = no_isolates depth cs para qs v in omega (arith, k.1))
     ]
 
-pub pdi-none : (depth : ℕ) (cs : List Class) (para : ℕ) (qs : List ℕ) → overflow_isolates_of depth cs para qs ≡ 0 → taken_isolates depth cs para qs ≡ 0 → after_pdi cs qs ≡ qs
+pub pdi-none : (depth : ℕ) (cs : List Class) (para : ℕ) (qs : List ℕ) → overflow_isolates_of depth cs para qs ≡ 0 →
+    taken_isolates depth cs para qs ≡ 0 → after_pdi cs qs ≡ qs
 pdi-none depth cs para qs z h =
     elim (cases_Bool (list_any (is_isolate cs) qs)) [
       | inl v ↦ absurd (let k = past-taken depth cs para qs v z in omega (arith, k.taken))

@@ -11,7 +11,8 @@ use Rattle.explicit.proofs.Matched.Nesting.{IsContained}
 use Rattle.explicit.proofs.StrongSides.Around.{around_is, around_nowhere}
 
 -- no open position comes after the last one of the stack
-last_is_last : (o c : ℕ → Bool) (k n : ℕ) (s : ℕ → ℕ) → Exclude o c → IsStack o c k (suc n) s → (a : ℕ) → a < suc n → s a ≤ s n
+last_is_last : (o c : ℕ → Bool) (k n : ℕ) (s : ℕ → ℕ) → Exclude o c → IsStack o c k (suc n) s → (a : ℕ) → a < suc n →
+    s a ≤ s n
 last_is_last o c k n s ex stack a h =
     let lt : n < suc n = omega arith in
     elim (cases_lt (s n) (s a)) [
@@ -34,10 +35,13 @@ module _ (cs : List Class) (k : ℕ) (inside : k < length cs) where
 
   -- with no isolate open, k lies outside of all
   pub around_none_open : (s : ℕ → ℕ) → IsOpenStack cs k 0 s → isolate_around cs k ≡ None
-  around_none_open s stack = around_nowhere cs k (λ j h. let at = stack.complete j h.after h.opener (holder_is_open j h) in omega (arith, at.1))
+  around_none_open s stack =
+      around_nowhere cs k (λ j h. let at = stack.complete j h.after h.opener (holder_is_open j h) in
+      omega (arith, at.1))
 
   -- else a position that opens no isolate and closes none lies in the last open one
-  pub around_last_open : (n : ℕ) (s : ℕ → ℕ) → IsOpenStack cs k (suc n) s → is_isolate_initiator (class_at cs k) ≡ false → is_pdi (class_at cs k) ≡ false → isolate_around cs k ≡ Some (s n)
+  pub around_last_open : (n : ℕ) (s : ℕ → ℕ) → IsOpenStack cs k (suc n) s →
+      is_isolate_initiator (class_at cs k) ≡ false → is_pdi (class_at cs k) ≡ false → isolate_around cs k ≡ Some (s n)
   around_last_open n s stack o c =
       let lt : n < suc n = omega arith in
       let later = stack_stays (opens_at cs) (closes_at cs) k (suc n) s stack o c in
@@ -48,7 +52,9 @@ module _ (cs : List Class) (k : ℕ) (inside : k < length cs) where
         after = stack.before n lt;
         before = λ a e. elim (cases_lt k a) [
           | inl after ↦ after
-          | inr le ↦ absurd (let again : matching_before cs (k + 1) (s n) ≡ Some a = match_within (opens_at cs) (closes_at cs) (k + 1) (length cs) (s n) a (omega arith) (matching_pdi_before cs (s n) a e) in cc)
+          | inr le ↦ absurd (let again : matching_before cs (k + 1) (s n) ≡ Some a =
+              match_within (opens_at cs) (closes_at cs) (k + 1) (length cs) (s n) a (omega arith)
+              (matching_pdi_before cs (s n) a e) in cc)
         ];
       })
       (λ j after h.

@@ -32,7 +32,9 @@ opened-stacked cs y h = grind arith
 
 pub holders-stacked : (cs : List Class) (y : ℕ) → y < length cs → Stacked cs (holders cs y)
 holders-stacked cs zero l = tt
-holders-stacked cs (suc y) l = rw (holders-step cs y l) (still_open-keeps cs (λ qs. Stacked cs qs) (λ q qs h. h.1) (class_at cs (suc y)) (opened cs y (holders cs y)) (opened-stacked cs y (holders-stacked cs y (omega arith))))
+holders-stacked cs (suc y) l =
+    rw (holders-step cs y l) (still_open-keeps cs (λ qs. Stacked cs qs) (λ q qs h. h.1) (class_at cs (suc y))
+    (opened cs y (holders cs y)) (opened-stacked cs y (holders-stacked cs y (omega arith))))
 
 abbrev pub is_among : ℕ → List ℕ → Bool
 is_among i qs = list_any (λ q. q == i) qs
@@ -43,17 +45,21 @@ among-filtered t i (suc y) l h = grind (arith, eq-eqb, ne_eqb, among-filtered t 
 
 ends-there : (cs : List Class) (i j : ℕ) → matching_pdi cs i ≡ Some j → isolate_holds cs i j ≡ false
 unfolding isolate_holds
-ends-there cs i j h = let m = match_bounds cs i j h in rw (h, matching_pdi_opens cs i j h, lt-ltb i j m.0, le-ltb j j (omega arith)) refl
+ends-there cs i j h = let m = match_bounds cs i j h in
+    rw (h, matching_pdi_opens cs i j h, lt-ltb i j m.0, le-ltb j j (omega arith)) refl
 
-pub holds-before : (cs : List Class) (i j y : ℕ) → matching_pdi cs i ≡ Some j → i < y → y < j → isolate_holds cs i y ≡ true
+pub holds-before : (cs : List Class) (i j y : ℕ) → matching_pdi cs i ≡ Some j → i < y → y < j →
+    isolate_holds cs i y ≡ true
 unfolding isolate_holds
 holds-before cs i j y h a b = rw (h, matching_pdi_opens cs i j h, lt-ltb i y a, lt-ltb y j b) refl
 
 -- the initiator is among the open ones before its PDI
-among-open : (cs : List Class) (i y : ℕ) → matching_pdi cs i ≡ Some (suc y) → is_among i (opened cs y (holders cs y)) ≡ true
+among-open : (cs : List Class) (i y : ℕ) → matching_pdi cs i ≡ Some (suc y) →
+    is_among i (opened cs y (holders cs y)) ≡ true
 among-open cs i y h = grind (arith, match_bounds, matching_pdi_opens, eq-eqb, among-filtered, holds-before, ne_eqb)
 
-open-holds : (cs : List Class) (i y k : ℕ) (qs : List ℕ) → AllBelow y qs → OpenIsolates cs y k qs → is_isolate cs i ≡ true → is_among i qs ≡ true → isolate_holds cs i y ≡ true
+open-holds : (cs : List Class) (i y k : ℕ) (qs : List ℕ) → AllBelow y qs → OpenIsolates cs y k qs →
+    is_isolate cs i ≡ true → is_among i qs ≡ true → isolate_holds cs i y ≡ true
 open-holds cs i y k [] a o u m = absurd (false≢true m)
 open-holds cs i y k (q ∷ qs) a o u m =
     elim (cases_Bool (q == i)) [
@@ -66,7 +72,10 @@ open-holds cs i y k (q ∷ qs) a o u m =
     ]
 
 -- the isolate that the PDI closes is the innermost, and the initiators around it are around the PDI
-past-matched : (cs : List Class) (i y : ℕ) (qs : List ℕ) → AllBelow (suc y) qs → suc y < length cs → IsOfKinds (class_at cs (suc y)) false false true false → OpenIsolates cs y 0 qs → Stacked cs qs → is_isolate cs i ≡ true → is_among i qs ≡ true → isolate_holds cs i (suc y) ≡ false → past_isolate cs qs ≡ holders cs i
+past-matched : (cs : List Class) (i y : ℕ) (qs : List ℕ) → AllBelow (suc y) qs → suc y < length cs →
+    IsOfKinds (class_at cs (suc y)) false false true false → OpenIsolates cs y 0 qs → Stacked cs qs →
+    is_isolate cs i ≡ true → is_among i qs ≡ true → isolate_holds cs i (suc y) ≡ false →
+    past_isolate cs qs ≡ holders cs i
 past-matched cs i y [] a l r o s u m h = absurd (false≢true m)
 past-matched cs i y (q ∷ qs) a l r o s u m h =
     elim (cases_Bool (q == i)) [
@@ -74,17 +83,21 @@ past-matched cs i y (q ∷ qs) a l r o s u m h =
           let v : is_isolate cs q ≡ true = ap (is_isolate cs) (eqb-true q i e) ∙ u in
           rw v (s.0 ∙ ap (holders cs) (eqb-true q i e))
       | inr e ↦ elim (cases_Bool (is_isolate cs q)) [
-        | inl v ↦ absurd (false≢true (sym h ∙ open-holds cs i (suc y) 0 qs a.1 (OpenIsolates-next cs y 1 0 qs a.1 (rw (r.isolate_is, r.pdi_is) refl) (rw v at o.1)) u (rw e at m)))
+        | inl v ↦ absurd (false≢true (sym h ∙
+            open-holds cs i (suc y) 0 qs a.1 (OpenIsolates-next cs y 1 0 qs a.1 (rw (r.isolate_is, r.pdi_is) refl)
+            (rw v at o.1)) u (rw e at m)))
         | inr v ↦ rw v (past-matched cs i y qs a.1 l r (rw v at o.1) s.1 u (rw e at m) h)
       ]
     ]
 
-isolate-among : (cs : List Class) (i : ℕ) (qs : List ℕ) → is_isolate cs i ≡ true → is_among i qs ≡ true → list_any (is_isolate cs) qs ≡ true
+isolate-among : (cs : List Class) (i : ℕ) (qs : List ℕ) → is_isolate cs i ≡ true → is_among i qs ≡ true →
+    list_any (is_isolate cs) qs ≡ true
 isolate-among cs i [] u m = absurd (false≢true m)
 isolate-among cs i (q ∷ qs) u m = grind (arith, eqb-true, isolate-among cs i qs u)
 
 -- what its PDI leaves open is what is around the initiator
-closed : (cs : List Class) (i y : ℕ) → matching_pdi cs i ≡ Some (suc y) → Role (class_at cs (suc y)) → holders cs (suc y) ≡ holders cs i
+closed : (cs : List Class) (i y : ℕ) → matching_pdi cs i ≡ Some (suc y) → Role (class_at cs (suc y)) →
+    holders cs (suc y) ≡ holders cs i
 closed cs i y h (opens_isolate r) = absurd (false≢true (sym r.pdi_is ∙ match_is_pdi cs i (suc y) h))
 closed cs i y h (opens_embedding r) = absurd (false≢true (sym r.pdi_is ∙ match_is_pdi cs i (suc y) h))
 closed cs i y h (closes_embedding r) = absurd (false≢true (sym r.pdi_is ∙ match_is_pdi cs i (suc y) h))
@@ -97,15 +110,19 @@ closed cs i y h (closes_isolate r) =
     let v : list_any (is_isolate cs) qs ≡ true = isolate-among cs i qs opener (among-open cs i y h) in
     let s = opened-stacked cs y (holders-stacked cs y (omega (arith, b.1))) in
     let remaining : still_open cs (class_at cs (suc y)) qs ≡ past_isolate cs qs = rw (r.pdi_is, v) refl in
-    holders-step cs y b.1 ∙ remaining ∙ past-matched cs i y qs o.bound b.1 r o.isolates s opener (among-open cs i y h) (ends-there cs i (suc y) h)
+    holders-step cs y b.1 ∙ remaining ∙
+    past-matched cs i y qs o.bound b.1 r o.isolates s opener (among-open cs i y h) (ends-there cs i (suc y) h)
 
 -- both have the same initiators around them
 pub holders-matched : (cs : List Class) (i j : ℕ) → matching_pdi cs i ≡ Some j → holders cs j ≡ holders cs i
 holders-matched cs i zero h = absurd (let b = match_bounds cs i 0 h in omega (arith, b.0))
 holders-matched cs i (suc y) h = closed cs i y h (role (class_at cs (suc y)))
 
-pub level-leveled_in : (depth : ℕ) (cs : List Class) (para p : ℕ) → is_removed (class_at cs p) ≡ false → is_separator (class_at cs p) ≡ false → option_map (λ x. x.0) (explicit_at depth cs para p) ≡ Some (state_within depth cs para (holders cs p)).level
-level-leveled_in depth cs para p r s = ap (option_map (λ x. x.0)) (sym (explicit-leveled_in depth cs para p)) ∙ rw (r, s) refl
+pub level-leveled_in : (depth : ℕ) (cs : List Class) (para p : ℕ) → is_removed (class_at cs p) ≡ false →
+    is_separator (class_at cs p) ≡ false →
+    option_map (λ x. x.0) (explicit_at depth cs para p) ≡ Some (state_within depth cs para (holders cs p)).level
+level-leveled_in depth cs para p r s = ap (option_map (λ x. x.0)) (sym (explicit-leveled_in depth cs para p)) ∙
+    rw (r, s) refl
 
 isolate-remains : (c : Class) → is_isolate_initiator c ≡ true → (is_removed c ≡ false) × (is_separator c ≡ false)
 isolate-remains LRI h = (refl, refl)
@@ -118,19 +135,25 @@ pdi-remains PDI h = (refl, refl)
 pdi-remains c h = absurd (cc)
 
 -- an isolate initiator has the level inside the initiators around it
-pub level-of_isolate : (depth : ℕ) (cs : List Class) (para i : ℕ) → is_isolate cs i ≡ true → option_map (λ x. x.0) (explicit_at depth cs para i) ≡ Some (state_within depth cs para (holders cs i)).level
-level-of_isolate depth cs para i h = let a = isolate-remains (class_at cs i) h in level-leveled_in depth cs para i a.0 a.1
+pub level-of_isolate : (depth : ℕ) (cs : List Class) (para i : ℕ) → is_isolate cs i ≡ true →
+    option_map (λ x. x.0) (explicit_at depth cs para i) ≡ Some (state_within depth cs para (holders cs i)).level
+level-of_isolate depth cs para i h = let a = isolate-remains (class_at cs i) h in
+    level-leveled_in depth cs para i a.0 a.1
 
 -- so their levels are equal
-pub levels-matched : (depth : ℕ) (cs : List Class) (para i j : ℕ) → matching_pdi cs i ≡ Some j → option_map (λ x. x.0) (explicit_at depth cs para i) ≡ option_map (λ x. x.0) (explicit_at depth cs para j)
+pub levels-matched : (depth : ℕ) (cs : List Class) (para i j : ℕ) → matching_pdi cs i ≡ Some j →
+    option_map (λ x. x.0) (explicit_at depth cs para i) ≡ option_map (λ x. x.0) (explicit_at depth cs para j)
 levels-matched depth cs para i j h =
     grind (arith, pdi-remains, match_is_pdi, level-of_isolate, matching_pdi_opens, holders-matched, level-leveled_in)
 
-leveled_in-bounded : (s : State) (para : ℕ) (own : Class) (most : ℕ) → s.level ≤ most → para ≤ most → IfSome (leveled_in s para own) (λ leveled. leveled.0 ≤ most)
+leveled_in-bounded : (s : State) (para : ℕ) (own : Class) (most : ℕ) → s.level ≤ most → para ≤ most →
+    IfSome (leveled_in s para own) (λ leveled. leveled.0 ≤ most)
 leveled_in-bounded s para own most a b = grind arith
 
 -- no level is above a bound of the depth and of the paragraph's level
-pub level-at_most : (depth : ℕ) (cs : List Class) (para p most : ℕ) → depth ≤ most → para ≤ most → IfSome (explicit_at depth cs para p) (λ leveled. leveled.0 ≤ most)
+pub level-at_most : (depth : ℕ) (cs : List Class) (para p most : ℕ) → depth ≤ most → para ≤ most →
+    IfSome (explicit_at depth cs para p) (λ leveled. leveled.0 ≤ most)
 level-at_most depth cs para p most d b =
     let P : Option (ℕ × Class) → Type 0 = λ o. IfSome o (λ leveled. leveled.0 ≤ most) in
-    subst P (explicit-leveled_in depth cs para p) (leveled_in-bounded (state_within depth cs para (holders cs p)) para (class_at cs p) most (level-bound depth cs para (holders cs p) most d b) b)
+    subst P (explicit-leveled_in depth cs para p) (leveled_in-bounded (state_within depth cs para (holders cs p)) para
+    (class_at cs p) most (level-bound depth cs para (holders cs p) most d b) b)

@@ -60,5 +60,6 @@ pub embedding_is_no_pdf : (c : Class) → is_embedding_initiator c ≡ true → 
 embedding_is_no_pdf c h = grind (arith, role, false≢true)
 
 -- the class of the unit at a position
-pub class_read : (units : List BidiUnit) (p : ℕ) (d : BidiUnit) → p < length units → class_at (classes_of units) p ≡ (get_or units p d).class
+pub class_read : (units : List BidiUnit) (p : ℕ) (d : BidiUnit) → p < length units →
+    class_at (classes_of units) p ≡ (get_or units p d).class
 class_read units p d h = get_or-map (λ unit. unit.class) units p d L h

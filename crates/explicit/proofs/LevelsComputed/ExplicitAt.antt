@@ -22,7 +22,8 @@ abbrev pub open_before : List Class → ℕ → List ℕ
 open_before cs zero = []
 open_before cs (suc p) = opened cs p (holders cs p)
 
-pub still_open_before : (cs : List Class) (p : ℕ) → p < length cs → still_open cs (class_at cs p) (open_before cs p) ≡ holders cs p
+pub still_open_before : (cs : List Class) (p : ℕ) → p < length cs →
+    still_open cs (class_at cs p) (open_before cs p) ≡ holders cs p
 still_open_before cs zero l = grind arith
 still_open_before cs (suc p) l = sym (holders-step cs p l)
 
@@ -41,25 +42,30 @@ fold-snoc f s [] x = refl
 fold-snoc f s (y ∷ xs) x = fold-snoc f (f s y) xs x
 
 -- the state inside initiators in rising order, or the same list in falling order
-within-filtered : (depth : ℕ) (cs : List Class) (para : ℕ) (t : ℕ → Bool) (p : ℕ) → state_of depth cs para (filter t (positions_from 0 p)) ≡ state_within depth cs para (filter t (below p))
+within-filtered : (depth : ℕ) (cs : List Class) (para : ℕ) (t : ℕ → Bool) (p : ℕ) →
+    state_of depth cs para (filter t (positions_from 0 p)) ≡ state_within depth cs para (filter t (below p))
 within-filtered depth cs para t zero = refl
 within-filtered depth cs para t (suc p) =
     let ih = within-filtered depth cs para t p in
     let start : State = record { level = para; override = None; sound = true } in
-    let more : positions_from 0 (suc p) ≡ positions_from 0 p ++ p ∷ [] = positions_from-next 0 p ∙ ap (λ k. positions_from 0 p ++ k ∷ []) (zero-add p) in
+    let more : positions_from 0 (suc p) ≡ positions_from 0 p ++ p ∷ [] = positions_from-next 0 p ∙
+    ap (λ k. positions_from 0 p ++ k ∷ []) (zero-add p) in
     ap (λ xs. state_of depth cs para (filter t xs)) more
     ∙ ap (state_of depth cs para) (filter-append t (positions_from 0 p) (p ∷ []))
     ∙ elim (cases_Bool (t p)) [
-      | inl u ↦ rw u (fold-snoc (entered depth cs) start (filter t (positions_from 0 p)) p ∙ ap (λ s. entered depth cs s p) ih)
+      | inl u ↦ rw u (fold-snoc (entered depth cs) start (filter t (positions_from 0 p)) p ∙
+          ap (λ s. entered depth cs s p) ih)
       | inr u ↦ rw u (ap (state_of depth cs para) (append-nil (filter t (positions_from 0 p))) ∙ ih)
     ]
 
-pub state-of_chain : (depth : ℕ) (cs : List Class) (para p : ℕ) → state_of depth cs para (chain cs p) ≡ state_within depth cs para (holders cs p)
+pub state-of_chain : (depth : ℕ) (cs : List Class) (para p : ℕ) →
+    state_of depth cs para (chain cs p) ≡ state_within depth cs para (holders cs p)
 unfolding chain
 state-of_chain depth cs para p = within-filtered depth cs para (holds cs p) p
 
 -- the level and the class at p, by the state inside the initiators around it
-pub explicit-leveled_in : (depth : ℕ) (cs : List Class) (para p : ℕ) → leveled_in (state_within depth cs para (holders cs p)) para (class_at cs p) ≡ explicit_at depth cs para p
+pub explicit-leveled_in : (depth : ℕ) (cs : List Class) (para p : ℕ) →
+    leveled_in (state_within depth cs para (holders cs p)) para (class_at cs p) ≡ explicit_at depth cs para p
 unfolding explicit_at
 explicit-leveled_in depth cs para p = ap (λ s. leveled_in s para (class_at cs p)) (sym (state-of_chain depth cs para p))
 
@@ -68,14 +74,26 @@ before-few cs zero = omega arith
 before-few cs (suc p) = grind (arith, holders-few cs p)
 
 -- what the stack represents before p
-pub retained-before : (depth : ℕ) (cs : List Class) (base p : ℕ) (n : StatusStack) → depth ≤ 125 → base ≤ 1 → p < 2 ^ 63 → Represents depth cs base (open_before cs p) n → IsReachedStack n
-retained-before depth cs base p n d b l r = record { depth = depth; classes = cs; para_level = base; initiators = open_before cs p; represents = r; base = b; within = d; few = omega (arith, before-few cs p) }
+pub retained-before : (depth : ℕ) (cs : List Class) (base p : ℕ) (n : StatusStack) → depth ≤ 125 → base ≤ 1 →
+    p < 2 ^ 63 → Represents depth cs base (open_before cs p) n → IsReachedStack n
+retained-before depth cs base p n d b l r = record {
+  depth = depth;
+  classes = cs;
+  para_level = base;
+  initiators =
+      open_before cs p;
+  represents = r;
+  base = b;
+  within = d;
+  few = omega (arith, before-few cs p);
+}
 
 -- the chain is the same list in reverse
 chain-filtered : (t : ℕ → Bool) (p : ℕ) → filter t (positions_from 0 p) ≡ reverse (filter t (below p))
 chain-filtered t zero = refl
 chain-filtered t (suc p) =
-    let more : positions_from 0 (suc p) ≡ positions_from 0 p ++ p ∷ [] = positions_from-next 0 p ∙ ap (λ k. positions_from 0 p ++ k ∷ []) (zero-add p) in
+    let more : positions_from 0 (suc p) ≡ positions_from 0 p ++ p ∷ [] = positions_from-next 0 p ∙
+    ap (λ k. positions_from 0 p ++ k ∷ []) (zero-add p) in
     ap (filter t) more
     ∙ filter-append t (positions_from 0 p) (p ∷ [])
     ∙ elim (cases_Bool (t p)) [
@@ -88,13 +106,18 @@ unfolding chain
 chain-reversed cs p = chain-filtered (holds cs p) p
 
 -- what the stack represents after p, and the level and the class at p
-pub record IsPassedAt (depth : ℕ) (cs : List Class) (base p : ℕ) (leveled : Option (ℕ × Class)) (n : StatusStack) : Type 0 where
+pub record IsPassedAt (depth : ℕ) (cs : List Class) (base p : ℕ) (leveled : Option (ℕ × Class))
+    (n : StatusStack) : Type 0 where
   pub keeps : Represents depth cs base (open_before cs (p + 1)) n
   pub found : leveled ≡ explicit_at depth cs base p
 
-pub passed-is : (depth : ℕ) (cs : List Class) (base p : ℕ) (class : Class) (leveled : Option (ℕ × Class)) (n : StatusStack) → p < length cs → class ≡ class_at cs p → IsPassed depth cs base (still_open cs class (open_before cs p)) p class leveled n → IsPassedAt depth cs base p leveled n
+pub passed-is : (depth : ℕ) (cs : List Class) (base p : ℕ) (class : Class) (leveled : Option (ℕ × Class))
+    (n : StatusStack) → p < length cs → class ≡ class_at cs p →
+    IsPassed depth cs base (still_open cs class (open_before cs p)) p class leveled n →
+    IsPassedAt depth cs base p leveled n
 passed-is depth cs base p class leveled n l e passed =
-    let remaining : still_open cs class (open_before cs p) ≡ holders cs p = ap (λ k. still_open cs k (open_before cs p)) e ∙ still_open_before cs p l in
+    let remaining : still_open cs class (open_before cs p) ≡ holders cs p =
+    ap (λ k. still_open cs k (open_before cs p)) e ∙ still_open_before cs p l in
     let P : List ℕ → Type 0 = λ qs. Represents depth cs base qs n in
     record {
       keeps = subst P (ap (opened cs p) remaining ∙ open_before-next cs p) passed.retained;
@@ -105,7 +128,10 @@ passed-is depth cs base p class leveled n l e passed =
     }
 
 -- one position more has its level and class
-pub explicit-more : (depth : ℕ) (cs : List Class) (base p : ℕ) (explicit : List (Option (ℕ × Class))) (leveled : Option (ℕ × Class)) → p < length explicit → leveled ≡ explicit_at depth cs base p → ((k : ℕ) → k < p → get_or explicit k None ≡ explicit_at depth cs base k) → (k : ℕ) → k < p + 1 → get_or (set explicit p leveled) k None ≡ explicit_at depth cs base k
+pub explicit-more : (depth : ℕ) (cs : List Class) (base p : ℕ) (explicit : List (Option (ℕ × Class)))
+    (leveled : Option (ℕ × Class)) → p < length explicit → leveled ≡ explicit_at depth cs base p →
+    ((k : ℕ) → k < p → get_or explicit k None ≡ explicit_at depth cs base k) → (k : ℕ) → k < p + 1 →
+    get_or (set explicit p leveled) k None ≡ explicit_at depth cs base k
 explicit-more depth cs base p explicit leveled room found below k h = grind (arith, get_or-set_same, get_or-set_other)
 
 -- X6: what an ordinary class is not
@@ -116,7 +142,8 @@ pub record IsPassedOver (c : Class) : Type 0 where
   pub removed_is : is_removed c ≡ false
   pub separator_is : is_separator c ≡ false
 
-over : (c : Class) → is_pdi c ≡ false → is_pdf c ≡ false → is_initiator c ≡ false → is_removed c ≡ false → is_separator c ≡ false → IsPassedOver c
+over : (c : Class) → is_pdi c ≡ false → is_pdf c ≡ false → is_initiator c ≡ false → is_removed c ≡ false →
+    is_separator c ≡ false → IsPassedOver c
 over c a b d e f = record { pdi_is = a; pdf_is = b; initiator_is = d; removed_is = e; separator_is = f }
 
 pub ordinary_is : (c : Class) → is_ordinary c ≡ true → IsPassedOver c
@@ -144,5 +171,7 @@ ordinary_opened cs p qs h = let o = ordinary_is (class_at cs p) h in rw o.initia
 leveled_in-none : (s : State) (para : ℕ) (own : Class) → is_none (leveled_in s para own) ≡ is_removed own
 leveled_in-none s para own = grind arith
 
-pub explicit-none : (depth : ℕ) (cs : List Class) (para p : ℕ) → is_none (explicit_at depth cs para p) ≡ is_removed (class_at cs p)
-explicit-none depth cs para p = ap is_none (sym (explicit-leveled_in depth cs para p)) ∙ leveled_in-none (state_within depth cs para (holders cs p)) para (class_at cs p)
+pub explicit-none : (depth : ℕ) (cs : List Class) (para p : ℕ) →
+    is_none (explicit_at depth cs para p) ≡ is_removed (class_at cs p)
+explicit-none depth cs para p = ap is_none (sym (explicit-leveled_in depth cs para p)) ∙
+    leveled_in-none (state_within depth cs para (holders cs p)) para (class_at cs p)

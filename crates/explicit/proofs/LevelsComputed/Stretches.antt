@@ -14,10 +14,12 @@ use Rattle.explicit.proofs.Matched.Stretched.{stretched_inside, stretched_length
 use Rattle.explicit.proofs.LevelsComputed.ExplicitAt.{open_before, still_open_before, open_before-next, explicit-leveled_in, ordinary_is, ordinary_still_open, ordinary_opened}
 
 -- an ordinary class closes nothing and opens nothing
-ordinary-holders : (cs : List Class) (p : ℕ) → p < length cs → is_ordinary (class_at cs p) ≡ true → holders cs p ≡ open_before cs p
+ordinary-holders : (cs : List Class) (p : ℕ) → p < length cs → is_ordinary (class_at cs p) ≡ true →
+    holders cs p ≡ open_before cs p
 ordinary-holders cs p l o = sym (still_open_before cs p l) ∙ ordinary_still_open cs (class_at cs p) (open_before cs p) o
 
-ordinary-next : (cs : List Class) (p : ℕ) → p < length cs → is_ordinary (class_at cs p) ≡ true → open_before cs (p + 1) ≡ open_before cs p
+ordinary-next : (cs : List Class) (p : ℕ) → p < length cs → is_ordinary (class_at cs p) ≡ true →
+    open_before cs (p + 1) ≡ open_before cs p
 ordinary-next cs p l o = sym (open_before-next cs p) ∙ ordinary_opened cs p (holders cs p) o ∙ ordinary-holders cs p l o
 
 module _ (cs : List Class) (from end : ℕ) (s : IsStretch is_ordinary cs from end) where
@@ -27,40 +29,59 @@ module _ (cs : List Class) (from end : ℕ) (s : IsStretch is_ordinary cs from e
   stretch-open (suc n) h =
       let w = s.within in
       let e : from + suc n ≡ (from + n) + 1 = omega arith in
-      ap (open_before cs) e ∙ ordinary-next cs (from + n) (omega arith) (s.passed (from + n) (omega arith) (omega arith)) ∙ stretch-open n (omega arith)
+      ap (open_before cs) e ∙
+      ordinary-next cs (from + n) (omega arith) (s.passed (from + n) (omega arith) (omega arith)) ∙
+      stretch-open n (omega arith)
 
-  module _ (depth base : ℕ) (status : Status) (level : status.level ≡ (state_within depth cs base (open_before cs from)).level) (override_class : status.override_class ≡ (state_within depth cs base (open_before cs from)).override) where
-    stretch-leveled : (n : ℕ) → from + n < end → Some (leveled_by_status status (class_at cs (from + n))) ≡ explicit_at depth cs base (from + n)
+  module _ (depth base : ℕ) (status : Status) (level : status.level ≡
+      (state_within depth cs base (open_before cs from)).level) (override_class : status.override_class ≡
+      (state_within depth cs base (open_before cs from)).override) where
+    stretch-leveled : (n : ℕ) → from + n < end →
+        Some (leveled_by_status status (class_at cs (from + n))) ≡ explicit_at depth cs base (from + n)
     stretch-leveled n h =
         let w = s.within in
         let o = s.passed (from + n) (omega arith) h in
         let over = ordinary_is (class_at cs (from + n)) o in
-        let same : open_before cs from ≡ holders cs (from + n) = sym (stretch-open n (omega arith)) ∙ sym (ordinary-holders cs (from + n) (omega arith) o) in
-        let here : Some (leveled_by_status status (class_at cs (from + n))) ≡ leveled_in (state_within depth cs base (open_before cs from)) base (class_at cs (from + n)) = rw (over.removed_is, over.separator_is, level, override_class) refl in
-        here ∙ ap (λ qs. leveled_in (state_within depth cs base qs) base (class_at cs (from + n))) same ∙ explicit-leveled_in depth cs base (from + n)
+        let same : open_before cs from ≡ holders cs (from + n) = sym (stretch-open n (omega arith)) ∙
+        sym (ordinary-holders cs (from + n) (omega arith) o) in
+        let here : Some (leveled_by_status status (class_at cs (from + n))) ≡
+        leveled_in (state_within depth cs base (open_before cs from)) base (class_at cs (from + n)) =
+        rw (over.removed_is, over.separator_is, level, override_class) refl in
+        here ∙ ap (λ qs. leveled_in (state_within depth cs base qs) base (class_at cs (from + n))) same ∙
+        explicit-leveled_in depth cs base (from + n)
 
-    module _ (explicit : List (Option (ℕ × Class))) (room : end ≤ length explicit) (below : (k : ℕ) → k < from → get_or explicit k None ≡ explicit_at depth cs base k) where
+    module _ (explicit : List (Option (ℕ × Class))) (room : end ≤ length explicit) (below : (k : ℕ) → k < from →
+        get_or explicit k None ≡ explicit_at depth cs base k) where
       -- the levels and classes so far, with those of the stretch
-      pub stretch-filled : (k : ℕ) → k < end → get_or (with_leveled status cs from end explicit) k None ≡ explicit_at depth cs base k
+      pub stretch-filled : (k : ℕ) → k < end →
+          get_or (with_leveled status cs from end explicit) k None ≡ explicit_at depth cs base k
       stretch-filled k l = elim (cases_lt k from) [
-        | inl before ↦ stretched_outside (λ p. Some (leveled_by_status status (class_at cs p))) from end explicit k (omega arith) (inl before) ∙ below k before
+        | inl before ↦ stretched_outside (λ p. Some (leveled_by_status status (class_at cs p))) from end explicit k
+            (omega arith) (inl before) ∙ below k before
         | inr following ↦
             let e : from + (k - from) ≡ k = omega arith in
-            let here : Some (leveled_by_status status (class_at cs k)) ≡ explicit_at depth cs base k = rw e at (stretch-leveled (k - from) (omega arith)) in
-            stretched_inside (λ p. Some (leveled_by_status status (class_at cs p))) from end explicit k (omega arith) following l ∙ here
+            let here : Some (leveled_by_status status (class_at cs k)) ≡ explicit_at depth cs base k =
+            rw e at (stretch-leveled (k - from) (omega arith)) in
+            stretched_inside (λ p. Some (leveled_by_status status (class_at cs p))) from end explicit k
+            (omega arith) following l ∙ here
       ]
 
 -- no position
-pub explicit-none : (status : Status) (cs : List Class) (from : ℕ) (explicit : List (Option (ℕ × Class))) → with_leveled status cs from from explicit ≡ explicit
-explicit-none status cs from explicit = stretched_none (λ p. Some (leveled_by_status status (class_at cs p))) from explicit
+pub explicit-none : (status : Status) (cs : List Class) (from : ℕ) (explicit : List (Option (ℕ × Class))) →
+    with_leveled status cs from from explicit ≡ explicit
+explicit-none status cs from explicit =
+    stretched_none (λ p. Some (leveled_by_status status (class_at cs p))) from explicit
 
 -- one position more
 pub explicit-next : (status : Status) (cs : List Class) (from p : ℕ) (explicit : List (Option (ℕ × Class))) → from ≤ p →
-    set (with_leveled status cs from p explicit) p (Some (leveled_by_status status (class_at cs p))) ≡ with_leveled status cs from (p + 1) explicit
-explicit-next status cs from p explicit low = stretched_next (λ q. Some (leveled_by_status status (class_at cs q))) from p explicit low
+    set (with_leveled status cs from p explicit) p (Some (leveled_by_status status (class_at cs p))) ≡
+    with_leveled status cs from (p + 1) explicit
+explicit-next status cs from p explicit low =
+    stretched_next (λ q. Some (leveled_by_status status (class_at cs q))) from p explicit low
 
 -- a stretch from a position of an ordinary class includes that position
-pub stretch-moves : (cs : List Class) (from end : ℕ) → IsStretch is_ordinary cs from end → from < length cs → is_ordinary (class_at cs from) ≡ true → from < end
+pub stretch-moves : (cs : List Class) (from end : ℕ) → IsStretch is_ordinary cs from end → from < length cs →
+    is_ordinary (class_at cs from) ≡ true → from < end
 stretch-moves cs from end s inside ordinary = let low = s.later in elim (cases_lt from end) [
   | inl more ↦ more
   | inr none ↦
@@ -73,17 +94,24 @@ module _ (cs : List Class) (from end : ℕ) (s : IsStretch is_ordinary cs from e
   whole : from + (end - from) ≡ end
   whole = let low = s.later in omega arith
 
-  pub stretch-keeps : (depth base : ℕ) (n : StatusStack) → Represents depth cs base (open_before cs from) n → Represents depth cs base (open_before cs end) n
+  pub stretch-keeps : (depth base : ℕ) (n : StatusStack) → Represents depth cs base (open_before cs from) n →
+      Represents depth cs base (open_before cs end) n
   stretch-keeps depth base n r =
-      let e : open_before cs end ≡ open_before cs from = sym (ap (open_before cs) whole) ∙ stretch-open cs from end s (end - from) (omega (arith, whole)) in
+      let e : open_before cs end ≡ open_before cs from = sym (ap (open_before cs) whole) ∙
+      stretch-open cs from end s (end - from) (omega (arith, whole)) in
       let P : List ℕ → Type 0 = λ qs. Represents depth cs base qs n in
       subst P (sym e) r
 
-  module _ (status : Status) (explicit new : List (Option (ℕ × Class))) (is : new ≡ with_leveled status cs from end explicit) where
+  module _ (status : Status) (explicit new : List (Option (ℕ × Class))) (is : new ≡
+      with_leveled status cs from end explicit) where
     pub stretch-room : length new ≡ length explicit
-    stretch-room = ap length is ∙ stretched_length (λ p. Some (leveled_by_status status (class_at cs p))) from end explicit
+    stretch-room = ap length is ∙
+        stretched_length (λ p. Some (leveled_by_status status (class_at cs p))) from end explicit
 
-    pub stretch-explicit : (depth base : ℕ) → status.level ≡ (state_within depth cs base (open_before cs from)).level → status.override_class ≡ (state_within depth cs base (open_before cs from)).override → end ≤ length explicit → ((k : ℕ) → k < from → get_or explicit k None ≡ explicit_at depth cs base k) → (k : ℕ) → k < end → get_or new k None ≡ explicit_at depth cs base k
+    pub stretch-explicit : (depth base : ℕ) → status.level ≡ (state_within depth cs base (open_before cs from)).level →
+        status.override_class ≡ (state_within depth cs base (open_before cs from)).override → end ≤ length explicit →
+        ((k : ℕ) → k < from → get_or explicit k None ≡ explicit_at depth cs base k) → (k : ℕ) → k < end →
+        get_or new k None ≡ explicit_at depth cs base k
     stretch-explicit depth base level override_class room below k l =
         ap (λ (xs : List (Option (ℕ × Class))). get_or xs k None) is
         ∙ stretch-filled cs from end s depth base status level override_class explicit room below k l

@@ -12,6 +12,11 @@ odd_least level = record { above = omega arith; parity = omega arith; least = λ
 pub even_least : (level : ℕ) → IsLeastAbove level false (next_even level)
 even_least level = record { above = omega arith; parity = omega arith; least = λ other up even. omega arith }
 
-pub wanted_least : (cs : List Class) (level q : ℕ) → IsLeastAbove level (wants_odd cs q (class_at cs q)) (wanted_level cs level q)
+pub wanted_least : (cs : List Class) (level q : ℕ) →
+    IsLeastAbove level (wants_odd cs q (class_at cs q)) (wanted_level cs level q)
 wanted_least cs level q =
-    elim (cases_Bool (wants_odd cs q (class_at cs q))) [ inl odd ↦ rw odd (odd_least level) | inr even ↦ rw even (even_least level) ]
+    elim (cases_Bool (wants_odd cs q (class_at cs q))) [
+      | inl odd ↦ rw odd (odd_least level)
+      | inr even ↦
+          rw even (even_least level)
+    ]

@@ -33,19 +33,25 @@ pub ups_part : (test : ℕ → Bool) (i d : ℕ) → ups test i + count_by test 
 ups_part test i zero = let e : i + 0 ≡ i = omega arith in rw e (omega arith)
 ups_part test i (suc d) = grind (arith, nat_tests, common_steps, sum_by-cons, ups_yes, ups_no, ups_part test (i + 1) d)
 
-pub ups_between : (test : ℕ → Bool) (i j : ℕ) → i ≤ j + 1 → ups test i + count_by test (positions_from i (j + 1 - i)) ≡ ups test (j + 1)
-ups_between test i j h = let n : i + (j + 1 - i) ≡ j + 1 = omega arith in let part = ups_part test i (j + 1 - i) in rw n at part
+pub ups_between : (test : ℕ → Bool) (i j : ℕ) → i ≤ j + 1 →
+    ups test i + count_by test (positions_from i (j + 1 - i)) ≡ ups test (j + 1)
+ups_between test i j h = let n : i + (j + 1 - i) ≡ j + 1 = omega arith in let part = ups_part test i (j + 1 - i) in
+    rw n at part
 
-pub level_surplus : (o c : ℕ → Bool) (i j : ℕ) → i ≤ j + 1 → as_many o c i j ≡ true → ups o (j + 1) + ups c i ≡ ups c (j + 1) + ups o i
+pub level_surplus : (o c : ℕ → Bool) (i j : ℕ) → i ≤ j + 1 → as_many o c i j ≡ true →
+    ups o (j + 1) + ups c i ≡ ups c (j + 1) + ups o i
 level_surplus o c i j h e = grind (arith, ups_between, eqb-true)
 
-pub surplus_level : (o c : ℕ → Bool) (i j : ℕ) → i ≤ j + 1 → ups o (j + 1) + ups c i ≡ ups c (j + 1) + ups o i → as_many o c i j ≡ true
+pub surplus_level : (o c : ℕ → Bool) (i j : ℕ) → i ≤ j + 1 → ups o (j + 1) + ups c i ≡ ups c (j + 1) + ups o i →
+    as_many o c i j ≡ true
 surplus_level o c i j h e = grind (arith, ups_between, eq-eqb)
 
-pub unlevel_surplus : (o c : ℕ → Bool) (i j : ℕ) → i ≤ j + 1 → as_many o c i j ≡ false → ups o (j + 1) + ups c i ≢ ups c (j + 1) + ups o i
+pub unlevel_surplus : (o c : ℕ → Bool) (i j : ℕ) → i ≤ j + 1 → as_many o c i j ≡ false →
+    ups o (j + 1) + ups c i ≢ ups c (j + 1) + ups o i
 unlevel_surplus o c i j h e same = true≢false (sym (surplus_level o c i j h same) ∙ e)
 
-pub surplus_unlevel : (o c : ℕ → Bool) (i j : ℕ) → i ≤ j + 1 → ups o (j + 1) + ups c i ≢ ups c (j + 1) + ups o i → as_many o c i j ≡ false
+pub surplus_unlevel : (o c : ℕ → Bool) (i j : ℕ) → i ≤ j + 1 → ups o (j + 1) + ups c i ≢ ups c (j + 1) + ups o i →
+    as_many o c i j ≡ false
 surplus_unlevel o c i j h ne = false_from_ne_true _ (λ t. absurd (ne (level_surplus o c i j h t)))
 
 -- what a position does
@@ -58,7 +64,8 @@ pub turn_of : (o c : ℕ → Bool) (p : ℕ) → Exclude o c → Turn o c p
 turn_of o c p ex = grind arith
 
 -- the match as the end moves on
-pub match_more : (o c : ℕ → Bool) (k i : ℕ) → i < k → match_of o c (k + 1) i ≡ or_else (match_of o c k i) (cond (as_many o c i k) (Some k) None)
+pub match_more : (o c : ℕ → Bool) (k i : ℕ) → i < k →
+    match_of o c (k + 1) i ≡ or_else (match_of o c k i) (cond (as_many o c i k) (Some k) None)
 unfolding match_of
 match_more o c k i h =
     let n : k + 1 - (i + 1) ≡ suc (k - (i + 1)) = omega arith in
@@ -96,18 +103,22 @@ pub match_of_bounds : (o c : ℕ → Bool) (n i j : ℕ) → match_of o c n i �
 unfolding match_of
 match_of_bounds o c n i j e = grind (arith, first_from_some)
 
-pub match_of_surplus : (o c : ℕ → Bool) (n i j : ℕ) → match_of o c n i ≡ Some j → ups o (j + 1) + ups c i ≡ ups c (j + 1) + ups o i
+pub match_of_surplus : (o c : ℕ → Bool) (n i j : ℕ) → match_of o c n i ≡ Some j →
+    ups o (j + 1) + ups c i ≡ ups c (j + 1) + ups o i
 unfolding match_of
 match_of_surplus o c n i j e = grind (arith, first_from_some, level_surplus)
 
-pub gets_closed : (o c : ℕ → Bool) (k i : ℕ) → i < k → match_of o c k i ≡ None → as_many o c i k ≡ true → match_of o c (k + 1) i ≡ Some k
+pub gets_closed : (o c : ℕ → Bool) (k i : ℕ) → i < k → match_of o c k i ≡ None → as_many o c i k ≡ true →
+    match_of o c (k + 1) i ≡ Some k
 gets_closed o c k i h e t = rw (match_more o c k i h, e, t) refl
 
-pub stays_unclosed : (o c : ℕ → Bool) (k i : ℕ) → i < k → match_of o c k i ≡ None → as_many o c i k ≡ false → match_of o c (k + 1) i ≡ None
+pub stays_unclosed : (o c : ℕ → Bool) (k i : ℕ) → i < k → match_of o c k i ≡ None → as_many o c i k ≡ false →
+    match_of o c (k + 1) i ≡ None
 stays_unclosed o c k i h e t = rw (match_more o c k i h, e, t) refl
 
 -- while i is open, more open than close from it on
-pub surplus_by : (o c : ℕ → Bool) (i d : ℕ) → Exclude o c → o i ≡ true → match_of o c (i + 1 + d) i ≡ None → ups c (i + 1 + d) + ups o i < ups o (i + 1 + d) + ups c i
+pub surplus_by : (o c : ℕ → Bool) (i d : ℕ) → Exclude o c → o i ≡ true → match_of o c (i + 1 + d) i ≡ None →
+    ups c (i + 1 + d) + ups o i < ups o (i + 1 + d) + ups c i
 surplus_by o c i zero ex opener none =
     let e : i + 1 + 0 ≡ i + 1 = omega arith in
     rw e (omega (arith, ups_yes o i opener, ups_no c i (ex.apart i opener)))
@@ -115,18 +126,23 @@ surplus_by o c i (suc d) ex opener none =
     let e : i + 1 + suc d ≡ i + 1 + d + 1 = omega arith in
     let none' : match_of o c (i + 1 + d + 1) i ≡ None = rw e at none in
     let lt : i < i + 1 + d = omega arith in
-    let before : match_of o c (i + 1 + d) i ≡ None = unmatched_before o c (i + 1 + d) (i + 1 + d + 1) i (omega arith) none' in
-    let unlevel : as_many o c i (i + 1 + d) ≡ false = false_from_ne_true _ (λ t. absurd (let now = gets_closed o c (i + 1 + d) i lt before t in cc)) in
+    let before : match_of o c (i + 1 + d) i ≡ None =
+    unmatched_before o c (i + 1 + d) (i + 1 + d + 1) i (omega arith) none' in
+    let unlevel : as_many o c i (i + 1 + d) ≡ false =
+    false_from_ne_true _ (λ t. absurd (let now = gets_closed o c (i + 1 + d) i lt before t in cc)) in
     let ne = unlevel_surplus o c i (i + 1 + d) (omega arith) unlevel in
     let ih = surplus_by o c i d ex opener before in
     rw e (go (turn_of o c (i + 1 + d) ex) ne ih)
   where
-    go : Turn o c (i + 1 + d) → (ups o (i + 1 + d + 1) + ups c i ≢ ups c (i + 1 + d + 1) + ups o i) → ups c (i + 1 + d) + ups o i < ups o (i + 1 + d) + ups c i → ups c (i + 1 + d + 1) + ups o i < ups o (i + 1 + d + 1) + ups c i
+    go : Turn o c (i + 1 + d) → (ups o (i + 1 + d + 1) + ups c i ≢ ups c (i + 1 + d + 1) + ups o i) →
+        ups c (i + 1 + d) + ups o i < ups o (i + 1 + d) + ups c i →
+        ups c (i + 1 + d + 1) + ups o i < ups o (i + 1 + d + 1) + ups c i
     go (opens a b) ne ih = omega (arith, ups_yes o (i + 1 + d) a, ups_no c (i + 1 + d) b, ih)
     go (closes a b) ne ih = omega (arith, ups_no o (i + 1 + d) a, ups_yes c (i + 1 + d) b, ih, ne)
     go (stays a b) ne ih = omega (arith, ups_no o (i + 1 + d) a, ups_no c (i + 1 + d) b, ih)
 
-pub surplus_open : (o c : ℕ → Bool) (i k : ℕ) → Exclude o c → i < k → o i ≡ true → match_of o c k i ≡ None → ups c k + ups o i < ups o k + ups c i
+pub surplus_open : (o c : ℕ → Bool) (i k : ℕ) → Exclude o c → i < k → o i ≡ true → match_of o c k i ≡ None →
+    ups c k + ups o i < ups o k + ups c i
 surplus_open o c i k ex h opener none =
     let e : i + 1 + (k - (i + 1)) ≡ k = omega arith in
     let s = surplus_by o c i (k - (i + 1)) ex opener (rw e none) in
@@ -139,15 +155,18 @@ open_until o c n i a k e h = grind (arith, match_of_bounds, match_extends)
 pub match_closes : (o c : ℕ → Bool) (n i a : ℕ) → Exclude o c → o i ≡ true → match_of o c n i ≡ Some a → c a ≡ true
 match_closes o c n i a ex opener e =
     let b = match_of_bounds o c n i a e in
-    go (turn_of o c a ex) (match_of_surplus o c n i a e) (surplus_open o c i a ex b.0 opener (open_until o c n i a a e (omega arith)))
+    go (turn_of o c a ex) (match_of_surplus o c n i a e)
+    (surplus_open o c i a ex b.0 opener (open_until o c n i a a e (omega arith)))
   where
-    go : Turn o c a → ups o (a + 1) + ups c i ≡ ups c (a + 1) + ups o i → ups c a + ups o i < ups o a + ups c i → c a ≡ true
+    go : Turn o c a → ups o (a + 1) + ups c i ≡ ups c (a + 1) + ups o i → ups c a + ups o i < ups o a + ups c i →
+        c a ≡ true
     go (opens x y) after before = absurd (omega (arith, ups_yes o a x, ups_no c a y, after, before))
     go (closes x y) after before = y
     go (stays x y) after before = absurd (omega (arith, ups_no o a x, ups_no c a y, after, before))
 
 -- what opens between i and its match is matched before that
-pub match_inner : (o c : ℕ → Bool) (n i j a : ℕ) → Exclude o c → o i ≡ true → o j ≡ true → match_of o c n i ≡ Some a → i < j → j < a → (b : ℕ) × (match_of o c n j ≡ Some b) × (b < a)
+pub match_inner : (o c : ℕ → Bool) (n i j a : ℕ) → Exclude o c → o i ≡ true → o j ≡ true → match_of o c n i ≡ Some a →
+    i < j → j < a → (b : ℕ) × (match_of o c n j ≡ Some b) × (b < a)
 match_inner o c n i j a ex oi oj e ij ja = go (match_of o c (a + 1) j) refl
   where
     above : ups c j + ups o i < ups o j + ups c i
@@ -166,11 +185,13 @@ match_inner o c n i j a ex oi oj e ij ja = go (match_of o c (a + 1) j) refl
         let level = match_of_surplus o c n i a e in
         let level' = match_of_surplus o c n j b whole in
         let up = above in
-        let differ : b ≢ a = λ same. let l : ups o (a + 1) + ups c j ≡ ups c (a + 1) + ups o j = rw same at level' in omega (arith, l, level, up) in
+        let differ : b ≢ a = λ same. let l : ups o (a + 1) + ups c j ≡ ups c (a + 1) + ups o j = rw same at level' in
+        omega (arith, l, level, up) in
         (b, whole, omega (arith, bounds.1, differ))
 
 -- no position closes two
-pub match_once : (o c : ℕ → Bool) (n i j a : ℕ) → Exclude o c → o i ≡ true → o j ≡ true → match_of o c n i ≡ Some a → match_of o c n j ≡ Some a → i ≡ j
+pub match_once : (o c : ℕ → Bool) (n i j a : ℕ) → Exclude o c → o i ≡ true → o j ≡ true → match_of o c n i ≡ Some a →
+    match_of o c n j ≡ Some a → i ≡ j
 match_once o c n i j a ex oi oj e e' =
     elim (cases_order i j) [
       | inl same ↦ same

@@ -7,7 +7,8 @@ use Rattle.explicit.proofs.Matched.Partners.{IsPass, pass_none, pass_opening, pa
 use Rattle.explicit.specs.IsolateMaps.{HasPartners}
 
 -- after the first k positions, with this many open initiators
-pub record IsFilling (cs : List Class) (k : ℕ) (depth : ℕ) (room : ℕ) (partners : List (Option ℕ)) (openers : List ℕ) : Type 0 where
+pub record IsFilling (cs : List Class) (k : ℕ) (depth : ℕ) (room : ℕ) (partners : List (Option ℕ))
+    (openers : List ℕ) : Type 0 where
   pub enough : length cs ≤ room
   pub deep : depth ≤ k
   pub partners_room : length partners ≡ room
@@ -18,7 +19,9 @@ pub record IsFilling (cs : List Class) (k : ℕ) (depth : ℕ) (room : ℕ) (par
 pub write_below : {A : Type 0} (xs : List A) (k p : ℕ) (x d : A) → p < k → get_or (set xs k x) p d ≡ get_or xs p d
 write_below xs k p x d h = get_or-set_other xs k p x d (λ e. absurd (omega arith))
 
-pub filling_opening : (cs : List Class) (k depth room : ℕ) (partners : List (Option ℕ)) (openers : List ℕ) → IsFilling cs k depth room partners openers → k < length cs → is_isolate_initiator (class_at cs k) ≡ true → IsFilling cs (k + 1) (depth + 1) room (set partners k None) (set openers depth k)
+pub filling_opening : (cs : List Class) (k depth room : ℕ) (partners : List (Option ℕ)) (openers : List ℕ) →
+    IsFilling cs k depth room partners openers → k < length cs → is_isolate_initiator (class_at cs k) ≡ true →
+    IsFilling cs (k + 1) (depth + 1) room (set partners k None) (set openers depth k)
 filling_opening cs k depth room partners openers filling inside o =
     let enough = filling.enough in
     let deep = filling.deep in
@@ -36,7 +39,9 @@ filling_opening cs k depth room partners openers filling inside o =
           (get_or-set_same partners k None None (omega arith));
     }
 
-pub filling_other : (cs : List Class) (k depth room : ℕ) (partners : List (Option ℕ)) (openers : List ℕ) → IsFilling cs k depth room partners openers → k < length cs → is_isolate_initiator (class_at cs k) ≡ false → is_pdi (class_at cs k) ≡ false → IsFilling cs (k + 1) depth room (set partners k None) openers
+pub filling_other : (cs : List Class) (k depth room : ℕ) (partners : List (Option ℕ)) (openers : List ℕ) →
+    IsFilling cs k depth room partners openers → k < length cs → is_isolate_initiator (class_at cs k) ≡ false →
+    is_pdi (class_at cs k) ≡ false → IsFilling cs (k + 1) depth room (set partners k None) openers
 filling_other cs k depth room partners openers filling inside o c =
     let enough = filling.enough in
     let deep = filling.deep in
@@ -51,7 +56,9 @@ filling_other cs k depth room partners openers filling inside o c =
           (get_or-set_same partners k None None (omega arith));
     }
 
-pub filling_unmatched : (cs : List Class) (k depth room : ℕ) (partners : List (Option ℕ)) (openers : List ℕ) → IsFilling cs k depth room partners openers → k < length cs → depth ≡ 0 → is_pdi (class_at cs k) ≡ true → IsFilling cs (k + 1) depth room (set partners k None) openers
+pub filling_unmatched : (cs : List Class) (k depth room : ℕ) (partners : List (Option ℕ)) (openers : List ℕ) →
+    IsFilling cs k depth room partners openers → k < length cs → depth ≡ 0 → is_pdi (class_at cs k) ≡ true →
+    IsFilling cs (k + 1) depth room (set partners k None) openers
 filling_unmatched cs k depth room partners openers filling inside empty c =
     let enough = filling.enough in
     let pr = filling.partners_room in
@@ -65,12 +72,16 @@ filling_unmatched cs k depth room partners openers filling inside empty c =
           (get_or-set_same partners k None None (omega arith)));
     }
 
-pub filling_matched : (cs : List Class) (k depth d opener room : ℕ) (partners : List (Option ℕ)) (openers : List ℕ) → IsFilling cs k depth room partners openers → k < length cs → depth ≡ suc d → is_pdi (class_at cs k) ≡ true → opener ≡ get_or openers d 0 → IsFilling cs (k + 1) d room (set (set (set partners k None) opener (Some k)) k (Some opener)) openers
+pub filling_matched : (cs : List Class) (k depth d opener room : ℕ) (partners : List (Option ℕ)) (openers : List ℕ) →
+    IsFilling cs k depth room partners openers → k < length cs → depth ≡ suc d → is_pdi (class_at cs k) ≡ true →
+    opener ≡ get_or openers d 0 →
+    IsFilling cs (k + 1) d room (set (set (set partners k None) opener (Some k)) k (Some opener)) openers
 filling_matched cs k depth d opener room partners openers filling inside one_more c read =
     let enough = filling.enough in
     let deep = filling.deep in
     let pr = filling.partners_room in
-    let pass : IsPass cs k (suc d) (λ a. get_or openers a 0) (λ p. get_or partners p None) = rw one_more at filling.pass in
+    let pass : IsPass cs k (suc d) (λ a. get_or openers a 0) (λ p. get_or partners p None) =
+    rw one_more at filling.pass in
     let low' : get_or openers d 0 < k = pass.stack.before d (omega arith) in
     let low : opener < k = rw read low' in
     let one : List (Option ℕ) = set partners k None in
@@ -83,17 +94,28 @@ filling_matched cs k depth d opener room partners openers filling inside one_mor
       partners_room = length-set two k (Some opener) ∙ n2;
       openers_room = filling.openers_room;
       pass = pass_matched cs k d _ _ _ inside pass c
-          (λ p h ne. write_below two k p (Some opener) None h ∙ get_or-set_other one opener p (Some k) None (λ e. ne (e ∙ read)) ∙ write_below partners k p None None h)
-          (rw (← read) (write_below two k opener (Some opener) None low ∙ get_or-set_same one opener (Some k) None (omega arith)))
+          (λ p h ne. write_below two k p (Some opener) None h ∙
+          get_or-set_other one opener p (Some k) None (λ e. ne (e ∙ read)) ∙ write_below partners k p None None h)
+          (rw (← read) (write_below two k opener (Some opener) None low ∙
+          get_or-set_same one opener (Some k) None (omega arith)))
           (get_or-set_same two k (Some opener) None (omega arith) ∙ ap Some read);
     }
 
-pub filling_all : (cs : List Class) (depth room : ℕ) (partners : List (Option ℕ)) (openers : List ℕ) → IsFilling cs (length cs) depth room partners openers → HasPartners partners cs
+pub filling_all : (cs : List Class) (depth room : ℕ) (partners : List (Option ℕ)) (openers : List ℕ) →
+    IsFilling cs (length cs) depth room partners openers → HasPartners partners cs
 filling_all cs depth room partners openers filling =
     let enough = filling.enough in
     let pr = filling.partners_room in
     record { enough = omega arith; at = pass_all cs depth _ _ filling.pass }
 
 -- before the first position
-pub filling_none : (cs : List Class) (room : ℕ) (partners : List (Option ℕ)) (openers : List ℕ) → length cs ≤ room → length partners ≡ room → length openers ≡ room → IsFilling cs 0 0 room partners openers
-filling_none cs room partners openers enough one other = record { enough = enough; deep = omega arith; partners_room = one; openers_room = other; pass = pass_none cs _ _ }
+pub filling_none : (cs : List Class) (room : ℕ) (partners : List (Option ℕ)) (openers : List ℕ) → length cs ≤ room →
+    length partners ≡ room → length openers ≡ room → IsFilling cs 0 0 room partners openers
+filling_none cs room partners openers enough one other = record {
+  enough = enough;
+  deep = omega arith;
+  partners_room =
+      one;
+  openers_room = other;
+  pass = pass_none cs _ _;
+}

@@ -30,16 +30,20 @@ abbrev pub IsOpenStack : List Class → ℕ → ℕ → (ℕ → ℕ) → Type 0
 IsOpenStack cs k m s = IsStack (opens_at cs) (closes_at cs) k m s
 
 -- for the whole paragraph
-pub matching_pdi_of : (cs : List Class) (i : ℕ) → is_isolate_initiator (class_at cs i) ≡ true → matching_pdi cs i ≡ matching_before cs (length cs) i
+pub matching_pdi_of : (cs : List Class) (i : ℕ) → is_isolate_initiator (class_at cs i) ≡ true →
+    matching_pdi cs i ≡ matching_before cs (length cs) i
 unfolding matching_pdi match_of
 matching_pdi_of cs i h = rw h refl
 
-pub matching_pdi_none : (cs : List Class) (i : ℕ) → is_isolate_initiator (class_at cs i) ≡ false → matching_pdi cs i ≡ None
+pub matching_pdi_none : (cs : List Class) (i : ℕ) → is_isolate_initiator (class_at cs i) ≡ false →
+    matching_pdi cs i ≡ None
 unfolding matching_pdi
 matching_pdi_none cs i h = rw h refl
 
-pub matching_pdi_opens : (cs : List Class) (i j : ℕ) → matching_pdi cs i ≡ Some j → is_isolate_initiator (class_at cs i) ≡ true
+pub matching_pdi_opens : (cs : List Class) (i j : ℕ) → matching_pdi cs i ≡ Some j →
+    is_isolate_initiator (class_at cs i) ≡ true
 matching_pdi_opens cs i j e = grind (arith, matching_pdi_none)
 
-pub matching_pdi_before : (cs : List Class) (i j : ℕ) → matching_pdi cs i ≡ Some j → matching_before cs (length cs) i ≡ Some j
+pub matching_pdi_before : (cs : List Class) (i j : ℕ) → matching_pdi cs i ≡ Some j →
+    matching_before cs (length cs) i ≡ Some j
 matching_pdi_before cs i j e = sym (matching_pdi_of cs i (matching_pdi_opens cs i j e)) ∙ e

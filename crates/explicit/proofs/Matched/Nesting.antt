@@ -13,18 +13,23 @@ match_bounds cs i a e = match_of_bounds (opens_at cs) (closes_at cs) (length cs)
 
 -- the match of an initiator is a PDI
 pub match_is_pdi : (cs : List Class) (i a : ℕ) → matching_pdi cs i ≡ Some a → is_pdi (class_at cs a) ≡ true
-match_is_pdi cs i a e = match_closes (opens_at cs) (closes_at cs) (length cs) i a (isolates_exclude cs) (matching_pdi_opens cs i a e) (matching_pdi_before cs i a e)
+match_is_pdi cs i a e =
+    match_closes (opens_at cs) (closes_at cs) (length cs) i a (isolates_exclude cs) (matching_pdi_opens cs i a e)
+    (matching_pdi_before cs i a e)
 
 -- the isolate of an initiator inside another one ends inside it
-pub inner_match : (cs : List Class) (i j a : ℕ) → matching_pdi cs i ≡ Some a → i < j → j < a → is_isolate_initiator (class_at cs j) ≡ true → (b : ℕ) × (matching_pdi cs j ≡ Some b) × (b < a)
+pub inner_match : (cs : List Class) (i j a : ℕ) → matching_pdi cs i ≡ Some a → i < j → j < a →
+    is_isolate_initiator (class_at cs j) ≡ true → (b : ℕ) × (matching_pdi cs j ≡ Some b) × (b < a)
 inner_match cs i j a e ij ja opener =
-    let m = match_inner (opens_at cs) (closes_at cs) (length cs) i j a (isolates_exclude cs) (matching_pdi_opens cs i a e) opener (matching_pdi_before cs i a e) ij ja in
+    let m = match_inner (opens_at cs) (closes_at cs) (length cs) i j a (isolates_exclude cs)
+    (matching_pdi_opens cs i a e) opener (matching_pdi_before cs i a e) ij ja in
     (m.0, matching_pdi_of cs j opener ∙ m.1, m.2)
 
 -- no PDI matches two initiators
 pub match_injective : (cs : List Class) (i j a : ℕ) → matching_pdi cs i ≡ Some a → matching_pdi cs j ≡ Some a → i ≡ j
 match_injective cs i j a e e' =
-    match_once (opens_at cs) (closes_at cs) (length cs) i j a (isolates_exclude cs) (matching_pdi_opens cs i a e) (matching_pdi_opens cs j a e') (matching_pdi_before cs i a e) (matching_pdi_before cs j a e')
+    match_once (opens_at cs) (closes_at cs) (length cs) i j a (isolates_exclude cs) (matching_pdi_opens cs i a e)
+    (matching_pdi_opens cs j a e') (matching_pdi_before cs i a e) (matching_pdi_before cs j a e')
 
 -- the isolate that begins at i contains p, in parts
 pub record IsContained (cs : List Class) (i : ℕ) (p : ℕ) : Type 0 where
@@ -53,9 +58,13 @@ pub holds_nested : (cs : List Class) (i j p : ℕ) → IsContained cs i p → Is
 holds_nested cs i j p hi hj lt = holds_down cs i p j hi lt (omega (arith, hj.after))
 
 -- the isolate that begins later lies within the other one, or the two are apart
-pub nest_or_apart : (cs : List Class) (outer inner : ℕ) → outer < inner → IsWithin cs inner outer ⊎ AreApart cs inner outer
+pub nest_or_apart : (cs : List Class) (outer inner : ℕ) → outer < inner → IsWithin cs inner outer ⊎
+    AreApart cs inner outer
 nest_or_apart cs outer inner lt =
     elim (cases_Bool (isolate_holds cs outer inner)) [
-      | inl t ↦ inl (λ p h. holds_from cs outer p (holds_through cs outer inner p (contained cs outer inner t) (contained cs inner p h)))
-      | inr f ↦ inr (λ p h h'. false≢true (sym f ∙ holds_from cs outer inner (holds_nested cs outer inner p (contained cs outer p h') (contained cs inner p h) lt)))
+      | inl t ↦ inl (λ p h.
+          holds_from cs outer p (holds_through cs outer inner p (contained cs outer inner t) (contained cs inner p h)))
+      | inr f ↦ inr (λ p h h'.
+          false≢true (sym f ∙ holds_from cs outer inner (holds_nested cs outer inner p (contained cs outer p h')
+          (contained cs inner p h) lt)))
     ]

@@ -30,42 +30,70 @@ does_closing : (o c : ℕ → Bool) (k : ℕ) → o k ≡ false → c k ≡ true
 does_closing o c k ok ck = record { opens_is = ap bit ok; closes_is = ap bit ck }
 
 -- whether the counts agree at k, from an open position on
-pub unlevel_at_other : (o c : ℕ → Bool) (k m : ℕ) (s : ℕ → ℕ) → IsStack o c k m s → o k ≡ false → c k ≡ false → (a : ℕ) → a < m → as_many o c (s a) k ≡ false
-unlevel_at_other o c k m s stack ok ck a h = let d = does_other o c k ok ck in open_unlevel o c k (m - a) (m - a - 1) (s a) (stack.before a h) (stack.still a h) (omega (arith, d.opens_is, d.closes_is))
+pub unlevel_at_other : (o c : ℕ → Bool) (k m : ℕ) (s : ℕ → ℕ) → IsStack o c k m s → o k ≡ false → c k ≡ false →
+    (a : ℕ) → a < m → as_many o c (s a) k ≡ false
+unlevel_at_other o c k m s stack ok ck a h = let d = does_other o c k ok ck in
+    open_unlevel o c k (m - a) (m - a - 1) (s a) (stack.before a h) (stack.still a h) (omega (
+      arith,
+      d.opens_is,
+      d.closes_is,
+    ))
 
-pub unlevel_at_opening : (o c : ℕ → Bool) (k m : ℕ) (s : ℕ → ℕ) → IsStack o c k m s → o k ≡ true → c k ≡ false → (a : ℕ) → a < m → as_many o c (s a) k ≡ false
-unlevel_at_opening o c k m s stack ok ck a h = let d = does_opening o c k ok ck in open_unlevel o c k (m - a) (m - a) (s a) (stack.before a h) (stack.still a h) (omega (arith, d.opens_is, d.closes_is))
+pub unlevel_at_opening : (o c : ℕ → Bool) (k m : ℕ) (s : ℕ → ℕ) → IsStack o c k m s → o k ≡ true → c k ≡ false →
+    (a : ℕ) → a < m → as_many o c (s a) k ≡ false
+unlevel_at_opening o c k m s stack ok ck a h = let d = does_opening o c k ok ck in
+    open_unlevel o c k (m - a) (m - a) (s a) (stack.before a h) (stack.still a h) (omega (
+      arith,
+      d.opens_is,
+      d.closes_is,
+    ))
 
-pub unlevel_at_closing : (o c : ℕ → Bool) (k n : ℕ) (s : ℕ → ℕ) → IsStack o c k (suc n) s → o k ≡ false → c k ≡ true → (a : ℕ) → a < n → as_many o c (s a) k ≡ false
-unlevel_at_closing o c k n s stack ok ck a h = let d = does_closing o c k ok ck in open_unlevel o c k (suc n - a) (n - a - 1) (s a) (stack.before a (omega arith)) (stack.still a (omega arith)) (omega (arith, d.opens_is, d.closes_is))
+pub unlevel_at_closing : (o c : ℕ → Bool) (k n : ℕ) (s : ℕ → ℕ) → IsStack o c k (suc n) s → o k ≡ false → c k ≡ true →
+    (a : ℕ) → a < n → as_many o c (s a) k ≡ false
+unlevel_at_closing o c k n s stack ok ck a h = let d = does_closing o c k ok ck in
+    open_unlevel o c k (suc n - a) (n - a - 1) (s a) (stack.before a (omega arith)) (stack.still a (omega arith))
+    (omega (arith, d.opens_is, d.closes_is))
 
 -- an open position as the position moves on, with n more
-still_next : (o c : ℕ → Bool) (k m n n' q : ℕ) → q < k → IsOpenAt o c k m q → bit (o k) + m ≡ bit (c k) + n → n ≡ suc n' → IsOpenAt o c (k + 1) n q
+still_next : (o c : ℕ → Bool) (k m n n' q : ℕ) → q < k → IsOpenAt o c k m q → bit (o k) + m ≡ bit (c k) + n →
+    n ≡ suc n' → IsOpenAt o c (k + 1) n q
 still_next o c k m n n' q lt h e some =
     let next : k + 1 ≡ suc k = omega arith in
     rw (next, some) (open_next o c k m n' q lt h (rw some at e))
 
 -- a position that neither opens nor closes leaves the stack unchanged
-pub stack_stays : (o c : ℕ → Bool) (k m : ℕ) (s : ℕ → ℕ) → IsStack o c k m s → o k ≡ false → c k ≡ false → IsStack o c (k + 1) m s
+pub stack_stays : (o c : ℕ → Bool) (k m : ℕ) (s : ℕ → ℕ) → IsStack o c k m s → o k ≡ false → c k ≡ false →
+    IsStack o c (k + 1) m s
 stack_stays o c k m s stack ok ck = record {
   before = λ a h. let b = stack.before a h in omega arith;
   opener = stack.opener;
-  still = λ a h. let d = does_other o c k ok ck in still_next o c k (m - a) (m - a) (m - a - 1) (s a) (stack.before a h) (stack.still a h) (omega (arith, d.opens_is, d.closes_is)) (omega arith);
+  still = λ a h. let d = does_other o c k ok ck in
+      still_next o c k (m - a) (m - a) (m - a - 1) (s a) (stack.before a h) (stack.still a h) (omega (
+        arith,
+        d.opens_is,
+        d.closes_is,
+      )) (omega arith);
   complete = λ i h opener none.
       elim (cases_eq i k) [
         | inl here ↦ absurd (true≢false (sym opener ∙ ap o here ∙ ok))
-        | inr lower ↦ let b : i < k = omega arith in stack.complete i b opener (unmatched_before o c k (k + 1) i (omega arith) none)
+        | inr lower ↦ let b : i < k = omega arith in
+            stack.complete i b opener (unmatched_before o c k (k + 1) i (omega arith) none)
       ];
 }
 
 -- one that opens is pushed
-pub stack_push : (o c : ℕ → Bool) (k m : ℕ) (s s' : ℕ → ℕ) → IsStack o c k m s → o k ≡ true → c k ≡ false → ((a : ℕ) → a < m → s' a ≡ s a) → s' m ≡ k → IsStack o c (k + 1) (m + 1) s'
+pub stack_push : (o c : ℕ → Bool) (k m : ℕ) (s s' : ℕ → ℕ) → IsStack o c k m s → o k ≡ true → c k ≡ false →
+    ((a : ℕ) → a < m → s' a ≡ s a) → s' m ≡ k → IsStack o c (k + 1) (m + 1) s'
 stack_push o c k m s s' stack ok ck agree top = record {
   before = λ a h. elim (cases_eq a m) [
     | inl e ↦ let e' : s' a ≡ k = rw e top in omega arith
     | inr ne ↦ let lt : a < m = omega arith in let b = stack.before a lt in let e' = agree a lt in omega arith
   ];
-  opener = λ a h. elim (cases_eq a m) [ inl e ↦ rw (e, top) ok | inr ne ↦ let lt : a < m = omega arith in rw (agree a lt) (stack.opener a lt) ];
+  opener = λ a h. elim (cases_eq a m) [
+    | inl e ↦ rw (e, top) ok
+    | inr ne ↦ let lt : a < m = omega arith in
+        rw (agree a lt) (stack.opener a lt)
+  ];
   still = λ a h. elim (cases_eq a m) [
     | inl e ↦
         let next : k + 1 ≡ suc k = omega arith in
@@ -74,7 +102,8 @@ stack_push o c k m s s' stack ok ck agree top = record {
     | inr ne ↦
         let lt : a < m = omega arith in
         let d = does_opening o c k ok ck in
-        rw (agree a lt) (still_next o c k (m - a) (m + 1 - a) (m - a) (s a) (stack.before a lt) (stack.still a lt) (omega (arith, d.opens_is, d.closes_is)) (omega arith))
+        rw (agree a lt) (still_next o c k (m - a) (m + 1 - a) (m - a) (s a) (stack.before a lt) (stack.still a lt)
+        (omega (arith, d.opens_is, d.closes_is)) (omega arith))
   ];
   complete = λ i h opener none.
       elim (cases_eq i k) [
@@ -87,19 +116,27 @@ stack_push o c k m s s' stack ok ck agree top = record {
 }
 
 -- one that closes matches the top
-pub top_is_closed : (o c : ℕ → Bool) (k n : ℕ) (s : ℕ → ℕ) → IsStack o c k (suc n) s → o k ≡ false → c k ≡ true → match_of o c (k + 1) (s n) ≡ Some k
+pub top_is_closed : (o c : ℕ → Bool) (k n : ℕ) (s : ℕ → ℕ) → IsStack o c k (suc n) s → o k ≡ false → c k ≡ true →
+    match_of o c (k + 1) (s n) ≡ Some k
 top_is_closed o c k n s stack ok ck =
     let lt : n < suc n = omega arith in
     let next : k + 1 ≡ suc k = omega arith in
     let d = does_closing o c k ok ck in
-    rw next (open_closed o c k (suc n - n) (s n) (stack.before n lt) (stack.still n lt) (omega (arith, d.opens_is, d.closes_is)))
+    rw next (open_closed o c k (suc n - n) (s n) (stack.before n lt) (stack.still n lt) (omega (
+      arith,
+      d.opens_is,
+      d.closes_is,
+    )))
 
 -- and pops it
-pub stack_pop : (o c : ℕ → Bool) (k n : ℕ) (s : ℕ → ℕ) → IsStack o c k (suc n) s → o k ≡ false → c k ≡ true → IsStack o c (k + 1) n s
+pub stack_pop : (o c : ℕ → Bool) (k n : ℕ) (s : ℕ → ℕ) → IsStack o c k (suc n) s → o k ≡ false → c k ≡ true →
+    IsStack o c (k + 1) n s
 stack_pop o c k n s stack ok ck = record {
   before = λ a h. let b = stack.before a (omega arith) in omega arith;
   opener = λ a h. stack.opener a (omega arith);
-  still = λ a h. let d = does_closing o c k ok ck in still_next o c k (suc n - a) (n - a) (n - a - 1) (s a) (stack.before a (omega arith)) (stack.still a (omega arith)) (omega (arith, d.opens_is, d.closes_is)) (omega arith);
+  still = λ a h. let d = does_closing o c k ok ck in
+      still_next o c k (suc n - a) (n - a) (n - a - 1) (s a) (stack.before a (omega arith))
+      (stack.still a (omega arith)) (omega (arith, d.opens_is, d.closes_is)) (omega arith);
   complete = λ i h opener none.
       elim (cases_eq i k) [
         | inl here ↦ absurd (true≢false (sym opener ∙ ap o here ∙ ok))

@@ -13,18 +13,22 @@ pub cleared_none : (from : ℕ) (partners : List (Option ℕ)) → without_partn
 cleared_none from partners = stretched_none (λ _. None) from partners
 
 -- one position more
-pub cleared_next : (from p : ℕ) (partners : List (Option ℕ)) → from ≤ p → set (without_partners from p partners) p None ≡ without_partners from (p + 1) partners
+pub cleared_next : (from p : ℕ) (partners : List (Option ℕ)) → from ≤ p →
+    set (without_partners from p partners) p None ≡ without_partners from (p + 1) partners
 cleared_next from p partners low = stretched_next (λ _. None) from p partners low
 
 -- and many more
-pub cleared_further : (from p end : ℕ) (partners : List (Option ℕ)) → from ≤ p → p ≤ end → without_partners p end (without_partners from p partners) ≡ without_partners from end partners
+pub cleared_further : (from p end : ℕ) (partners : List (Option ℕ)) → from ≤ p → p ≤ end →
+    without_partners p end (without_partners from p partners) ≡ without_partners from end partners
 cleared_further from p end partners low high = stretched_further (λ _. None) from p end partners low high
 
-pub cleared_length : (from end : ℕ) (partners : List (Option ℕ)) → length (without_partners from end partners) ≡ length partners
+pub cleared_length : (from end : ℕ) (partners : List (Option ℕ)) →
+    length (without_partners from end partners) ≡ length partners
 cleared_length from end partners = stretched_length (λ _. None) from end partners
 
 -- no isolate begins or ends at either stretch
-pub no_formatting_both : (cs : List Class) (from p end : ℕ) → HasNoFormatting cs from p → HasNoFormatting cs p end → HasNoFormatting cs from end
+pub no_formatting_both : (cs : List Class) (from p end : ℕ) → HasNoFormatting cs from p → HasNoFormatting cs p end →
+    HasNoFormatting cs from end
 no_formatting_both cs from p end one other q low high = elim (cases_lt q p) [
   | inl before ↦ one q low before
   | inr following ↦ other q following high
@@ -38,7 +42,9 @@ none_of_four false false false true h = absurd (cc)
 none_of_four false false false false h = (refl, refl, refl, refl)
 
 -- nor at a position and the three after it
-pub no_formatting_four : (cs : List Class) (k : ℕ) (a b c d : Bool) → a ≡ is_isolate_formatting (class_at cs k) → b ≡ is_isolate_formatting (class_at cs (k + 1)) → c ≡ is_isolate_formatting (class_at cs (k + 2)) → d ≡ is_isolate_formatting (class_at cs (k + 3)) →
+pub no_formatting_four : (cs : List Class) (k : ℕ) (a b c d : Bool) → a ≡ is_isolate_formatting (class_at cs k) →
+    b ≡ is_isolate_formatting (class_at cs (k + 1)) → c ≡ is_isolate_formatting (class_at cs (k + 2)) →
+    d ≡ is_isolate_formatting (class_at cs (k + 3)) →
     (((a || b) || c) || d) ≡ false → HasNoFormatting cs k (k + 4)
 no_formatting_four cs k a b c d at0 at1 at2 at3 h q low high =
     let none = none_of_four a b c d h in
@@ -55,7 +61,8 @@ no_formatting_four cs k a b c d at0 at1 at2 at3 h q low high =
     ]
 
 -- the positions that are skipped four at a time
-pub passed_by_fours : (wanted : Bool) (cs : List Class) (from end : ℕ) → HasNoFormatting cs from end → (wanted ≡ true → end ≡ from) → ArePassed wanted cs from end
+pub passed_by_fours : (wanted : Bool) (cs : List Class) (from end : ℕ) → HasNoFormatting cs from end →
+    (wanted ≡ true → end ≡ from) → ArePassed wanted cs from end
 passed_by_fours true cs from end none seeks p low high = let e = seeks refl in absurd (omega arith)
 passed_by_fours false cs from end none seeks p low high = rw (none p low high) refl
 
@@ -77,16 +84,25 @@ no_stop wanted c h =
     record { initiator_is = parts.0; pdi_is = parts.1; strong_is = parts.2 }
 
 -- after the skipped positions
-pub filling_passed : (cs : List Class) (wanted : Bool) (from end depth room : ℕ) (partners : List (Option ℕ)) (openers : List ℕ) → IsFilling cs from depth room partners openers → ArePassed wanted cs from end → end ≤ length cs → (n : ℕ) → from + n ≤ end → IsFilling cs (from + n) depth room (without_partners from (from + n) partners) openers
+pub filling_passed : (cs : List Class) (wanted : Bool) (from end depth room : ℕ) (partners : List (Option ℕ))
+    (openers : List ℕ) → IsFilling cs from depth room partners openers → ArePassed wanted cs from end →
+    end ≤ length cs → (n : ℕ) → from + n ≤ end →
+    IsFilling cs (from + n) depth room (without_partners from (from + n) partners) openers
 filling_passed cs wanted from end depth room partners openers now passed inside zero h =
     let e : from + 0 ≡ from = omega arith in
     rw (e, cleared_none from partners) now
 filling_passed cs wanted from end depth room partners openers now passed inside (suc n) h =
     let e : from + suc n ≡ from + n + 1 = omega arith in
     let no = no_stop wanted (class_at cs (from + n)) (passed (from + n) (omega arith) (omega arith)) in
-    rw (e, sym (cleared_next from (from + n) partners (omega arith))) (filling_other cs (from + n) depth room (without_partners from (from + n) partners) openers (filling_passed cs wanted from end depth room partners openers now passed inside n (omega arith)) (omega arith) no.initiator_is no.pdi_is)
+    rw (e, sym (cleared_next from (from + n) partners (omega arith)))
+    (filling_other cs (from + n) depth room (without_partners from (from + n) partners) openers
+    (filling_passed cs wanted from end depth room partners openers now passed inside n (omega arith))
+    (omega arith) no.initiator_is no.pdi_is)
 
-pub filling_passed_all : (cs : List Class) (wanted : Bool) (from end depth room : ℕ) (partners : List (Option ℕ)) (openers : List ℕ) → IsFilling cs from depth room partners openers → ArePassed wanted cs from end → end ≤ length cs → from ≤ end → IsFilling cs end depth room (without_partners from end partners) openers
+pub filling_passed_all : (cs : List Class) (wanted : Bool) (from end depth room : ℕ) (partners : List (Option ℕ))
+    (openers : List ℕ) → IsFilling cs from depth room partners openers → ArePassed wanted cs from end →
+    end ≤ length cs → from ≤ end → IsFilling cs end depth room (without_partners from end partners) openers
 filling_passed_all cs wanted from end depth room partners openers now passed inside low =
     let whole : from + (end - from) ≡ end = omega arith in
-    rw whole at (filling_passed cs wanted from end depth room partners openers now passed inside (end - from) (omega arith))
+    rw whole at (filling_passed cs wanted from end depth room partners openers now passed inside (end - from)
+    (omega arith))

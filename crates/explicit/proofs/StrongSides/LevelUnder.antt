@@ -18,11 +18,13 @@ by_side : (cs : List Class) (o : Option ℕ) → level_by_side (side_at cs o) 0 
 by_side cs None = refl
 by_side cs (Some p) = level_of_side (is_right_to_left (class_at cs p)) 0
 
-by_side_or_one : (cs : List Class) (o : Option ℕ) → level_by_side (side_at cs o) 1 ≡ cond (is_none o || begins_right_to_left cs o) 1 0
+by_side_or_one : (cs : List Class) (o : Option ℕ) →
+    level_by_side (side_at cs o) 1 ≡ cond (is_none o || begins_right_to_left cs o) 1 0
 by_side_or_one cs None = refl
 by_side_or_one cs (Some p) = level_of_side (is_right_to_left (class_at cs p)) 1
 
-pub level_under-is : (cs : List Class) (direction : Direction) → level_under direction (side_at cs (first_strong cs None)) ≡ para_level_of cs direction
+pub level_under-is : (cs : List Class) (direction : Direction) →
+    level_under direction (side_at cs (first_strong cs None)) ≡ para_level_of cs direction
 unfolding para_level_of
 level_under-is cs Auto = by_side cs (first_strong cs None)
 level_under-is cs Ltr = refl

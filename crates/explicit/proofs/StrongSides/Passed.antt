@@ -44,41 +44,70 @@ not_wanted : (wanted : Bool) (c : Class) → (wanted && is_strong c) ≡ false �
 not_wanted false c h strong = refl
 not_wanted true c h strong = absurd (cc)
 
-pub noted_passed : (cs : List Class) (wanted : Bool) (from end depth room : ℕ) (partners : List (Option ℕ)) (openers : List ℕ) (sides : List Side) (outside : Side) → IsFilling cs from depth room partners openers → ArePassed wanted cs from end → end ≤ length cs → length sides ≡ room → (wanted ≡ false → IsSearched depth (λ a. get_or openers a 0) sides outside) → AreNoted cs from sides outside → (n : ℕ) → from + n ≤ end → AreNoted cs (from + n) sides outside
-noted_passed cs wanted from end depth room partners openers sides outside now passed inside fit found noted' zero h = let e : from + 0 ≡ from = omega arith in rw e noted'
+pub noted_passed : (cs : List Class) (wanted : Bool) (from end depth room : ℕ) (partners : List (Option ℕ))
+    (openers : List ℕ) (sides : List Side) (outside : Side) → IsFilling cs from depth room partners openers →
+    ArePassed wanted cs from end → end ≤ length cs → length sides ≡ room →
+    (wanted ≡ false → IsSearched depth (λ a. get_or openers a 0) sides outside) → AreNoted cs from sides outside →
+    (n : ℕ) → from + n ≤ end → AreNoted cs (from + n) sides outside
+noted_passed cs wanted from end depth room partners openers sides outside now passed inside fit found noted' zero h =
+    let e : from + 0 ≡ from = omega arith in rw e noted'
 noted_passed cs wanted from end depth room partners openers sides outside now passed inside fit found noted' (suc n) h =
     let e : from + suc n ≡ from + n + 1 = omega arith in
     let class : Class = class_at cs (from + n) in
     let no = no_stop wanted class (passed (from + n) (omega arith) (omega arith)) in
-    let before = noted_passed cs wanted from end depth room partners openers sides outside now passed inside fit found noted' n (omega arith) in
+    let before = noted_passed cs wanted from end depth room partners openers sides outside now passed inside fit found
+    noted' n (omega arith) in
     let filling = filling_passed cs wanted from end depth room partners openers now passed inside n (omega arith) in
     let enough = filling.enough in
     rw e (elim (cases_Bool (is_strong class)) [
       | inl strong ↦
           let known = found (not_wanted wanted class no.strong_is strong) in
-          noted_strong cs (from + n) depth (λ a. get_or openers a 0) class sides sides outside outside before (omega arith) (omega (arith, enough, fit)) filling.pass.stack refl strong
+          noted_strong cs (from + n) depth (λ a. get_or openers a 0) class sides sides outside outside before
+          (omega arith) (omega (arith, enough, fit)) filling.pass.stack refl strong
           (λ z. (sym (noted_again outside class (known.outside_is z)), refl))
-          (λ d z. (refl, sym (ap (set sides (get_or openers d 0)) (noted_again (get_or sides (get_or openers d 0) Unknown) class (known.inside_is d z)) ∙ set-get_or sides (get_or openers d 0) Unknown)))
+          (λ d z. (
+            refl,
+            sym (ap (set sides (get_or openers d 0))
+                (noted_again (get_or sides (get_or openers d 0) Unknown) class (known.inside_is d z)) ∙
+                set-get_or sides (get_or openers d 0) Unknown),
+          ))
       | inr weak ↦ noted_weak before weak no.initiator_is
     ])
 
-pub noted_passed_all : (cs : List Class) (wanted : Bool) (from end depth room : ℕ) (partners : List (Option ℕ)) (openers : List ℕ) (sides : List Side) (outside : Side) → IsFilling cs from depth room partners openers → ArePassed wanted cs from end → end ≤ length cs → length sides ≡ room → (wanted ≡ false → IsSearched depth (λ a. get_or openers a 0) sides outside) → AreNoted cs from sides outside → from ≤ end → AreNoted cs end sides outside
+pub noted_passed_all : (cs : List Class) (wanted : Bool) (from end depth room : ℕ) (partners : List (Option ℕ))
+    (openers : List ℕ) (sides : List Side) (outside : Side) → IsFilling cs from depth room partners openers →
+    ArePassed wanted cs from end → end ≤ length cs → length sides ≡ room →
+    (wanted ≡ false → IsSearched depth (λ a. get_or openers a 0) sides outside) → AreNoted cs from sides outside →
+    from ≤ end → AreNoted cs end sides outside
 noted_passed_all cs wanted from end depth room partners openers sides outside now passed inside fit found noted' low =
     let whole : from + (end - from) ≡ end = omega arith in
-    rw whole at (noted_passed cs wanted from end depth room partners openers sides outside now passed inside fit found noted' (end - from) (omega arith))
+    rw whole at (noted_passed cs wanted from end depth room partners openers sides outside now passed inside fit found
+    noted' (end - from) (omega arith))
 
 -- a strong class that was noted there is known
-pub strong_is_noted : (depth : ℕ) (s : ℕ → ℕ) (class : Class) (sides new : List Side) (outside found : Side) → (depth ≡ 0 → (found ≡ noted outside class) × (new ≡ sides)) → ((d : ℕ) → depth ≡ d + 1 → (found ≡ outside) × (new ≡ noted_at sides (s d) class)) → ((d : ℕ) → depth ≡ d + 1 → s d < length sides) → IsSearched depth s new found
+pub strong_is_noted : (depth : ℕ) (s : ℕ → ℕ) (class : Class) (sides new : List Side) (outside found : Side) →
+    (depth ≡ 0 → (found ≡ noted outside class) × (new ≡ sides)) →
+    ((d : ℕ) → depth ≡ d + 1 → (found ≡ outside) × (new ≡ noted_at sides (s d) class)) →
+    ((d : ℕ) → depth ≡ d + 1 → s d < length sides) → IsSearched depth s new found
 strong_is_noted depth s class sides new outside found none some within = record {
   outside_is = λ z e. noted_known outside class (sym (none z).0 ∙ e);
-  inside_is = λ d z e. noted_known (get_or sides (s d) Unknown) class (sym (ap (λ (xs : List Side). get_or xs (s d) Unknown) (some d z).1 ∙ get_or-set_same sides (s d) (noted (get_or sides (s d) Unknown) class) Unknown (within d z)) ∙ e);
+  inside_is = λ d z e.
+      noted_known (get_or sides (s d) Unknown) class
+      (sym (ap (λ (xs : List Side). get_or xs (s d) Unknown) (some d z).1 ∙
+      get_or-set_same sides (s d) (noted (get_or sides (s d) Unknown) class) Unknown (within d z)) ∙ e);
 }
 
 -- what is known at the next stop
-pub at_stop : (cs : List Class) (wanted : Bool) (from p depth room : ℕ) (partners : List (Option ℕ)) (openers : List ℕ) (sides : List Side) (outside : Side) → IsFilling cs from depth room partners openers → length sides ≡ room → (wanted ≡ false → IsSearched depth (λ a. get_or openers a 0) sides outside) → AreNoted cs from sides outside → IsNextStop wanted cs from p →
+pub at_stop : (cs : List Class) (wanted : Bool) (from p depth room : ℕ) (partners : List (Option ℕ)) (openers : List ℕ)
+    (sides : List Side) (outside : Side) → IsFilling cs from depth room partners openers → length sides ≡ room →
+    (wanted ≡ false → IsSearched depth (λ a. get_or openers a 0) sides outside) → AreNoted cs from sides outside →
+    IsNextStop wanted cs from p →
     IsFilling cs p depth room (without_partners from p partners) openers × AreNoted cs p sides outside
 at_stop cs wanted from p depth room partners openers sides outside now fit found noted' stop =
     let inside = stop.within in (
       filling_passed_all cs wanted from p depth room partners openers now stop.first (omega (arith, inside)) stop.later,
-      noted_passed_all cs wanted from p depth room partners openers sides outside now stop.first (omega (arith, inside)) fit found noted' stop.later,
+      noted_passed_all cs wanted from p depth room partners openers sides outside now stop.first (omega (
+        arith,
+        inside,
+      )) fit found noted' stop.later,
     )

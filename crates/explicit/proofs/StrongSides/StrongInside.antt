@@ -12,5 +12,6 @@ abbrev pub is_strong_in : List Class → Option ℕ → ℕ → Bool
 is_strong_in cs isolate p = is_strong (class_at cs p) && same_position (isolate_around cs p) isolate
 
 -- a position in another isolate fails it
-pub elsewhere : (cs : List Class) (isolate : Option ℕ) (q : ℕ) → (isolate_around cs q ≡ isolate → ⊥) → is_strong_in cs isolate q ≡ false
+pub elsewhere : (cs : List Class) (isolate : Option ℕ) (q : ℕ) → (isolate_around cs q ≡ isolate → ⊥) →
+    is_strong_in cs isolate q ≡ false
 elsewhere cs isolate q ne = false_from_ne_true _ (λ t. absurd (ne (same_position_true _ _ (and_parts _ _ t).1)))

@@ -14,7 +14,8 @@ pub of_constants-classes-requires : goal.of_constants-classes-requires
 of_constants-classes-requires c = classes-AreStages CLASSES class_stages tested_classes
 
 pub of_constants-brackets-requires-clause-stages : goal.of_constants-brackets-requires-clause-stages
-of_constants-brackets-requires-clause-stages c = brackets-AreStages BRACKETS numbers SPANS bracket_stages tested_brackets
+of_constants-brackets-requires-clause-stages c =
+    brackets-AreStages BRACKETS numbers SPANS bracket_stages tested_brackets
 
 pub of_constants-brackets-requires-clause-spans : goal.of_constants-brackets-requires-clause-spans
 of_constants-brackets-requires-clause-spans c = brackets-IsTableOf BRACKETS numbers SPANS bracket_stages tested_brackets
@@ -24,9 +25,12 @@ of_constants-mirrors-requires c = mirrors-AreStages MIRRORS mirror_stages tested
 
 pub with_neutral_brackets-requires : goal.with_neutral_brackets-requires
 with_neutral_brackets-requires c =
-    AreNeutral-of class_stages bracket_stages tested_neutral c.of_constants-classes.result c.of_constants-brackets.result c.of_constants-classes.ensures c.of_constants-brackets.ensures
+    AreNeutral-of class_stages bracket_stages tested_neutral c.of_constants-classes.result
+    c.of_constants-brackets.result c.of_constants-classes.ensures c.of_constants-brackets.ensures
 
 pub returns : goal.returns
 returns c =
-    StateTables-of class_stages bracket_stages mirror_stages CLASSES BRACKETS MIRRORS tested_tables c.of_constants-classes.result c.of_constants-brackets.result c.of_constants-mirrors.result
-    c.with_neutral_brackets.result c.of_constants-classes.ensures c.of_constants-brackets.ensures c.of_constants-mirrors.ensures c.with_neutral_brackets.ensures
+    StateTables-of class_stages bracket_stages mirror_stages CLASSES BRACKETS MIRRORS tested_tables
+    c.of_constants-classes.result c.of_constants-brackets.result c.of_constants-mirrors.result
+    c.with_neutral_brackets.result c.of_constants-classes.ensures c.of_constants-brackets.ensures
+    c.of_constants-mirrors.ensures c.with_neutral_brackets.ensures

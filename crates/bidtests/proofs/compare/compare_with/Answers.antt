@@ -16,6 +16,8 @@ returns-in-None c =
     let paras : map level_of_para c.para_levels-in-None.result.now ≡ para_levels_of c.args.expected.text.now direction =
     c.para_levels-in-None.ensures ∙ ap (λ (v : TextLayout). v.paras) laid in (
       right,
-      also-right limits (expected_of c.args.expected) direction c.direction_by_level.result (map level_of_para c.para_levels-in-None.result.now) paras c.direction_by_level.ensures.level right,
-      λ one. c.direction_by_level.ensures.one (sym (length-map c.para_levels-in-None.result.now level_of_para) ∙ ap length paras ∙ length-map (paragraphs_of c.args.expected.text.now) _ ∙ one),
+      also-right limits (expected_of c.args.expected) direction c.direction_by_level.result
+          (map level_of_para c.para_levels-in-None.result.now) paras c.direction_by_level.ensures.level right,
+      λ one. c.direction_by_level.ensures.one (sym (length-map c.para_levels-in-None.result.now level_of_para) ∙
+          ap length paras ∙ length-map (paragraphs_of c.args.expected.text.now) _ ∙ one),
     )

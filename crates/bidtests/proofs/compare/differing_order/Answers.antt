@@ -11,13 +11,17 @@ returns-then-at-claimed c =
     let at = c.loop-k.at in
     let remaining = drop at c.args.claimed.now in
     let lines = (view_of c.args.layout.now).lines in
-    let none : flat_map (λ (l : LineLayout). l.order) (drop c.loop-k.k lines) ≡ [] = no-orders lines c.loop-k.k (omega (arith, c.line_count-k-end.ensures)) in
-    difference-longer remaining at (omega (arith, length-drop at c.args.claimed.now)) ∙ sym (c.loop-k.invariant.rest ∙ ap (λ ys. first_difference nat_eq remaining ys at) none)
+    let none : flat_map (λ (l : LineLayout). l.order) (drop c.loop-k.k lines) ≡ [] =
+    no-orders lines c.loop-k.k (omega (arith, c.line_count-k-end.ensures)) in
+    difference-longer remaining at (omega (arith, length-drop at c.args.claimed.now)) ∙
+    sym (c.loop-k.invariant.rest ∙ ap (λ ys. first_difference nat_eq remaining ys at) none)
 
 pub returns-else-at-claimed : goal.returns-else-at-claimed
 returns-else-at-claimed c =
     let at = c.loop-k.at in
     let remaining = drop at c.args.claimed.now in
     let lines = (view_of c.args.layout.now).lines in
-    let none : flat_map (λ (l : LineLayout). l.order) (drop c.loop-k.k lines) ≡ [] = no-orders lines c.loop-k.k (omega (arith, c.line_count-k-end.ensures)) in
-    difference-last remaining at (omega (arith, length-drop at c.args.claimed.now)) ∙ sym (c.loop-k.invariant.rest ∙ ap (λ ys. first_difference nat_eq remaining ys at) none)
+    let none : flat_map (λ (l : LineLayout). l.order) (drop c.loop-k.k lines) ≡ [] =
+    no-orders lines c.loop-k.k (omega (arith, c.line_count-k-end.ensures)) in
+    difference-last remaining at (omega (arith, length-drop at c.args.claimed.now)) ∙
+    sym (c.loop-k.invariant.rest ∙ ap (λ ys. first_difference nat_eq remaining ys at) none)

@@ -9,5 +9,6 @@ abbrev pub invariant-loop-k : goal.invariant-loop-k
 invariant-loop-k l = record {
   within : l.at ≤ length l.claimed;
   rest : first_difference nat_eq l.claimed (all_orders (view_of l.layout)) 0
-      ≡ first_difference nat_eq (drop l.at l.claimed) (flat_map (λ line. line.order) (drop l.k (view_of l.layout).lines)) l.at;
+      ≡ first_difference nat_eq (drop l.at l.claimed)
+      (flat_map (λ line. line.order) (drop l.k (view_of l.layout).lines)) l.at;
 }

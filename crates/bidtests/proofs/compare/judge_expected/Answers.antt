@@ -23,20 +23,31 @@ pub loop-direction-preserved-then-eq : goal.loop-direction-preserved-then-eq
 loop-direction-preserved-then-eq c =
     let d = get_or c.args.expected.directions.now c.loop-direction.direction-index Auto in
     let right : HasNoWrongPlace c.args.limits (expected_of c.args.expected) d =
-    at-equal _ c.loop-direction.right d (HasNoWrongPlace c.args.limits (expected_of c.args.expected)) (λ a b h. search rules) (sym c.eq.ensures ∙ c.if-eq.true) c.loop-direction.invariant.right in
+    at-equal _ c.loop-direction.right d (HasNoWrongPlace c.args.limits (expected_of c.args.expected)) (λ a b h.
+    search rules) (sym c.eq.ensures ∙ c.if-eq.true) c.loop-direction.invariant.right in
     record {
-      rest = c.loop-direction.invariant.rest ∙ passed-over c.args.limits (expected_of c.args.expected) c.args.expected.directions.now c.loop-direction.direction-index Auto c.loop-direction-test.true right;
+      rest = c.loop-direction.invariant.rest ∙
+          passed-over c.args.limits (expected_of c.args.expected) c.args.expected.directions.now
+          c.loop-direction.direction-index Auto c.loop-direction-test.true right;
       right = c.loop-direction.invariant.right;
       room = c.loop-direction.invariant.room;
     }
 
 pub loop-direction-preserved : goal.loop-direction-preserved
 loop-direction-preserved c = record {
-  rest = c.loop-direction.invariant.rest ∙ passed-over c.args.limits (expected_of c.args.expected) c.args.expected.directions.now c.loop-direction.direction-index Auto c.loop-direction-test.true c.in-Agrees.ensures.compares.0;
-  right = rw c.or-right.ensures (of-first c.loop-direction.right c.in-Agrees.also_under _ c.loop-direction.invariant.right c.in-Agrees.ensures.compares.1);
+  rest = c.loop-direction.invariant.rest ∙
+      passed-over c.args.limits (expected_of c.args.expected) c.args.expected.directions.now
+      c.loop-direction.direction-index Auto c.loop-direction-test.true c.in-Agrees.ensures.compares.0;
+  right = rw c.or-right.ensures
+      (of-first c.loop-direction.right c.in-Agrees.also_under _ c.loop-direction.invariant.right
+      c.in-Agrees.ensures.compares.1);
   room = c.compare.ensures.room ∙ c.loop-direction.invariant.room;
 }
 
 pub returns-in-Differs-clause-fault : goal.returns-in-Differs-clause-fault
 returns-in-Differs-clause-fault c =
-    rw (c.loop-direction.invariant.rest, drop-cons c.args.expected.directions.now c.loop-direction.direction-index Auto c.loop-direction-test.true, c.in-Differs.ensures.compares) refl
+    rw (
+      c.loop-direction.invariant.rest,
+      drop-cons c.args.expected.directions.now c.loop-direction.direction-index Auto c.loop-direction-test.true,
+      c.in-Differs.ensures.compares,
+    ) refl

@@ -8,7 +8,8 @@ use Rattle.bidtests.proofs.compare.judge_expected.Given as goal
 
 abbrev pub invariant-loop-direction : goal.invariant-loop-direction
 invariant-loop-direction l = record {
-  rest : wrong_case l.limits (expected_of l.expected) l.expected.directions.now ≡ wrong_case l.limits (expected_of l.expected) (drop l.direction-index l.expected.directions.now);
+  rest : wrong_case l.limits (expected_of l.expected) l.expected.directions.now ≡
+      wrong_case l.limits (expected_of l.expected) (drop l.direction-index l.expected.directions.now);
   right : IfSome l.right (HasNoWrongPlace l.limits (expected_of l.expected));
   room : room_of l.scratch ≡ room_of l.fn.scratch;
 }

@@ -3,4 +3,8 @@ use Rattle.bidtests.proofs.state.judge_last.Goals.{in-Some+in_default-judge_line
 use Rattle.bidtests.proofs.state.judge_last.Goals as goal
 
 pub returns : goal.returns
-returns c = c.yes.ensures ∙ elim c.match-last.branch [ in-Some+in_default-judge_line w ↦ search rules | in_default w ↦ search rules ]
+returns c = c.yes.ensures ∙ elim c.match-last.branch [
+  | in-Some+in_default-judge_line w ↦ search rules
+  | in_default w ↦
+      search rules
+]

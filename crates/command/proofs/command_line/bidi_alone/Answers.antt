@@ -8,4 +8,5 @@ returns c =
     ∙ ap app_of_fields c.long_about.ensures ∙ ap app_of_fields c.about.ensures ∙ c.new.ensures.app in
     let versioned : app_of c.version.result ≡ on_top (λ s. record s { has_version = true }) (new_app (codes "bidi")) =
     ap app_of_fields c.version.ensures ∙ ap (on_top (λ s. record s { has_version = true })) named in
-    ap app_of_fields c.subcommand_required.ensures ∙ ap (on_top (λ s. record s { subcommand_required = true })) versioned
+    ap app_of_fields c.subcommand_required.ensures ∙
+    ap (on_top (λ s. record s { subcommand_required = true })) versioned

@@ -11,7 +11,12 @@ returns c =
     let with_judge = meets c.in_ok-subcommand-4.ensures with_explain c.in_ok-judge_command.ensures refl in
     let with_report = meets c.in_ok-subcommand-5.ensures with_judge c.in_ok-report_command.ensures refl in
     IfOk-weaker c.subcommand-6.result _ _ (λ command h. record {
-      choices = record { directions = c.as_slice-directions.result; kinds = c.as_slice-kinds.result; forms = c.as_slice-forms.result };
+      choices = record {
+        directions = c.as_slice-directions.result;
+        kinds = c.as_slice-kinds.result;
+        forms =
+            c.as_slice-forms.result;
+      };
       directions = ap (map (λ word. word.now)) c.as_slice-directions.ensures;
       kinds = ap (map (λ word. word.now)) c.as_slice-kinds.ensures;
       forms = ap (map (λ word. word.now)) c.as_slice-forms.ensures;

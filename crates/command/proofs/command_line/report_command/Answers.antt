@@ -6,7 +6,8 @@ use Rattle.command.proofs.command_line.report_command.Goals as goal
 
 pub returns : goal.returns
 returns c =
-    let plain : app_of c.override_usage.result ≡ new_app (codes "report") = ap app_of_fields c.override_usage.ensures ∙ ap app_of_fields c.after_help.ensures
+    let plain : app_of c.override_usage.result ≡ new_app (codes "report") = ap app_of_fields c.override_usage.ensures ∙
+    ap app_of_fields c.after_help.ensures
     ∙ ap app_of_fields c.long_about.ensures ∙ ap app_of_fields c.about.ensures ∙ c.new.ensures.app in
     let with_kind = adds c.in_ok-arg.ensures plain c.kind_argument.ensures refl in
     let with_tables = adds c.in_ok-arg-2.ensures with_kind c.tables_argument.ensures refl in

@@ -5,7 +5,8 @@ use Rattle.command.specs.CommandLine.{IsRead, IsReadAs}
 use Rattle.command.specs.declared.invocation.Invocation.{Invocation}
 use Rattle.command.proofs.run.run.Goals as goal
 
-read_so : (words : List (List ℕ)) (read : Result Invocation WordsFault) (invocation : Invocation) → read ≡ Ok invocation → IsReadAs words read → IsRead words invocation
+read_so : (words : List (List ℕ)) (read : Result Invocation WordsFault) (invocation : Invocation) →
+    read ≡ Ok invocation → IsReadAs words read → IsRead words invocation
 read_so words read invocation e h = subst (λ (r : Result Invocation WordsFault). IsReadAs words r) e h
 
 pub returns-clause-no : goal.returns-clause-no

@@ -24,4 +24,5 @@ pub returns : goal.returns
 returns c =
     let found = found_of c.args.matches.now in
     subst (λ (text : Option Text). NumberIs c.args.default text c.unwrap_or.result) (one_text-rows found c.args.id.now)
-    (number-is c.args.default (one_text found c.args.id.now) c.get_one.result c.unwrap_or.result c.get_one.ensures.none c.get_one.ensures.value c.unwrap_or.ensures)
+    (number-is c.args.default (one_text found c.args.id.now) c.get_one.result c.unwrap_or.result c.get_one.ensures.none
+    c.get_one.ensures.value c.unwrap_or.ensures)

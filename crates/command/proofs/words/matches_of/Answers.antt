@@ -30,11 +30,13 @@ pub returns-clause-met : goal.returns-clause-met
 returns-clause-met c =
     let bidi = c.in_ok-command.ensures in
     let app = app_of c.in_ok-command.command in
-    met app (texts c.args.words.now) c.try_get_matches_from_mut.result bidi (c.try_get_matches_from_mut.ensures.kinds (free app bidi))
+    met app (texts c.args.words.now) c.try_get_matches_from_mut.result bidi
+    (c.try_get_matches_from_mut.ensures.kinds (free app bidi))
     (IfOk-weaker c.try_get_matches_from_mut.result _ _ (λ m h. h.2) c.try_get_matches_from_mut.ensures.ok)
 
 pub returns-clause-rejected : goal.returns-clause-rejected
 returns-clause-rejected c =
     let bidi = c.in_ok-command.ensures in
     let app = app_of c.in_ok-command.command in
-    rejected app (texts c.args.words.now) c.try_get_matches_from_mut.result bidi (c.try_get_matches_from_mut.ensures.kinds (free app bidi))
+    rejected app (texts c.args.words.now) c.try_get_matches_from_mut.result bidi
+    (c.try_get_matches_from_mut.ensures.kinds (free app bidi))

@@ -5,4 +5,5 @@ use Rattle.command_tests.proofs.known.judge_a_right_row_of_characters.Goals as g
 pub returns : goal.returns
 returns c = λ ok.
     let files : c.new.result ≡ character_files = search rules in
-    when_ok c.perform.result _ _ (search rules) c.perform.ensures.done (λ outcome done. characters_verdict_done _ c.args.tables c.args.file _ _ outcome files c.requires.tables c.requires.file done)
+    when_ok c.perform.result _ _ (search rules) c.perform.ensures.done (λ outcome done.
+    characters_verdict_done _ c.args.tables c.args.file _ _ outcome files c.requires.tables c.requires.file done)

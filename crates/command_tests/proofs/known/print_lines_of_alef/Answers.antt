@@ -5,4 +5,5 @@ use Rattle.command_tests.proofs.known.print_lines_of_alef.Goals as goal
 pub returns : goal.returns
 returns c = λ ok.
     let files : c.new.result ≡ alef_files = search rules in
-    when_ok c.perform.result _ _ (search rules) c.perform.ensures.done (λ outcome done. line_done _ c.args.tables c.args.file _ _ outcome files c.requires.tables c.requires.file done)
+    when_ok c.perform.result _ _ (search rules) c.perform.ensures.done (λ outcome done.
+    line_done _ c.args.tables c.args.file _ _ outcome files c.requires.tables c.requires.file done)

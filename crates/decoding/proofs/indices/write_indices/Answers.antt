@@ -16,8 +16,10 @@ loop-k-preserved c =
       | then-starts-k w ↦
           let more : l.next < length c.args.breaks.now = omega (arith, i.few, c.if-next-breaks.false) in
           indexed_as _ _ _ _ _ _ _ w.indices-is w.next-is
-          (indexed_more c.args.starts.now c.args.breaks.now l.indices l.next l.k c.requires.starts c.requires.breaks c.loop-k-test.true more (omega (arith, more, c.requires.room, l.auto.indices)) w.if-starts-k.true i)
-      | else-starts-k w ↦ indexed_as _ _ _ _ _ _ _ w.indices-is w.next-is (indexed_past c.args.starts.now c.args.breaks.now l.indices l.next l.k w.if-starts-k.false i)
+          (indexed_more c.args.starts.now c.args.breaks.now l.indices l.next l.k c.requires.starts c.requires.breaks
+          c.loop-k-test.true more (omega (arith, more, c.requires.room, l.auto.indices)) w.if-starts-k.true i)
+      | else-starts-k w ↦ indexed_as _ _ _ _ _ _ _ w.indices-is w.next-is
+          (indexed_past c.args.starts.now c.args.breaks.now l.indices l.next l.k w.if-starts-k.false i)
     ]
 
 pub returns-then-next-breaks-2-clause-between : goal.returns-then-next-breaks-2-clause-between
@@ -26,17 +28,27 @@ returns-then-next-breaks-2-clause-between c =
     record {
       inside = c.if-next-breaks-2.true;
       between = λ k lt. l.invariant.passed k (omega (arith, lt, c.loop-k-test.false)) c.if-next-breaks-2.true;
-      earlier = begins_earlier c.args.starts.now c.args.breaks.now l.indices l.next l.k (omega (arith, l.invariant.few, c.requires.room, l.auto.indices)) l.invariant;
+      earlier = begins_earlier c.args.starts.now c.args.breaks.now l.indices l.next l.k (omega (
+        arith,
+        l.invariant.few,
+        c.requires.room,
+        l.auto.indices,
+      )) l.invariant;
     }
 
 pub returns-clause-found : goal.returns-clause-found
 returns-clause-found c =
     let i = c.loop-k.invariant in
     let all = c.if-next-breaks-2.false in
-    ap (λ n. map (slice_index c.args.starts.now) (take n c.loop-k.indices)) (omega (arith, i.few, all)) ∙ i.found ∙ take_all c.loop-k.next c.args.breaks.now all
+    ap (λ n. map (slice_index c.args.starts.now) (take n c.loop-k.indices)) (omega (arith, i.few, all)) ∙ i.found ∙
+    take_all c.loop-k.next c.args.breaks.now all
 
 pub returns-clause-inside : goal.returns-clause-inside
 returns-clause-inside c =
     let i = c.loop-k.invariant in
     let all = c.if-next-breaks-2.false in
-    subst (λ n. All (λ (j : ℕ). j < length c.args.starts.now) (take n c.loop-k.indices)) (omega (arith, i.few, all)) i.inside
+    subst (λ n. All (λ (j : ℕ). j < length c.args.starts.now) (take n c.loop-k.indices)) (omega (
+      arith,
+      i.few,
+      all,
+    )) i.inside

@@ -19,7 +19,14 @@ unwrap-requires c =
     let a = c.args in
     let code = (c.from.result * 64 + c.from-2.result) * 4096 + (c.from-3.result * 64 + c.from-4.result) in
     let is = code_of_four a.x a.y a.z a.w c.requires.0 c.requires.1 in
-    let same : c.requires.0 ≡ code = omega (arith, is.4, c.from.ensures, c.from-2.ensures, c.from-3.ensures, c.from-4.ensures) in
+    let same : c.requires.0 ≡ code = omega (
+      arith,
+      is.4,
+      c.from.ensures,
+      c.from-2.ensures,
+      c.from-3.ensures,
+      c.from-4.ensures,
+    ) in
     is_some c.from_u32.result code c.requires.0 c.from_u32.ensures.value same c.requires.1.scalar
 
 pub returns : goal.returns
@@ -27,5 +34,13 @@ returns c =
     let a = c.args in
     let code = (c.from.result * 64 + c.from-2.result) * 4096 + (c.from-3.result * 64 + c.from-4.result) in
     let is = code_of_four a.x a.y a.z a.w c.requires.0 c.requires.1 in
-    let same : c.requires.0 ≡ code = omega (arith, is.4, c.from.ensures, c.from-2.ensures, c.from-3.ensures, c.from-4.ensures) in
-    is_of c.from_u32.result code c.requires.0 c.unwrap.result (a.x ∷ a.y ∷ a.z ∷ a.w ∷ []) c.from_u32.ensures.value c.unwrap.ensures same c.requires.1
+    let same : c.requires.0 ≡ code = omega (
+      arith,
+      is.4,
+      c.from.ensures,
+      c.from-2.ensures,
+      c.from-3.ensures,
+      c.from-4.ensures,
+    ) in
+    is_of c.from_u32.result code c.requires.0 c.unwrap.result (a.x ∷ a.y ∷ a.z ∷ a.w ∷ []) c.from_u32.ensures.value
+    c.unwrap.ensures same c.requires.1

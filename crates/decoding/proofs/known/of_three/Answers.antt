@@ -25,4 +25,5 @@ returns c =
     let code = (c.from.result * 64 + c.from-2.result) * 64 + c.from-3.result in
     let is = code_of_three a.x a.y a.z c.requires.0 c.requires.1 in
     let same : c.requires.0 ≡ code = omega (arith, is.3, c.from.ensures, c.from-2.ensures, c.from-3.ensures) in
-    is_of c.from_u32.result code c.requires.0 c.unwrap.result (a.x ∷ a.y ∷ a.z ∷ []) c.from_u32.ensures.value c.unwrap.ensures same c.requires.1
+    is_of c.from_u32.result code c.requires.0 c.unwrap.result (a.x ∷ a.y ∷ a.z ∷ []) c.from_u32.ensures.value
+    c.unwrap.ensures same c.requires.1

@@ -14,4 +14,5 @@ returns c =
     let code = c.from.result * 64 + c.from-2.result in
     let is = code_of_two a.x a.y c.requires.0 c.requires.1 in
     let same : c.requires.0 ≡ code = omega (arith, is.2, c.from.ensures, c.from-2.ensures) in
-    is_of c.from_u32.result code c.requires.0 c.unwrap.result (a.x ∷ a.y ∷ []) c.from_u32.ensures.value c.unwrap.ensures same c.requires.1
+    is_of c.from_u32.result code c.requires.0 c.unwrap.result (a.x ∷ a.y ∷ []) c.from_u32.ensures.value c.unwrap.ensures
+    same c.requires.1

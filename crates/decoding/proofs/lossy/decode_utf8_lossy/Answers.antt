@@ -28,7 +28,8 @@ pub returns-clause-decoded : goal.returns-clause-decoded
 returns-clause-decoded c =
     let l = c.loop-reached in
     let read = l.invariant.read in
-    let text = read_whole c.args.tables.now c.args.bytes.now read.0 l.reached l.units l.starts c.loop-reached-test.false read.1 in
+    let text = read_whole c.args.tables.now c.args.bytes.now read.0 l.reached l.units l.starts c.loop-reached-test.false
+    read.1 in
     decoded_whole c.args.tables.now _ l.reached l.units l.starts
     (omega (arith, l.invariant.few, l.invariant.inside, l.auto.starts, c.requires.starts))
     (subst (λ (xs : List Spelled). IsWritten c.args.tables.now xs l.reached l.units l.starts) (sym text) read.1.written)
@@ -37,5 +38,6 @@ pub returns-clause-whole : goal.returns-clause-whole
 returns-clause-whole c =
     let l = c.loop-reached in
     let read = l.invariant.read in
-    let text = read_whole c.args.tables.now c.args.bytes.now read.0 l.reached l.units l.starts c.loop-reached-test.false read.1 in
+    let text = read_whole c.args.tables.now c.args.bytes.now read.0 l.reached l.units l.starts c.loop-reached-test.false
+    read.1 in
     ap code_units text ∙ sym read.1.written.code_units ∙ omega (arith, l.invariant.inside, c.loop-reached-test.false)

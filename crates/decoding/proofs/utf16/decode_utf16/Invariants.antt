@@ -9,7 +9,11 @@ abbrev pub invariant-loop-at : goal.invariant-loop-at
 invariant-loop-at l =
     record {
       reached : IsAt l.text l.count l.at;
-      written : IsWritten l.tables (take l.count (utf16_text l.text)) (record { characters = l.count; code_units = l.at }) l.units l.starts;
+      written : IsWritten l.tables (take l.count (utf16_text l.text)) (record {
+        characters = l.count;
+        code_units =
+            l.at;
+      }) l.units l.starts;
       paired : l.fn.faults ≡ Rejected → (k : ℕ) → k < l.count → IsPaired l.text k;
     }
 

@@ -10,7 +10,11 @@ invariant-loop-at l =
       few : l.count ≤ l.at;
       inside : l.at ≤ length l.bytes;
       front : IsUtf8 (take l.at l.bytes);
-      written : IsWritten l.tables (utf8_text (take l.at l.bytes)) (record { characters = l.count; code_units = l.at }) l.units l.starts;
+      written : IsWritten l.tables (utf8_text (take l.at l.bytes)) (record {
+        characters = l.count;
+        code_units =
+            l.at;
+      }) l.units l.starts;
     }
 
 abbrev pub decreases-loop-at : goal.decreases-loop-at

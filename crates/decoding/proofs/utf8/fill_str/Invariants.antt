@@ -10,5 +10,9 @@ invariant-loop-c l =
       characters : l.characters ≡ l.fn.before.characters + length l.yielded;
       code_units : l.code_units ≡ l.fn.before.code_units + offset_of (utf8_text l.text) (length l.yielded);
       written : (front : List Spelled) → IsWritten l.tables front l.fn.before l.fn.units l.fn.starts
-          → IsWritten l.tables (front ++ take (length l.yielded) (utf8_text l.text)) (record { characters = l.characters; code_units = l.code_units }) l.units l.starts;
+          → IsWritten l.tables (front ++ take (length l.yielded) (utf8_text l.text)) (record {
+            characters =
+                l.characters;
+            code_units = l.code_units;
+          }) l.units l.starts;
     }

@@ -4,4 +4,6 @@ use Rattle.explain.proofs.foot.print_order.Goals as goal
 
 pub loop-position-preserved : goal.loop-position-preserved
 loop-position-preserved g c =
-    one_more_passed _ _ _ _ _ _ _ _ (drop_more c.args.order.now c.loop-position.position-index 0 c.loop-position-test.true) c.loop-position.invariant c.in_ok-write-2.ensures.bytes
+    one_more_passed _ _ _ _ _ _ _ _
+    (drop_more c.args.order.now c.loop-position.position-index 0 c.loop-position-test.true)
+    c.loop-position.invariant c.in_ok-write-2.ensures.bytes

@@ -5,4 +5,5 @@ use Rattle.explain.proofs.foot.print_positions.Given as goal
 
 abbrev pub invariant-loop-position : goal.invariant-loop-position
 invariant-loop-position g l =
-    HasPrintedUpTo (g.W.Write.contents l.initial.w) (g.W.Write.contents l.w) (λ p. listed_text (l.start + p)) l.positions (drop l.position-index l.positions)
+    HasPrintedUpTo (g.W.Write.contents l.initial.w) (g.W.Write.contents l.w) (λ p.
+    listed_text (l.start + p)) l.positions (drop l.position-index l.positions)

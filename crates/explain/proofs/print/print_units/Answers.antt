@@ -6,11 +6,17 @@ use Rattle.explain.proofs.print.print_units.Goals as goal
 
 pub loop-number-init : goal.loop-number-init
 loop-number-init g c =
-    rw (c.into_iter-number-iterator.ensures.into_iter_gives, c.enumerate-number-items.ensures.source, c.enumerate-number-items.ensures.count, c.paragraphs.ensures.pieces)
+    rw (
+      c.into_iter-number-iterator.ensures.into_iter_gives,
+      c.enumerate-number-items.ensures.source,
+      c.enumerate-number-items.ensures.count,
+      c.paragraphs.ensures.pieces,
+    )
     (nothing_explained _ c.args.text.now _)
 
 pub explain_paragraph-requires-clause-separators : goal.explain_paragraph-requires-clause-separators
-explain_paragraph-requires-clause-separators g c = (next_paragraph _ _ _ _ _ _ _ _ _ c.in-Some.ensures.steps.0 c.loop-number.invariant).only_last
+explain_paragraph-requires-clause-separators g c =
+    (next_paragraph _ _ _ _ _ _ _ _ _ c.in-Some.ensures.steps.0 c.loop-number.invariant).only_last
 
 pub explain_paragraph-requires-clause-start : goal.explain_paragraph-requires-clause-start
 explain_paragraph-requires-clause-start g c =

@@ -6,5 +6,6 @@ use Rattle.explain.proofs.print.print_units.Given as goal
 
 abbrev pub invariant-loop-number : goal.invariant-loop-number
 invariant-loop-number g l =
-    HasExplained (g.W.Write.contents l.initial.w) (g.W.Write.contents l.w) (explained_paragraph l.chars l.direction (paragraphs_of l.text)) l.text
+    HasExplained (g.W.Write.contents l.initial.w) (g.W.Write.contents l.w)
+    (explained_paragraph l.chars l.direction (paragraphs_of l.text)) l.text
     (enumerate_source l.number-iterator) (enumerate_count l.number-iterator) l.start

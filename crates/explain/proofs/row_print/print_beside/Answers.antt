@@ -12,5 +12,7 @@ returns-clause-text g c =
     let text = c.args.expected.text.now in
     let d = c.args.direction in
     let laid : view_of c.layout.result ≡ layout_of standard text d [] = search rules in
-    subst (λ (layout : TextLayout). OnOk c.print_expected.result (Appends (g.W.Write.contents c.args.w.now) (g.W.Write.contents c.print_expected.new.w) (expected_text (expected_of c.args.expected) layout)))
+    subst (λ (layout : TextLayout).
+    OnOk c.print_expected.result (Appends (g.W.Write.contents c.args.w.now)
+    (g.W.Write.contents c.print_expected.new.w) (expected_text (expected_of c.args.expected) layout)))
     laid c.print_expected.ensures

@@ -13,10 +13,12 @@ pub returns-clause-text : goal.returns-clause-text
 returns-clause-text g c =
     let d = c.args.direction in
     let is = c.expected-expected.ensures.expected in
-    let units = Appends-to _ _ _ _ (ap₂ (λ (chars : List ℕ) (text : List BidiUnit). explained_units chars text d) c.chars.ensures (ap (λ (expected : Expected). expected.text) is))
+    let units = Appends-to _ _ _ _ (ap₂ (λ (chars : List ℕ) (text : List BidiUnit).
+    explained_units chars text d) c.chars.ensures (ap (λ (expected : Expected). expected.text) is))
     c.in_ok-print_units.ensures.text in
     let begun = Appends-joined _ _ _ (case_heading c.args.number d) _ c.in_ok-print_case_heading.ensures units in
-    let beside = Appends-to _ _ _ _ (ap (λ (expected : Expected). expected_text expected (layout_under standard expected d)) is) c.in_ok-print_beside.ensures.text in
+    let beside = Appends-to _ _ _ _ (ap (λ (expected : Expected).
+    expected_text expected (layout_under standard expected d)) is) c.in_ok-print_beside.ensures.text in
     Appends-joined _ _ _ _ _ begun beside
 
 pub returns-in_err-print_units-clause-fault : goal.returns-in_err-print_units-clause-fault

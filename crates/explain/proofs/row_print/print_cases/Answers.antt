@@ -6,7 +6,8 @@ use Rattle.explain.proofs.row_print.print_cases.Goals as goal
 
 pub loop-direction-preserved : goal.loop-direction-preserved
 loop-direction-preserved g c = record {
-  passed = one_more_passed _ _ _ _ _ _ _ _ (drop_more c.args.directions.now c.loop-direction.direction-index _ c.loop-direction-test.true)
+  passed = one_more_passed _ _ _ _ _ _ _ _
+      (drop_more c.args.directions.now c.loop-direction.direction-index _ c.loop-direction-test.true)
       c.loop-direction.invariant.passed c.in_ok-print_case.ensures.text;
   room = omega (arith, c.loop-direction.invariant.room, c.in_ok-print_case.ensures.room);
 }
@@ -16,4 +17,5 @@ returns-in_err-print_case-clause-fault g c =
     let remaining = drop_more c.args.directions.now c.loop-direction.direction-index _ c.loop-direction-test.true in
     let passed = c.loop-direction.invariant.passed in
     leaves_on _ _ _ _ _ c.from_residual.ensures.1
-    (fault_along _ _ _ _ _ _ _ (λ v. front_of_passed _ _ _ _ _ _ _ _ remaining passed v) c.in_err-print_case.ensures.fault)
+    (fault_along _ _ _ _ _ _ _ (λ v.
+    front_of_passed _ _ _ _ _ _ _ _ remaining passed v) c.in_err-print_case.ensures.fault)

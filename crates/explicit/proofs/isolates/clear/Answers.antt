@@ -13,5 +13,6 @@ loop-k-preserved g c =
     let low : c.args.from ≤ c.loop-k.k = c.loop-k.invariant.later in
     record {
       later = omega arith;
-      cleared = rw c.none.ensures (ap (λ (xs : List (Option ℕ)). set xs c.loop-k.k None) c.loop-k.invariant.cleared ∙ cleared_next c.args.from c.loop-k.k c.args.partners.now low);
+      cleared = rw c.none.ensures (ap (λ (xs : List (Option ℕ)). set xs c.loop-k.k None) c.loop-k.invariant.cleared ∙
+          cleared_next c.args.from c.loop-k.k c.args.partners.now low);
     }

@@ -12,8 +12,10 @@ use Rattle.explicit.proofs.isolates.next_stop.Goals as goal
 pub loop-p-init : goal.loop-p-init
 loop-p-init g c = record {
   later = omega (arith, c.pass_fours-start.ensures.later);
-  passed = passed_by_fours c.args.wanted (classes_of c.args.para.now) c.args.from c.pass_fours-start.result c.pass_fours-start.ensures.passed c.pass_fours-start.ensures.seeks;
-  room = ap length c.pass_fours-start.ensures.partners ∙ cleared_length c.args.from c.pass_fours-start.result c.args.partners.now;
+  passed = passed_by_fours c.args.wanted (classes_of c.args.para.now) c.args.from c.pass_fours-start.result
+      c.pass_fours-start.ensures.passed c.pass_fours-start.ensures.seeks;
+  room = ap length c.pass_fours-start.ensures.partners ∙
+      cleared_length c.args.from c.pass_fours-start.result c.args.partners.now;
   cleared = c.pass_fours-start.ensures.partners;
   taken = omega (arith, c.pass_fours-start.ensures.steps);
 }
@@ -24,7 +26,9 @@ loop-p-preserved g c =
     let low : c.args.from ≤ l.p = l.invariant.later in
     let cs : List Class = classes_of c.args.para.now in
     let inside : l.p < length c.args.para.now = omega arith in
-    let here : is_passed c.args.wanted (class_at cs l.p) ≡ true = ap (is_passed c.args.wanted) (class_read c.args.para.now l.p _ inside) ∙ sym c.is_passed.ensures ∙ c.if-not-is_passed.false in
+    let here : is_passed c.args.wanted (class_at cs l.p) ≡ true =
+    ap (is_passed c.args.wanted) (class_read c.args.para.now l.p _ inside) ∙ sym c.is_passed.ensures ∙
+    c.if-not-is_passed.false in
     record {
       later = omega arith;
       passed = λ k from to. elim (cases_eq k l.p) [
@@ -32,7 +36,8 @@ loop-p-preserved g c =
         | inr ne ↦ l.invariant.passed k from (omega arith)
       ];
       room = length-set _ _ _ ∙ l.invariant.room;
-      cleared = rw c.none.ensures (ap (λ (xs : List (Option ℕ)). set xs l.p None) l.invariant.cleared ∙ cleared_next c.args.from l.p c.args.partners.now low);
+      cleared = rw c.none.ensures (ap (λ (xs : List (Option ℕ)). set xs l.p None) l.invariant.cleared ∙
+          cleared_next c.args.from l.p c.args.partners.now low);
       taken = omega (arith, c.tick.ensures, l.invariant.taken);
     }
 
@@ -40,4 +45,5 @@ pub returns-then-not-is_passed-clause-partners : goal.returns-then-not-is_passed
 returns-then-not-is_passed-clause-partners g c =
     let l = c.loop-p in
     let low : c.args.from ≤ l.p = l.invariant.later in
-    rw c.none.ensures (ap (λ (xs : List (Option ℕ)). set xs l.p None) l.invariant.cleared ∙ cleared_next c.args.from l.p c.args.partners.now low)
+    rw c.none.ensures (ap (λ (xs : List (Option ℕ)). set xs l.p None) l.invariant.cleared ∙
+    cleared_next c.args.from l.p c.args.partners.now low)

@@ -22,11 +22,14 @@ loop-partners-preserved g c =
     let l = c.loop-partners in
     let low : c.args.from ≤ l.p = l.invariant.later in
     let old : List (Option ℕ) = c.args.partners.now in
-    let same : without_partners l.p (l.p + 4) l.partners ≡ without_partners l.p (l.p + 4) (without_partners c.args.from l.p old) = ap (without_partners l.p (l.p + 4)) l.invariant.cleared in
+    let same : without_partners l.p (l.p + 4) l.partners ≡
+    without_partners l.p (l.p + 4) (without_partners c.args.from l.p old) =
+    ap (without_partners l.p (l.p + 4)) l.invariant.cleared in
     record {
       later = omega arith;
       within = omega arith;
-      passed = no_formatting_both (classes_of c.args.para.now) c.args.from l.p (l.p + 4) l.invariant.passed (c.is_formatting_in_four.ensures c.if-not-is_formatting_in_four.true);
+      passed = no_formatting_both (classes_of c.args.para.now) c.args.from l.p (l.p + 4) l.invariant.passed
+          (c.is_formatting_in_four.ensures c.if-not-is_formatting_in_four.true);
       seeks = λ e. absurd (true≢false (sym e ∙ c.loop-partners-test.true));
       room = ap length c.clear.ensures.partners ∙ cleared_length l.p (l.p + 4) l.partners ∙ l.invariant.room;
       cleared = c.clear.ensures.partners ∙ same ∙ cleared_further c.args.from l.p (l.p + 4) old low (omega arith);

@@ -33,7 +33,8 @@ loop-p-smaller-then-is_ordinary g c =
     let p : ℕ = c.loop-p.p in
     let n : length cs ≡ length c.args.para.now = length-map _ _ in
     let l : p < length c.args.para.now = omega arith in
-    let ordinary : is_ordinary (class_at cs p) ≡ true = ap is_ordinary (class_read c.args.para.now p _ l) ∙ sym c.is_ordinary.ensures ∙ c.if-is_ordinary.true in
+    let ordinary : is_ordinary (class_at cs p) ≡ true = ap is_ordinary (class_read c.args.para.now p _ l) ∙
+    sym c.is_ordinary.ensures ∙ c.if-is_ordinary.true in
     let s = c.level_ordinary-p.ensures.stretch in
     let within = s.within in
     let moves = stretch-moves cs p c.level_ordinary-p.result s (omega (arith, n)) ordinary in
@@ -46,7 +47,8 @@ loop-p-preserved-then-is_ordinary g c =
     let n : length cs ≡ length c.args.para.now = length-map _ _ in
     let i = c.loop-p.invariant in
     let l : p < length c.args.para.now = omega arith in
-    let ordinary : is_ordinary (class_at cs p) ≡ true = ap is_ordinary (class_read c.args.para.now p _ l) ∙ sym c.is_ordinary.ensures ∙ c.if-is_ordinary.true in
+    let ordinary : is_ordinary (class_at cs p) ≡ true = ap is_ordinary (class_read c.args.para.now p _ l) ∙
+    sym c.is_ordinary.ensures ∙ c.if-is_ordinary.true in
     let room = i.room in
     let s = c.level_ordinary-p.ensures.stretch in
     let end : ℕ = c.level_ordinary-p.result in
@@ -57,14 +59,17 @@ loop-p-preserved-then-is_ordinary g c =
     record {
       within = omega (arith, n, within);
       keeps = stretch-keeps cs p end s c.args.depth c.args.base c.loop-p.stack i.keeps;
-      filled = stretch-explicit cs p end s c.inside.result c.loop-p.explicit c.level_ordinary-p.new.explicit written c.args.depth c.args.base v.0 v.1 (omega (arith, n, within, c.requires.room, room)) i.filled;
+      filled = stretch-explicit cs p end s c.inside.result c.loop-p.explicit c.level_ordinary-p.new.explicit written
+          c.args.depth c.args.base v.0 v.1 (omega (arith, n, within, c.requires.room, room)) i.filled;
       room = stretch-room cs p end s c.inside.result c.loop-p.explicit c.level_ordinary-p.new.explicit written ∙ room;
       least = omega (arith, i.least, c.tick.ensures, c.level_ordinary-p.ensures.steps);
       most = omega (arith, moves, i.most, c.tick.ensures, c.level_ordinary-p.ensures.steps);
     }
 
 pub pass-leveled-requires-clause-retained : goal.pass-leveled-requires-clause-retained
-pass-leveled-requires-clause-retained g c = retained-before c.args.depth (classes_of c.args.para.now) c.args.base c.loop-p.p c.loop-p.stack c.requires.within c.requires.base (omega arith) c.loop-p.invariant.keeps
+pass-leveled-requires-clause-retained g c =
+    retained-before c.args.depth (classes_of c.args.para.now) c.args.base c.loop-p.p c.loop-p.stack c.requires.within
+    c.requires.base (omega arith) c.loop-p.invariant.keeps
 
 pub loop-p-preserved : goal.loop-p-preserved
 loop-p-preserved g c =
@@ -76,12 +81,14 @@ loop-p-preserved g c =
     let l : p < length cs = omega (arith, n) in
     let short : p < length c.loop-p.explicit = omega (arith, c.requires.room, room) in
     let e = sym (class_read c.args.para.now p no_unit c.loop-p-test.true) in
-    let passed = c.pass-leveled.ensures.passed cs (open_before cs p) p e (λ f. c.is_right_to_left.ensures cs c.requires.filled l (ap is_isolate_initiator (sym e ∙ f))) i.keeps in
+    let passed = c.pass-leveled.ensures.passed cs (open_before cs p) p e (λ f.
+    c.is_right_to_left.ensures cs c.requires.filled l (ap is_isolate_initiator (sym e ∙ f))) i.keeps in
     let found = passed-is c.args.depth cs c.args.base p _ c.pass-leveled.result c.pass-leveled.new.self l e passed in
     record {
       within = omega arith;
       keeps = found.keeps;
-      filled = explicit-more c.args.depth cs c.args.base p c.loop-p.explicit c.pass-leveled.result short found.found i.filled;
+      filled = explicit-more c.args.depth cs c.args.base p c.loop-p.explicit c.pass-leveled.result short found.found
+          i.filled;
       room = length-set c.loop-p.explicit p c.pass-leveled.result ∙ room;
       least = omega (arith, c.tick.ensures, c.pass-leveled.ensures.least_steps, i.least);
       most = omega (arith, c.tick.ensures, c.pass-leveled.ensures.most_steps, i.most);

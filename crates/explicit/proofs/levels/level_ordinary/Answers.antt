@@ -25,7 +25,8 @@ loop-p-preserved g c =
     let inside : l.p < length c.args.para.now = omega arith in
     let low : c.args.from ≤ l.p = l.invariant.later in
     let read = class_read c.args.para.now l.p _ inside in
-    let ordinary : is_ordinary (class_at cs l.p) ≡ true = ap is_ordinary read ∙ sym c.is_ordinary.ensures ∙ c.if-is_ordinary.true in
+    let ordinary : is_ordinary (class_at cs l.p) ≡ true = ap is_ordinary read ∙ sym c.is_ordinary.ensures ∙
+    c.if-is_ordinary.true in
     record {
       later = omega arith;
       within = omega arith;
@@ -34,7 +35,10 @@ loop-p-preserved g c =
         | inr ne ↦ l.invariant.passed k from (omega arith)
       ];
       placed = ap (λ (xs : List (Option (ℕ × Class))). set xs l.p c.some.result) l.invariant.placed
-          ∙ ap (λ (x : Option (ℕ × Class)). set (with_leveled c.args.status cs c.args.from l.p c.args.explicit.now) l.p x) (c.some.ensures ∙ ap (λ (x : ℕ × Class). Some x) (c.leveled-level.ensures ∙ ap (leveled_by_status c.args.status) (sym read)))
+          ∙ ap (λ (x : Option (ℕ × Class)).
+          set (with_leveled c.args.status cs c.args.from l.p c.args.explicit.now) l.p x) (c.some.ensures ∙
+          ap (λ (x : ℕ × Class). Some x) (c.leveled-level.ensures ∙
+          ap (leveled_by_status c.args.status) (sym read)))
           ∙ explicit-next c.args.status cs c.args.from l.p c.args.explicit.now low;
       taken = omega (arith, c.tick.ensures, l.invariant.taken);
     }

@@ -6,4 +6,5 @@ use Rattle.explicit.proofs.para_level.para_level.Goals as goal
 
 pub returns-clause-level : goal.returns-clause-level
 returns-clause-level g c =
-    c.level_under.ensures ∙ ap (level_under c.args.direction) (c.outside.ensures ∙ c.requires.outside) ∙ level_under-is (classes_of c.args.para.now) c.args.direction
+    c.level_under.ensures ∙ ap (level_under c.args.direction) (c.outside.ensures ∙ c.requires.outside) ∙
+    level_under-is (classes_of c.args.para.now) c.args.direction

@@ -8,4 +8,9 @@ returns-clause-defined c = λ depth cs para qs low.
 
 pub returns-clause-retained : goal.returns-clause-retained
 returns-clause-retained c = λ depth cs para low qs stack is.
-    omega (arith, ap length is.entries, entries-few depth cs para qs, level-bound depth cs para qs depth (omega arith) low)
+    omega (
+      arith,
+      ap length is.entries,
+      entries-few depth cs para qs,
+      level-bound depth cs para qs depth (omega arith) low,
+    )

@@ -22,13 +22,25 @@ loop-i-preserved c =
       classes_len = grind (arith, common_steps);
       brackets_len = grind (arith, common_steps);
       classes = λ k low. elim (cases_eq k i) [
-        | inl same ↦ subst (λ m. class_numbered (slice_index (slice_set l.classes i c.class_number.result) m) ≡ Some (class_by tables.classes (slice_index codes m))) (sym same)
-            (ap class_numbered (get_or-set_same l.classes i c.class_number.result 0 (omega (arith, l.invariant.classes_len, c.loop-i-test.true))) ∙ c.class_number.ensures ∙ ap (λ u. Some u.class) is)
-        | inr other ↦ ap class_numbered (get_or-set_other l.classes i k c.class_number.result 0 other) ∙ l.invariant.classes k (omega arith)
+        | inl same ↦ subst (λ m. class_numbered (slice_index (slice_set l.classes i c.class_number.result) m) ≡
+            Some (class_by tables.classes (slice_index codes m))) (sym same)
+            (ap class_numbered (get_or-set_same l.classes i c.class_number.result 0 (omega (
+              arith,
+              l.invariant.classes_len,
+              c.loop-i-test.true,
+            ))) ∙ c.class_number.ensures ∙ ap (λ u. Some u.class) is)
+        | inr other ↦ ap class_numbered (get_or-set_other l.classes i k c.class_number.result 0 other) ∙
+            l.invariant.classes k (omega arith)
       ];
       brackets = λ k low. elim (cases_eq k i) [
-        | inl same ↦ subst (λ m. slice_index (slice_set l.brackets i c.bracket_number.result) m ≡ bracket_number (bracket_by tables.brackets (slice_index codes m))) (sym same)
-            (get_or-set_same l.brackets i c.bracket_number.result 0 (omega (arith, l.invariant.brackets_len, c.loop-i-test.true)) ∙ c.bracket_number.ensures ∙ ap (λ u. bracket_number u.bracket) is)
-        | inr other ↦ get_or-set_other l.brackets i k c.bracket_number.result 0 other ∙ l.invariant.brackets k (omega arith)
+        | inl same ↦ subst (λ m. slice_index (slice_set l.brackets i c.bracket_number.result) m ≡
+            bracket_number (bracket_by tables.brackets (slice_index codes m))) (sym same)
+            (get_or-set_same l.brackets i c.bracket_number.result 0 (omega (
+              arith,
+              l.invariant.brackets_len,
+              c.loop-i-test.true,
+            )) ∙ c.bracket_number.ensures ∙ ap (λ u. bracket_number u.bracket) is)
+        | inr other ↦ get_or-set_other l.brackets i k c.bracket_number.result 0 other ∙
+            l.invariant.brackets k (omega arith)
       ];
     }

@@ -10,6 +10,8 @@ invariant-loop-i l =
     record {
       classes_len : length l.classes ≡ length l.codes;
       brackets_len : length l.brackets ≡ length l.codes;
-      classes : (k : ℕ) → k < l.i → class_numbered (slice_index l.classes k) ≡ Some (class_by l.tables.classes (slice_index l.codes k));
-      brackets : (k : ℕ) → k < l.i → slice_index l.brackets k ≡ bracket_number (bracket_by l.tables.brackets (slice_index l.codes k));
+      classes : (k : ℕ) → k < l.i →
+          class_numbered (slice_index l.classes k) ≡ Some (class_by l.tables.classes (slice_index l.codes k));
+      brackets : (k : ℕ) → k < l.i →
+          slice_index l.brackets k ≡ bracket_number (bracket_by l.tables.brackets (slice_index l.codes k));
     }

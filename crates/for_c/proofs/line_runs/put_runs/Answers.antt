@@ -21,20 +21,23 @@ loop-run-preserved c =
         runs ++ run ∷ [],
         given_more c.args.line.now runs c.loop-run.run-iterator run c.next.new.self i.3.1 c.in-Some.ensures.steps,
         omega (arith, n, i.3.2),
-        written_run (returned_run c.args.room.now c.args.in_units) runs run c.loop-run.out c.put.new.out c.loop-run.count c.returned_run.result len c.returned_run.ensures put i.3.3,
+        written_run (returned_run c.args.room.now c.args.in_units) runs run c.loop-run.out c.put.new.out
+            c.loop-run.count c.returned_run.result len c.returned_run.ensures put i.3.3,
       ),
     )
 
 pub returned_run-requires-clause-forward : goal.returned_run-requires-clause-forward
 returned_run-requires-clause-forward c =
     let i = c.loop-run.invariant in
-    let w = run_within c.args.line.now i.3.0 c.loop-run.run-iterator c.in-Some.run' c.next.new.self c.requires.order i.3.1 c.in-Some.ensures.steps in
+    let w = run_within c.args.line.now i.3.0 c.loop-run.run-iterator c.in-Some.run' c.next.new.self c.requires.order
+    i.3.1 c.in-Some.ensures.steps in
     omega (arith, w.forward, w.end, c.requires.inside)
 
 pub returned_run-requires-clause-inside : goal.returned_run-requires-clause-inside
 returned_run-requires-clause-inside c =
     let i = c.loop-run.invariant in
-    let w = run_within c.args.line.now i.3.0 c.loop-run.run-iterator c.in-Some.run' c.next.new.self c.requires.order i.3.1 c.in-Some.ensures.steps in
+    let w = run_within c.args.line.now i.3.0 c.loop-run.run-iterator c.in-Some.run' c.next.new.self c.requires.order
+    i.3.1 c.in-Some.ensures.steps in
     omega (arith, w.end, c.requires.inside)
 
 pub returns-clause-runs : goal.returns-clause-runs

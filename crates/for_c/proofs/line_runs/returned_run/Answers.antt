@@ -9,6 +9,7 @@ run_for_c-requires c =
     let run = c.args.run in
     let reported : offset_in room run.start ≤ offset_in room run.end = elim (cases_lt run.start run.end) [
       | inl lt ↦ let up = c.offsets_rise.ensures.rising run.start run.end lt c.requires.inside in omega (arith, up)
-      | inr ge ↦ let same = ap (offset_in room) {x = run.start} {y = run.end} (omega (arith, ge, c.requires.forward)) in omega (arith, same)
+      | inr ge ↦ let same = ap (offset_in room) {x = run.start} {y = run.end} (omega (arith, ge, c.requires.forward)) in
+          omega (arith, same)
     ] in
     rw c.in_units.ensures reported

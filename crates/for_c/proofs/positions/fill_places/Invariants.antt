@@ -4,4 +4,5 @@ use Rattle.for_c.proofs.positions.fill_places.Given as goal
 
 -- the places before this one are written
 abbrev pub invariant-loop-place : goal.invariant-loop-place
-invariant-loop-place l = (length l.out ≡ length l.fn.out) × ((i : ℕ) → i < length l.out → IsPlace l.order l.place (l.start + i) (slice_index l.out i))
+invariant-loop-place l = (length l.out ≡ length l.fn.out) × ((i : ℕ) → i < length l.out →
+    IsPlace l.order l.place (l.start + i) (slice_index l.out i))

@@ -12,11 +12,13 @@ returns-then-line_count-k c =
     let past : length room.layout.lines ≤ c.args.k = omega (arith, c.line_count.ensures, c.if-line_count-k.true) in
     let none : line_at room.layout c.args.k ≡ no_line = get_or_past room.layout.lines c.args.k no_line past in
     record {
-      shown = λ _. subst (λ (l : LineLayout). Writes (length l.order) (AreShown c.args.tables.now room c.args.codes.now l.order) 0 c.args.out.now c.args.out.now) (sym none) (record {
-        count = refl;
-        written = λ _ i lt. absurd (omega (arith, lt));
-        following = refl;
-        unchanged = λ _. refl;
-      });
+      shown = λ _. subst (λ (l : LineLayout).
+          Writes (length l.order) (AreShown c.args.tables.now room c.args.codes.now l.order) 0 c.args.out.now
+          c.args.out.now) (sym none) (record {
+            count = refl;
+            written = λ _ i lt. absurd (omega (arith, lt));
+            following = refl;
+            unchanged = λ _. refl;
+          });
       other = λ ne. absurd (ne (omega (arith, c.characters.ensures, c.if-codes-characters.false)));
     }

@@ -14,11 +14,13 @@ returns-then-line_count-k c =
     let past : length room.layout.lines ≤ c.args.k = omega (arith, c.line_count.ensures, c.if-line_count-k.true) in
     let none : line_at room.layout c.args.k ≡ no_line = get_or_past room.layout.lines c.args.k no_line past in
     record {
-      shown = λ _. subst (λ (l : LineLayout). WritesWhole (flat_map (shown_units_of encode_utf16 (utf16_code_at c.args.text.now) c.args.tables.now room) l.order) 0 c.args.out.now c.args.out.now) (sym none) (record {
-        count = refl;
-        written = λ _. refl;
-        following = refl;
-        unchanged = λ _. refl;
-      });
+      shown = λ _. subst (λ (l : LineLayout).
+          WritesWhole (flat_map (shown_units_of encode_utf16 (utf16_code_at c.args.text.now) c.args.tables.now room)
+          l.order) 0 c.args.out.now c.args.out.now) (sym none) (record {
+            count = refl;
+            written = λ _. refl;
+            following = refl;
+            unchanged = λ _. refl;
+          });
       other = λ ne. absurd (ne (omega (arith, c.size.ensures, c.if-text-size.false)));
     }

@@ -6,7 +6,8 @@ use Rattle.lines.proofs.ParagraphSearch.{IsSearched, ends_rise, found, line_cros
 use Rattle.lines.proofs.alone.paragraph_of_line.Goals as goal
 
 pub count_up_to-paragraph-requires : goal.count_up_to-paragraph-requires
-count_up_to-paragraph-requires g c = ends_rise (classes_of c.args.text.now) c.args.ends.now (length c.args.text.now) c.requires
+count_up_to-paragraph-requires g c =
+    ends_rise (classes_of c.args.text.now) c.args.ends.now (length c.args.text.now) c.requires
 
 pub returns-then-ends-paragraph-clause-line : goal.returns-then-ends-paragraph-clause-line
 returns-then-ends-paragraph-clause-line g c =
@@ -15,8 +16,13 @@ returns-then-ends-paragraph-clause-line g c =
     let count = c.count_up_to-paragraph in
     let len : length own ≡ length c.args.text.now = length-map c.args.text.now (λ u. u.class) in
     let f : IsSearched own ends c.args.start count.result =
-    found own ends c.args.start count.result (subst (AreParagraphEnds own ends) (sym len) c.requires) (omega arith) count.ensures.bound count.ensures.below count.ensures.above in
-    (omega arith, omega arith, line_crosses c.args.text.now ends c.args.start c.args.end count.result f (omega arith) (omega arith))
+    found own ends c.args.start count.result (subst (AreParagraphEnds own ends) (sym len) c.requires)
+    (omega arith) count.ensures.bound count.ensures.below count.ensures.above in (
+      omega arith,
+      omega arith,
+      line_crosses c.args.text.now ends c.args.start c.args.end count.result f (omega arith)
+          (omega arith),
+    )
 
 pub returns-clause-line : goal.returns-clause-line
 returns-clause-line g c =
@@ -25,5 +31,6 @@ returns-clause-line g c =
     let count = c.count_up_to-paragraph in
     let len : length own ≡ length c.args.text.now = length-map c.args.text.now (λ u. u.class) in
     let f : IsSearched own ends c.args.start count.result =
-    found own ends c.args.start count.result (subst (AreParagraphEnds own ends) (sym len) c.requires) (omega arith) count.ensures.bound count.ensures.below count.ensures.above in
+    found own ends c.args.start count.result (subst (AreParagraphEnds own ends) (sym len) c.requires)
+    (omega arith) count.ensures.bound count.ensures.below count.ensures.above in
     line_of_paragraph c.args.text.now ends c.args.start c.args.end count.result f (omega arith) (omega arith)

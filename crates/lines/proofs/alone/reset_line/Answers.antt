@@ -8,7 +8,8 @@ use Rattle.lines.proofs.LineAlone.{line_in_paragraph, line_reset_alone}
 use Rattle.lines.proofs.alone.reset_line.Goals as goal
 
 pub reset_text-requires-clause-paras : goal.reset_text-requires-clause-paras
-reset_text-requires-clause-paras g c = line_in_paragraph c.args.text.now c.args.start c.args.end c.requires.forward c.requires.within c.requires.paragraph
+reset_text-requires-clause-paras g c =
+    line_in_paragraph c.args.text.now c.args.start c.args.end c.requires.forward c.requires.within c.requires.paragraph
 
 pub returns-clause-levels : goal.returns-clause-levels
 returns-clause-levels g c breaks paras all line has len is =
@@ -18,5 +19,6 @@ returns-clause-levels g c breaks paras all line has len is =
     let value = level_of_para c.args.level in
     c.reset_text.ensures.levels
     ∙ ap (λ bs. after_resets own bs (value ∷ []) c.args.levels.now) at
-    ∙ line_reset_alone c.args.text.now breaks (map level_of_para paras) all c.args.levels.now c.args.start c.args.end value
+    ∙ line_reset_alone c.args.text.now breaks (map level_of_para paras) all c.args.levels.now c.args.start c.args.end
+    value
     line c.requires.within len is has

@@ -13,7 +13,9 @@ invariant-loop-position g l =
       few_lines : l.lines ≤ l.fn.cut.lines + (l.position - l.start);
       more_lines : l.start < l.position → l.fn.cut.lines < l.lines;
       no_fewer_lines : l.fn.cut.lines ≤ l.lines;
-      ends : (own : List BidiClass) → length own ≡ l.len → IsParagraphAt own l.start l.end → AreLineEnds own l.at l.fn.cut.lines l.start l.initial.bounds → AreLineEnds own l.at l.lines l.position l.bounds;
+      ends : (own : List BidiClass) → length own ≡ l.len → IsParagraphAt own l.start l.end →
+          AreLineEnds own l.at l.fn.cut.lines l.start l.initial.bounds →
+          AreLineEnds own l.at l.lines l.position l.bounds;
       steps : l.steps ≡ l.initial.steps + (l.lines - l.fn.cut.lines);
     }
 

@@ -28,11 +28,17 @@ loop-position-preserved g c =
     get_or_read levels p c.index-levels-position.result within c.index-levels-position.is None in
     let test : c.is_some.result ≡ is_remaining levels p = c.is_some.ensures ∙ ap is_some level in
     let one = bool_byte-at_most_one c.is_some.result in
-    let step : l.count + c.from-count.result ≡ l.count + bool_byte c.is_some.result = ap (λ n. l.count + n) c.from-count.ensures in
+    let step : l.count + c.from-count.result ≡ l.count + bool_byte c.is_some.result =
+    ap (λ n. l.count + n) c.from-count.ensures in
     record {
       within = omega arith;
-      order = unchanged l.order l.count (l.count + c.from-count.result) p c.is_some.result (omega (arith, l.auto.order, l.invariant.count)) step
-          ∙ ap (λ xs. xs ++ cond c.is_some.result (p ∷ []) []) (l.invariant.order ∙ ap (λ n. reverse (remaining levels n c.args.span.end)) (sym there))
+      order = unchanged l.order l.count (l.count + c.from-count.result) p c.is_some.result (omega (
+        arith,
+        l.auto.order,
+        l.invariant.count,
+      )) step
+          ∙ ap (λ xs. xs ++ cond c.is_some.result (p ∷ []) []) (l.invariant.order ∙
+          ap (λ n. reverse (remaining levels n c.args.span.end)) (sym there))
           ∙ ap (λ b. reverse (remaining levels (p + 1) c.args.span.end) ++ cond b (p ∷ []) []) test
           ∙ sym (remaining-before levels p c.args.span.end (omega arith));
       count = omega (arith, l.invariant.count);

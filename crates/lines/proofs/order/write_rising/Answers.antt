@@ -17,9 +17,14 @@ loop-position-preserved g c =
     get_or_read levels l.position c.index-levels-position.result within c.index-levels-position.is None in
     let test : c.is_some.result ≡ is_remaining levels l.position = c.is_some.ensures ∙ ap is_some level in
     let one = bool_byte-at_most_one c.is_some.result in
-    let step : l.count + c.from-count.result ≡ l.count + bool_byte c.is_some.result = ap (λ n. l.count + n) c.from-count.ensures in
+    let step : l.count + c.from-count.result ≡ l.count + bool_byte c.is_some.result =
+    ap (λ n. l.count + n) c.from-count.ensures in
     record {
-      order = unchanged l.order l.count (l.count + c.from-count.result) l.position c.is_some.result (omega (arith, l.auto.order, l.invariant.count)) step
+      order = unchanged l.order l.count (l.count + c.from-count.result) l.position c.is_some.result (omega (
+        arith,
+        l.auto.order,
+        l.invariant.count,
+      )) step
           ∙ ap (λ xs. xs ++ cond c.is_some.result (l.position ∷ []) []) l.invariant.order
           ∙ ap (λ b. remaining levels c.args.span.start l.position ++ cond b (l.position ∷ []) []) test
           ∙ sym (remaining-next levels c.args.span.start l.position (omega arith));

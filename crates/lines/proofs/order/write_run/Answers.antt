@@ -22,7 +22,12 @@ returns-then-is_some_and-clause-some g c =
     let w = c.write_falling in
     let odd : r.level % 2 ≡ 1 = grind (arith, common_steps) in
     let same = ap length (w.ensures.order ∙ run-falling c.args.run.levels.now c.args.run.start c.args.run.end r odd) in
-    omega (arith, same, length-take w.result w.new.order, run-some c.args.run.levels.now c.args.run.start c.args.run.end r)
+    omega (
+      arith,
+      same,
+      length-take w.result w.new.order,
+      run-some c.args.run.levels.now c.args.run.start c.args.run.end r,
+    )
 
 pub returns-else-is_some_and-clause-some : goal.returns-else-is_some_and-clause-some
 returns-else-is_some_and-clause-some g c =
@@ -30,4 +35,9 @@ returns-else-is_some_and-clause-some g c =
     let w = c.write_rising in
     let even : r.level % 2 ≡ 0 = grind (arith, common_steps) in
     let same = ap length (w.ensures.order ∙ run-rising c.args.run.levels.now c.args.run.start c.args.run.end r even) in
-    omega (arith, same, length-take w.result w.new.order, run-some c.args.run.levels.now c.args.run.start c.args.run.end r)
+    omega (
+      arith,
+      same,
+      length-take w.result w.new.order,
+      run-some c.args.run.levels.now c.args.run.start c.args.run.end r,
+    )

@@ -5,7 +5,9 @@ use Rattle.lines.proofs.order.write_runs.Goals as goal
 pub loop-position-init : goal.loop-position-init
 loop-position-init g c =
     record {
-      writes = writes_start c.args.line.levels.now c.link_line.new.runs c.args.line.start c.args.line.end (c.link_line.new.steps + 2 * (c.args.line.end - c.args.line.start)) c.in-Some.chain c.args.order.now c.link_line.new.steps c.args.line.forward c.in-Some.ensures.linked (omega arith);
+      writes = writes_start c.args.line.levels.now c.link_line.new.runs c.args.line.start c.args.line.end
+          (c.link_line.new.steps + 2 * (c.args.line.end - c.args.line.start)) c.in-Some.chain c.args.order.now
+          c.link_line.new.steps c.args.line.forward c.in-Some.ensures.linked (omega arith);
       at_least = omega arith;
     }
 
@@ -34,7 +36,14 @@ returns-then-position-chain g c =
       order = c.append_run-count.ensures.order ∙ sym (n.ends c.if-position-chain.true);
       count = omega (arith, n.room, c.append_run-count.ensures.few);
       at_least = omega (arith, l.invariant.at_least, c.append_run-count.ensures.steps, c.tick.ensures);
-      at_most = omega (arith, n.budget, n.run.rises, c.in-Some.ensures.at_most, c.append_run-count.ensures.steps, c.tick.ensures);
+      at_most = omega (
+        arith,
+        n.budget,
+        n.run.rises,
+        c.in-Some.ensures.at_most,
+        c.append_run-count.ensures.steps,
+        c.tick.ensures,
+      );
     }
 
 pub loop-position-smaller : goal.loop-position-smaller
@@ -48,6 +57,11 @@ loop-position-preserved g c =
     let l = c.loop-position in
     let n = next_run l.invariant.writes in
     record {
-      writes = n.goes_on _ c.append_run-count.result c.append_run-count.new.steps c.if-position-chain.false c.append_run-count.ensures.order c.append_run-count.ensures.few (omega (arith, c.append_run-count.ensures.steps, c.tick.ensures));
+      writes = n.goes_on _ c.append_run-count.result c.append_run-count.new.steps c.if-position-chain.false
+          c.append_run-count.ensures.order c.append_run-count.ensures.few (omega (
+            arith,
+            c.append_run-count.ensures.steps,
+            c.tick.ensures,
+          ));
       at_least = omega (arith, c.append_run-count.ensures.steps, c.tick.ensures, l.invariant.at_least);
     }

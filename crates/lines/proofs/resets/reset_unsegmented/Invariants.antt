@@ -9,7 +9,8 @@ abbrev pub invariant-loop-position : goal.invariant-loop-position
 invariant-loop-position g l =
     record {
       within : l.position ≤ length l.initial.levels;
-      text : Resetting (classes_of l.own) l.at (map level_of_para l.paras) l.initial.levels l.position l.ahead l.paragraph l.resets l.levels;
+      text : Resetting (classes_of l.own) l.at (map level_of_para l.paras) l.initial.levels l.position l.ahead
+          l.paragraph l.resets l.levels;
       at_least : l.initial.steps + length l.para_ends ≤ l.steps + begun (classes_of l.own) l.position;
       at_most : l.steps + l.position ≤ l.initial.steps + length l.initial.levels;
     }

@@ -40,10 +40,13 @@ loop-start-init g c = record {
   written = written_none c.args.limits c.args.text.now c.args.direction c.deref_mut-levels.result.now;
   known = refl;
   segments = refl;
-  passed = subst (λ n. BreaksArePassed c.positions-at.result.now n 0) (sym c.start_cut-cut.ensures.passed) (passed_none c.positions-at.result.now c.args.breaks.now.len c.positions-at.ensures.breaks);
+  passed = subst (λ n. BreaksArePassed c.positions-at.result.now n 0) (sym c.start_cut-cut.ensures.passed)
+      (passed_none c.positions-at.result.now c.args.breaks.now.len c.positions-at.ensures.breaks);
   ends =
-      subst (λ n. AreLineEnds (classes_of c.args.text.now) c.positions-at.result.now n 0 c.start_cut-cut.new.bounds) (sym c.start_cut-cut.ensures.lines)
-      (ends_none (classes_of c.args.text.now) c.positions-at.result.now c.start_cut-cut.new.bounds c.start_cut-cut.ensures.first);
+      subst (λ n. AreLineEnds (classes_of c.args.text.now) c.positions-at.result.now n 0 c.start_cut-cut.new.bounds)
+      (sym c.start_cut-cut.ensures.lines)
+      (ends_none (classes_of c.args.text.now) c.positions-at.result.now c.start_cut-cut.new.bounds
+      c.start_cut-cut.ensures.first);
   para_ends = paragraph_ends_none (classes_of c.args.text.now);
   few_passed = omega (arith, c.start_cut-cut.ensures.passed);
   few_lines = omega (arith, c.start_cut-cut.ensures.lines);
@@ -56,19 +59,24 @@ loop-start-init g c = record {
 }
 
 -- the first paragraph, as a slice of the text
-piece_is : (text : List BidiUnit) (start n end : ℕ) → end ≡ start + n → slice_range text start end ≡ take n (drop start text)
+piece_is : (text : List BidiUnit) (start n end : ℕ) → end ≡ start + n →
+    slice_range text start end ≡ take n (drop start text)
 piece_is text start n end e = let m : end - start ≡ n = omega arith in ap (λ (k : ℕ). take k (drop start text)) m
 
 pub cut_paragraph-cut-requires-clause-breaks : goal.cut_paragraph-cut-requires-clause-breaks
-cut_paragraph-cut-requires-clause-breaks g c = subst (AreBreaks c.positions-at.result.now) c.requires.len c.positions-at.ensures.breaks
+cut_paragraph-cut-requires-clause-breaks g c =
+    subst (AreBreaks c.positions-at.result.now) c.requires.len c.positions-at.ensures.breaks
 
 pub resolve_known-resolved-requires-clause-separators : goal.resolve_known-resolved-requires-clause-separators
 resolve_known-resolved-requires-clause-separators g c =
     let l = c.loop-start in
     let text : List BidiUnit = c.args.text.now in
     let n : ℕ = c.of-first.result.length in
-    let P : List (List BidiUnit) → Type 0 = λ pieces. IsWritten c.args.limits text c.args.direction l.start (take l.paragraphs l.paras) l.levels pieces in
-    let w : P (take n (drop l.start text) ∷ paragraphs_of (drop (l.start + n) text)) = subst P (next_piece text l.start n c.loop-start-test.true (c.of-first.ensures.first.length ∙ ap first_length (take_rest text l.start))) l.invariant.written in
+    let P : List (List BidiUnit) → Type 0 =
+    λ pieces. IsWritten c.args.limits text c.args.direction l.start (take l.paragraphs l.paras) l.levels pieces in
+    let w : P (take n (drop l.start text) ∷ paragraphs_of (drop (l.start + n) text)) =
+    subst P (next_piece text l.start n c.loop-start-test.true (c.of-first.ensures.first.length ∙
+    ap first_length (take_rest text l.start))) l.invariant.written in
     subst SeparatorOnlyLast (sym (piece_is text l.start n (l.start + n) refl)) (separator_last w)
 
 pub loop-start-preserved : goal.loop-start-preserved
@@ -80,18 +88,45 @@ loop-start-preserved g c =
     let end : ℕ = l.start + n in
     let para : List BidiUnit = slice_range text l.start end in
     let known = c.resolve_known-resolved in
-    let some : 0 < n = c.of-first.ensures.some (omega (arith, length-drop l.start text, ap length (take_rest text l.start))) in
-    let within : n ≤ length text - l.start = omega (arith, c.of-first.ensures.within, length-drop l.start text, ap length (take_rest text l.start)) in
+    let some : 0 < n = c.of-first.ensures.some (omega (
+      arith,
+      length-drop l.start text,
+      ap length (take_rest text l.start),
+    )) in
+    let within : n ≤ length text - l.start = omega (
+      arith,
+      c.of-first.ensures.within,
+      length-drop l.start text,
+      ap length (take_rest text l.start),
+    ) in
     let split : paragraphs_of (drop l.start text) ≡ para ∷ paragraphs_of (drop end text) =
-    next_piece text l.start n c.loop-start-test.true (c.of-first.ensures.first.length ∙ ap first_length (take_rest text l.start))
+    next_piece text l.start n c.loop-start-test.true (c.of-first.ensures.first.length ∙
+    ap first_length (take_rest text l.start))
     ∙ ap (λ (us : List BidiUnit). us ∷ paragraphs_of (drop end text)) (sym (piece_is text l.start n end refl)) in
-    let long : length para ≡ n = ap length (piece_is text l.start n end refl) ∙ length-take-le n (drop l.start text) (omega (arith, length-drop l.start text)) in
-    let P : List (List BidiUnit) → Type 0 = λ pieces. IsWritten c.args.limits text direction l.start (take l.paragraphs l.paras) l.levels pieces in
+    let long : length para ≡ n = ap length (piece_is text l.start n end refl) ∙
+    length-take-le n (drop l.start text) (omega (arith, length-drop l.start text)) in
+    let P : List (List BidiUnit) → Type 0 =
+    λ pieces. IsWritten c.args.limits text direction l.start (take l.paragraphs l.paras) l.levels pieces in
     let w : P (para ∷ paragraphs_of (drop end text)) = subst P split l.invariant.written in
-    let room : l.paragraphs < length l.paras = omega (arith, l.auto.paras, l.invariant.few, ap length c.deref_mut-paras.ensures.value, c.requires.room.paras) in
+    let room : l.paragraphs < length l.paras =
+    omega (
+      arith,
+      l.auto.paras,
+      l.invariant.few,
+      ap length c.deref_mut-paras.ensures.value,
+      c.requires.room.paras,
+    ) in
     let keeps : List BidiUnit → Bool = keeps_own_level direction in
-    let ends_room : l.paragraphs < length l.para_ends = omega (arith, l.auto.para_ends, l.invariant.few, ap length c.deref_mut-para_ends.ensures.value, c.requires.room.para_ends) in
-    let next = paragraph_from text l.start n c.loop-start-test.true (c.of-first.ensures.first.length ∙ ap first_length (take_rest text l.start)) some within in
+    let ends_room : l.paragraphs < length l.para_ends =
+    omega (
+      arith,
+      l.auto.para_ends,
+      l.invariant.few,
+      ap length c.deref_mut-para_ends.ensures.value,
+      c.requires.room.para_ends,
+    ) in
+    let next = paragraph_from text l.start n c.loop-start-test.true (c.of-first.ensures.first.length ∙
+    ap first_length (take_rest text l.start)) some within in
     record {
       written =
           rw (take_more_set l.paras l.paragraphs known.result.level room)
@@ -100,19 +135,23 @@ loop-start-preserved g c =
           ∙ ap (λ (xs : List (Option ℕ)). take l.start l.levels ++ xs) known.ensures.resolved.levels));
       known =
           and_assoc l.uniform known.result.uniform (list_all keeps (paragraphs_of (drop end text)))
-          ∙ ap (λ b. l.uniform && (b && list_all keeps (paragraphs_of (drop end text)))) (known.ensures.resolved.known ∙ ap (λ n. keeps_level n (classes_of para)) known.ensures.resolved.level)
+          ∙ ap (λ b. l.uniform && (b && list_all keeps (paragraphs_of (drop end text)))) (known.ensures.resolved.known ∙
+          ap (λ n. keeps_level n (classes_of para)) known.ensures.resolved.level)
           ∙ ap (λ pieces. l.uniform && list_all keeps pieces) (sym split)
           ∙ l.invariant.known;
       segments =
           let described = c.of-first.ensures.first.contents in
           let here : c.has_segment_separator-segmented.result ≡ has_segments (take n (drop l.start text)) =
-          c.has_segment_separator-segmented.ensures _ described ∙ ap (λ us. list_any (is_class S) (classes_of (take n us))) (take_rest text l.start) in
+          c.has_segment_separator-segmented.ensures _ described ∙
+          ap (λ us. list_any (is_class S) (classes_of (take n us))) (take_rest text l.start) in
           segments_on text l.start n l.segmented c.has_segment_separator-segmented.result l.invariant.segments here;
       passed = c.cut_paragraph-cut.ensures.passed;
       ends =
           c.cut_paragraph-cut.ensures.ends (classes_of text) (length-map text (λ u. u.class))
           next l.invariant.ends;
-      para_ends = rw (take_more_set l.para_ends l.paragraphs end ends_room) (paragraph_ends_more (classes_of text) (take l.paragraphs l.para_ends) l.start end l.invariant.para_ends next);
+      para_ends = rw (take_more_set l.para_ends l.paragraphs end ends_room)
+          (paragraph_ends_more (classes_of text) (take l.paragraphs l.para_ends) l.start end l.invariant.para_ends
+          next);
       few_passed = c.cut_paragraph-cut.ensures.few_passed;
       few_lines = omega (arith, c.cut_paragraph-cut.ensures.few_lines);
       few = omega (arith, l.invariant.few);
@@ -126,9 +165,12 @@ loop-start-preserved g c =
     }
 
 -- at the end of the text no paragraph remains
-known_whole : (text : List BidiUnit) (direction : Direction) (start : ℕ) (uniform : Bool) → drop start text ≡ [] → (uniform && list_all (keeps_own_level direction) (paragraphs_of (drop start text))) ≡ each_keeps_level text direction → uniform ≡ each_keeps_level text direction
+known_whole : (text : List BidiUnit) (direction : Direction) (start : ℕ) (uniform : Bool) → drop start text ≡ [] →
+    (uniform && list_all (keeps_own_level direction) (paragraphs_of (drop start text))) ≡
+    each_keeps_level text direction → uniform ≡ each_keeps_level text direction
 known_whole text direction start uniform done known =
-    sym (and-true uniform) ∙ ap (λ us. uniform && list_all (keeps_own_level direction) (paragraphs_of us)) (sym done) ∙ known
+    sym (and-true uniform) ∙ ap (λ us. uniform && list_all (keeps_own_level direction) (paragraphs_of us)) (sym done) ∙
+    known
 
 pub returns-clause-segments : goal.returns-clause-segments
 returns-clause-segments g c =
@@ -145,17 +187,21 @@ returns-clause-resolved g c =
     let room = c.args.columns.now in
     let at_end : l.start ≡ length text = omega arith in
     let done : drop l.start text ≡ [] = drop_all l.start text (omega arith) in
-    let P : List (List BidiUnit) → Type 0 = λ pieces. IsWritten c.args.limits text direction l.start (take l.paragraphs l.paras) l.levels pieces in
+    let P : List (List BidiUnit) → Type 0 =
+    λ pieces. IsWritten c.args.limits text direction l.start (take l.paragraphs l.paras) l.levels pieces in
     let w : P [] = subst P (ap paragraphs_of done) l.invariant.written in
     let as_paras : length l.paras ≡ room.paras.items.len = search rules in
     let as_ends : length l.para_ends ≡ room.para_ends.items.len = search rules in
     let as_levels : length l.levels ≡ room.levels.items.len = search rules in
     record {
       paras = rw (with_items_is room.paras.items l.paras as_paras) (written_paras w);
-      para_ends = rw (with_items_is room.para_ends.items l.para_ends as_ends) (subst (AreParagraphEnds (classes_of text) (take l.paragraphs l.para_ends)) at_end l.invariant.para_ends);
+      para_ends = rw (with_items_is room.para_ends.items l.para_ends as_ends)
+          (subst (AreParagraphEnds (classes_of text) (take l.paragraphs l.para_ends)) at_end l.invariant.para_ends);
       few = omega (arith, l.invariant.few, l.invariant.inside);
       levels = rw (with_items_is room.levels.items l.levels as_levels) (written_levels w);
-      ends = subst (λ n. AreLineEnds (classes_of text) c.args.breaks.now.positions l.cut.lines n l.bounds) at_end (subst (λ at. AreLineEnds (classes_of text) at l.cut.lines l.start l.bounds) c.positions-at.ensures.positions l.invariant.ends);
+      ends = subst (λ n. AreLineEnds (classes_of text) c.args.breaks.now.positions l.cut.lines n l.bounds) at_end
+          (subst (λ at. AreLineEnds (classes_of text) at l.cut.lines l.start l.bounds) c.positions-at.ensures.positions
+          l.invariant.ends);
       few_lines = omega (arith, l.invariant.few_lines, l.invariant.inside);
       known = known_whole text direction l.start l.uniform done l.invariant.known;
     }

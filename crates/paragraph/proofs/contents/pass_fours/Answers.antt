@@ -15,7 +15,8 @@ loop-more-preserved g c =
     let block = c.pass_block.ensures in
     let P : Option ClassSet → Type 0 = λ o. IfSome o (λ _. p + 4 ≤ length us) in
     let Q : Option ClassSet → Type 0 = λ o. IfSome o (λ classes. IsSetOf classes (classes_of (take (p + 4) us))) in
-    let R : Option ClassSet → Type 0 = λ o. IfSome o (λ _. list_any (is_class B) (classes_of (take (p + 4) us)) ≡ false) in
+    let R : Option ClassSet → Type 0 =
+    λ o. IfSome o (λ _. list_any (is_class B) (classes_of (take (p + 4) us)) ≡ false) in
     let four : p + 4 ≤ length us = subst P c.in-Some.is block.four in
     record {
       later = omega (arith, l.invariant.later);

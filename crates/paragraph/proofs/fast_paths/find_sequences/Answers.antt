@@ -6,15 +6,18 @@ use Rattle.paragraph.proofs.fast_paths.find_sequences.Goals as goal
 
 pub fill_flat-requires-clause-flat : goal.fill_flat-requires-clause-flat
 fill_flat-requires-clause-flat g c =
-    flat_from (classes_of c.args.para.now) (sym (c.is_flat.ensures (classes_of c.args.para.now) c.requires.contents) ∙ c.if-is_flat.true)
+    flat_from (classes_of c.args.para.now) (sym (c.is_flat.ensures (classes_of c.args.para.now) c.requires.contents) ∙
+    c.if-is_flat.true)
 
 pub fill_flat-requires-clause-all_remain : goal.fill_flat-requires-clause-all_remain
 fill_flat-requires-clause-all_remain g c = λ e.
-    none_from is_removed (classes_of c.args.para.now) (sym (c.all_remain.ensures (classes_of c.args.para.now) c.requires.contents) ∙ e)
+    none_from is_removed (classes_of c.args.para.now)
+    (sym (c.all_remain.ensures (classes_of c.args.para.now) c.requires.contents) ∙ e)
 
 pub returns-then-is_flat-clause-levels : goal.returns-then-is_flat-clause-levels
 returns-then-is_flat-clause-levels g c = λ deep.
-    absurd (both_ways c.is_flat.result (c.is_flat.ensures (classes_of c.args.para.now) c.requires.contents ∙ deep) c.if-is_flat.true)
+    absurd (both_ways c.is_flat.result (c.is_flat.ensures (classes_of c.args.para.now) c.requires.contents ∙
+    deep) c.if-is_flat.true)
 
 pub returns-then-is_flat-clause-all : goal.returns-then-is_flat-clause-all
 returns-then-is_flat-clause-all g c = c.fill_flat.ensures.all c.args.limits.depth

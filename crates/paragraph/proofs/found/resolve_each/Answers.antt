@@ -6,7 +6,9 @@ use Rattle.paragraph.proofs.found.resolve_each.Goals as goal
 
 pub loop-k-init : goal.loop-k-init
 loop-k-init g c = record {
-  covered = rw c.requires.copy (covered_none c.args.para.now.limits.brackets c.args.para.now.units.now c.args.para.now.before.now c.args.levels.now c.requires.fresh);
+  covered = rw c.requires.copy
+      (covered_none c.args.para.now.limits.brackets c.args.para.now.units.now c.args.para.now.before.now
+      c.args.levels.now c.requires.fresh);
   room = search rules;
   at_least = omega arith;
   at_most = omega arith;
@@ -14,19 +16,24 @@ loop-k-init g c = record {
 
 pub resolve_sequence-requires-clause-copy : goal.resolve_sequence-requires-clause-copy
 resolve_sequence-requires-clause-copy g c =
-    copied c.requires.apart c.get-sequence.ensures.value (omega arith) c.loop-k.classes c.args.para.now.before.now c.loop-k.invariant.covered.unchanged
+    copied c.requires.apart c.get-sequence.ensures.value (omega arith) c.loop-k.classes c.args.para.now.before.now
+    c.loop-k.invariant.covered.unchanged
 
 pub resolve_sequence-requires-clause-own : goal.resolve_sequence-requires-clause-own
-resolve_sequence-requires-clause-own g c = λ e p h. c.requires.own p (is_in_all c.requires.apart c.get-sequence.ensures.value (omega arith) p h)
+resolve_sequence-requires-clause-own g c =
+    λ e p h. c.requires.own p (is_in_all c.requires.apart c.get-sequence.ensures.value (omega arith) p h)
 
 pub resolve_sequence-requires-clause-marks : goal.resolve_sequence-requires-clause-marks
 resolve_sequence-requires-clause-marks g c = λ p h.
-    mark-own (class_at c.args.para.now.before.now p) (class_at (classes_of c.args.para.now.units.now) p) (c.requires.own p (is_in_all c.requires.apart c.get-sequence.ensures.value (omega arith) p h))
+    mark-own (class_at c.args.para.now.before.now p) (class_at (classes_of c.args.para.now.units.now) p)
+    (c.requires.own p (is_in_all c.requires.apart c.get-sequence.ensures.value (omega arith) p h))
 
 pub loop-k-preserved : goal.loop-k-preserved
 loop-k-preserved g c = record {
   covered =
-      covered_next c.requires.apart c.get-sequence.ensures.value (omega arith) c.args.para.now.limits.brackets c.args.para.now.units.now c.args.para.now.before.now c.loop-k.classes c.resolve_sequence.new.classes c.loop-k.levels c.resolve_sequence.new.levels
+      covered_next c.requires.apart c.get-sequence.ensures.value (omega arith) c.args.para.now.limits.brackets
+      c.args.para.now.units.now c.args.para.now.before.now c.loop-k.classes c.resolve_sequence.new.classes
+      c.loop-k.levels c.resolve_sequence.new.levels
       (search rules) c.loop-k.invariant.covered c.resolve_sequence.ensures.resolved;
   room = search rules;
   at_least = omega arith;

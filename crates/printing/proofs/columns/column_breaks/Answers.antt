@@ -10,10 +10,12 @@ loop-p-preserved c =
     let columns = c.from-columns.result in
     let p = c.loop-p.p in
     let separates : c.is_separator.result ≡ separates_at text p = c.is_separator.ensures in
-    let breaks : c.breaks_at.result ≡ is_column_break text columns p = c.breaks_at.ensures ∙ rw c.loop-p.invariant.0 refl in (
+    let breaks : c.breaks_at.result ≡ is_column_break text columns p = c.breaks_at.ensures ∙
+    rw c.loop-p.invariant.0 refl in (
       elim c.if-is_separator.branch [
         | then-is_separator w ↦ w.start-is ∙ start_after_separator text p (sym separates ∙ w.if-is_separator.true)
-        | else-is_separator w ↦ start_unchanged text p _ (sym separates ∙ w.if-is_separator.false) (w.start-is ∙ c.loop-p.invariant.0)
+        | else-is_separator w ↦ start_unchanged text p _ (sym separates ∙ w.if-is_separator.false) (w.start-is ∙
+            c.loop-p.invariant.0)
       ],
       elim c.if-breaks_at.branch [
         | then-breaks_at+in_ok-add w ↦
@@ -29,5 +31,6 @@ pub returns-clause-are : goal.returns-clause-are
 returns-clause-are c =
     let test = is_column_break c.args.text.now c.from-columns.result in
     let whole : c.loop-p.p ≡ length c.args.text.now = omega arith in
-    let found : c.loop-p.breaks.items ≡ passing test (length c.args.text.now) = c.loop-p.invariant.1 ∙ ap (λ n. passing test n) whole in
+    let found : c.loop-p.breaks.items ≡ passing test (length c.args.text.now) = c.loop-p.invariant.1 ∙
+    ap (λ n. passing test n) whole in
     rw found (breaks-of-columns c.args.text.now c.from-columns.result _)

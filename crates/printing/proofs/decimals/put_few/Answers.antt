@@ -13,4 +13,9 @@ returns-clause-start c = omega (arith, two_fewer c.args.number c.if-number-lt100
 
 pub returns-clause-written : goal.returns-clause-written
 returns-clause-written c =
-    rw (c.put_one_or_two-2.ensures.written, c.put_pair.ensures.written, last_two c.args.number c.if-number-lt100.false (omega arith), append_assoc)
+    rw (
+      c.put_one_or_two-2.ensures.written,
+      c.put_pair.ensures.written,
+      last_two c.args.number c.if-number-lt100.false (omega arith),
+      append_assoc,
+    )

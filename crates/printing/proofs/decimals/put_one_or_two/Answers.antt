@@ -30,4 +30,8 @@ pub returns-clause-written : goal.returns-clause-written
 returns-clause-written c =
     let long = one_digit c.args.number c.if-number-ge10.false in
     let back : c.args.end - 1 + 1 ≡ c.args.end = omega arith in
-    rw (drop-set c.args.line.now (c.args.end - 1) _ (omega arith), back, decimal_digit c.args.number c.if-number-ge10.false)
+    rw (
+      drop-set c.args.line.now (c.args.end - 1) _ (omega arith),
+      back,
+      decimal_digit c.args.number c.if-number-ge10.false,
+    )

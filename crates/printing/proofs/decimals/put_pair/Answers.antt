@@ -10,4 +10,15 @@ returns-clause-written c =
     let line = c.args.line.now in
     let one : end - 2 + 1 ≡ end - 1 = omega arith in
     let two : end - 1 + 1 ≡ end = omega arith in
-    rw (c.from-tens.ensures, digits.0, digits.1, drop-set (set line (end - 1) (48 + c.args.pair % 10)) (end - 2) _ (omega (arith, length-set line (end - 1) (48 + c.args.pair % 10))), one, drop-set line (end - 1) _ (omega arith), two)
+    rw (
+      c.from-tens.ensures,
+      digits.0,
+      digits.1,
+      drop-set (set line (end - 1) (48 + c.args.pair % 10)) (end - 2) _ (omega (
+        arith,
+        length-set line (end - 1) (48 + c.args.pair % 10),
+      )),
+      one,
+      drop-set line (end - 1) _ (omega arith),
+      two,
+    )

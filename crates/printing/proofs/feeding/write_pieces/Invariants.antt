@@ -7,7 +7,8 @@ invariant-loop-start g l = record {
   passed : l.start ≤ l.taken;
   within : l.taken ≤ length l.bytes;
   more : l.fn.taken ≤ l.taken;
-  written : Appends (g.W.Write.contents l.initial.w) (g.W.Write.contents l.w) (take (l.taken - l.fn.taken) (drop l.fn.taken l.bytes));
+  written : Appends (g.W.Write.contents l.initial.w) (g.W.Write.contents l.w)
+      (take (l.taken - l.fn.taken) (drop l.fn.taken l.bytes));
 }
 
 abbrev pub decreases-loop-start : goal.decreases-loop-start

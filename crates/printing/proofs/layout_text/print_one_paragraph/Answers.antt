@@ -10,6 +10,7 @@ returns g c =
     let view = view_of c.args.layout.now in
     let level : level_of_para c.level_of_first.result ≡ slice_index_or view.paras 0 0 =
     c.level_of_first.ensures ∙ ap (λ paras. slice_index_or paras 0 0) c.para_levels.ensures in
-    let head = Appends-to _ _ _ _ (ap (paragraph_text c.args.passed.paragraphs) level) c.in_ok-print_paragraph.ensures in
+    let head = Appends-to _ _ _ _ (ap (paragraph_text c.args.passed.paragraphs) level) c.in_ok-print_paragraph.ensures
+    in
     let levels = c.levels.ensures in
     Appends-then _ _ _ _ _ _ head (rw levels at c.print_positions.ensures)

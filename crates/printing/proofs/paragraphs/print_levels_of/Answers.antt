@@ -18,9 +18,13 @@ pub returns : goal.returns
 returns g c =
     let laid = c.layout.ensures ∙ rw c.unwrap.ensures at c.lay_out_into.ensures.laid_out in
     let none = rw c.unwrap-breaks.ensures at c.new.ensures in
-    let broken = ap (λ (breaks : BreaksView). layout_of standard c.args.units.now c.args.direction breaks.positions) none.0 in
+    let broken = ap (λ (breaks : BreaksView). layout_of standard c.args.units.now c.args.direction breaks.positions)
+    none.0 in
     let some : 0 < length c.args.units.now = omega (arith, c.requires.units, c.requires.some) in
-    let same = paragraph_printed c.args.passed c.args.chars.now c.args.units.now c.args.direction some c.requires.one c.requires.units in
+    let same = paragraph_printed c.args.passed c.args.chars.now c.args.units.now c.args.direction some c.requires.one
+    c.requires.units in
     Appends-to _ _ _ _ same
-    (subst (λ (layout : TextLayout). Appends (g.W.Write.contents c.args.w.now) (g.W.Write.contents c.print_one_paragraph.new.w) (one_paragraph_after c.args.passed (get_or layout.paras 0 0) c.args.chars.now c.args.units.now layout.levels))
+    (subst (λ (layout : TextLayout).
+    Appends (g.W.Write.contents c.args.w.now) (g.W.Write.contents c.print_one_paragraph.new.w)
+    (one_paragraph_after c.args.passed (get_or layout.paras 0 0) c.args.chars.now c.args.units.now layout.levels))
     (laid ∙ broken) c.in_ok-print_one_paragraph.ensures)

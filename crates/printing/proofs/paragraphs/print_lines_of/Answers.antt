@@ -11,7 +11,8 @@ use Rattle.printing.proofs.paragraphs.print_lines_of.Goals as goal
 
 pub unwrap-breaks-requires : goal.unwrap-breaks-requires
 unwrap-breaks-requires g c =
-    let breaks : AreBreaks c.deref.result.now (length c.args.units.now) = rw c.deref.ensures.value c.in_ok-positions.ensures.are in
+    let breaks : AreBreaks c.deref.result.now (length c.args.units.now) =
+    rw c.deref.ensures.value c.in_ok-positions.ensures.are in
     breaks_are_taken _ _ _ _ breaks c.new.ensures
 
 pub print_lines-requires-clause-levels : goal.print_lines-requires-clause-levels
@@ -23,6 +24,10 @@ pub returns : goal.returns
 returns g c =
     let laid = c.layout.ensures ∙ rw c.unwrap.ensures at c.lay_out_into.ensures.laid_out in
     let made = rw c.unwrap-breaks.ensures at c.new.ensures in
-    let broken = ap (λ (breaks : BreaksView). layout_of standard c.args.units.now c.args.direction breaks.positions) made.0 in
-    let at = ap (λ positions. layout_of standard c.args.units.now c.args.direction positions) (c.deref.ensures.value ∙ c.in_ok-positions.ensures.breaks) in
-    subst (λ (layout : TextLayout). Appends (g.W.Write.contents c.args.w.now) (g.W.Write.contents c.print_lines.new.w) (reorder_text (mirror_by c.args.mirrors.now) c.args.chars.now c.args.units.now layout)) (laid ∙ broken ∙ at) c.in_ok-print_lines.ensures
+    let broken = ap (λ (breaks : BreaksView). layout_of standard c.args.units.now c.args.direction breaks.positions)
+    made.0 in
+    let at = ap (λ positions. layout_of standard c.args.units.now c.args.direction positions) (c.deref.ensures.value ∙
+    c.in_ok-positions.ensures.breaks) in
+    subst (λ (layout : TextLayout). Appends (g.W.Write.contents c.args.w.now) (g.W.Write.contents c.print_lines.new.w)
+    (reorder_text (mirror_by c.args.mirrors.now) c.args.chars.now c.args.units.now layout)) (laid ∙ broken ∙
+    at) c.in_ok-print_lines.ensures

@@ -15,8 +15,10 @@ print_begun-requires-clause-one g c =
 pub returns-in_ok-print_begun-clause-printed : goal.returns-in_ok-print_begun-clause-printed
 returns-in_ok-print_begun-clause-printed g c =
     let plain = subst ArePlain c.requires.begun.units c.requires.begun.plain in
-    let ends = ap (λ (u : BidiUnit). is_separator u.class) (sym c.requires.unit) ∙ sym c.is_separator.ensures ∙ c.if-is_separator.true in
-    last_came c.args.form c.args.tables.now c.args.direction c.args.character _ _ c.args.begun.now c.add.new.self c.print_begun.new.begun
+    let ends = ap (λ (u : BidiUnit). is_separator u.class) (sym c.requires.unit) ∙ sym c.is_separator.ensures ∙
+    c.if-is_separator.true in
+    last_came c.args.form c.args.tables.now c.args.direction c.args.character _ _ c.args.begun.now c.add.new.self
+    c.print_begun.new.begun
     c.in_ok-add.ensures.passed c.in_ok-add.ensures.chars plain ends
     c.in_ok-print_begun.ensures.chars c.in_ok-print_begun.ensures.passed c.in_ok-print_begun.ensures.printed
 
@@ -27,9 +29,11 @@ returns-else-is_separator-clause-begun g c =
     let added = c.in_ok-add.ensures in
     record {
       units = added.units
-          ∙ units_more tables old.chars.items old.units.items c.args.character c.args.unit c.requires.begun.units c.requires.unit
+          ∙ units_more tables old.chars.items old.units.items c.args.character c.args.unit c.requires.begun.units
+          c.requires.unit
           ∙ sym (ap (units_by tables) added.chars);
-      plain = subst ArePlain (sym added.units) (plain_more _ _ c.requires.begun.plain (sym c.is_separator.ensures ∙ c.if-is_separator.false));
+      plain = subst ArePlain (sym added.units) (plain_more _ _ c.requires.begun.plain (sym c.is_separator.ensures ∙
+          c.if-is_separator.false));
       few = subst (λ (p : Passed). p.paragraphs ≤ p.characters) (sym added.passed) c.requires.begun.few;
     }
 

@@ -19,13 +19,16 @@ pub loop-k-preserved : goal.loop-k-preserved
 loop-k-preserved g c =
     let text = c.args.text.now in
     let k = c.loop-k.k in
-    let next = take_more text k c.index-text-k.result (omega arith) ∙ ap (λ x. take k text ++ x ∷ []) (sym c.index-text-k.is) in
+    let next = take_more text k c.index-text-k.result (omega arith) ∙
+    ap (λ x. take k text ++ x ∷ []) (sym c.index-text-k.is) in
     record {
       begun = c.in_ok-take_character.ensures.begun;
       passed_in = c.in_ok-take_character.ensures.passed_in ∙ ap (λ n. n + 1) c.loop-k.invariant.passed_in;
       printed =
-          subst (λ xs. PrintsOn c.args.form c.args.tables.now c.args.direction xs (g.W.Write.contents c.args.w.now) (g.W.Write.contents c.take_character.new.w) c.args.begun.now c.take_character.new.begun) (sym next)
-          (more_came c.args.form c.args.tables.now c.args.direction _ _ _ _ _ _ _ _ c.loop-k.invariant.printed c.in_ok-take_character.ensures.printed);
+          subst (λ xs. PrintsOn c.args.form c.args.tables.now c.args.direction xs (g.W.Write.contents c.args.w.now)
+          (g.W.Write.contents c.take_character.new.w) c.args.begun.now c.take_character.new.begun) (sym next)
+          (more_came c.args.form c.args.tables.now c.args.direction _ _ _ _ _ _ _ _ c.loop-k.invariant.printed
+          c.in_ok-take_character.ensures.printed);
     }
 
 pub returns : goal.returns
@@ -33,7 +36,12 @@ returns g c =
     let text = c.args.text.now in
     let begun = c.loop-k.begun in
     let whole = take_all c.loop-k.k text (omega arith) in
-    let came = subst (λ xs. PrintsOn c.args.form c.args.tables.now c.args.direction xs (g.W.Write.contents c.args.w.now) (g.W.Write.contents c.loop-k.w) c.args.begun.now begun) whole c.loop-k.invariant.printed in
-    IfOk-weaker c.print_last.result (λ _. Appends (g.W.Write.contents c.loop-k.w) (g.W.Write.contents c.print_last.new.w) (printed_after c.args.form begun.passed c.args.tables.now begun.chars.items c.args.direction))
-    (λ _. Appends (g.W.Write.contents c.args.w.now) (g.W.Write.contents c.print_last.new.w) (printed_as c.args.form c.args.tables.now text c.args.direction))
-    (λ _ last. all_came c.args.form c.args.tables.now c.args.direction text _ _ _ c.args.begun.now begun c.requires.empty c.requires.first came last) c.print_last.ensures
+    let came = subst (λ xs. PrintsOn c.args.form c.args.tables.now c.args.direction xs (g.W.Write.contents c.args.w.now)
+    (g.W.Write.contents c.loop-k.w) c.args.begun.now begun) whole c.loop-k.invariant.printed in
+    IfOk-weaker c.print_last.result (λ _.
+    Appends (g.W.Write.contents c.loop-k.w) (g.W.Write.contents c.print_last.new.w)
+    (printed_after c.args.form begun.passed c.args.tables.now begun.chars.items c.args.direction))
+    (λ _. Appends (g.W.Write.contents c.args.w.now) (g.W.Write.contents c.print_last.new.w)
+    (printed_as c.args.form c.args.tables.now text c.args.direction))
+    (λ _ last. all_came c.args.form c.args.tables.now c.args.direction text _ _ _ c.args.begun.now begun
+    c.requires.empty c.requires.first came last) c.print_last.ensures

@@ -6,5 +6,6 @@ abbrev pub invariant-loop-k : goal.invariant-loop-k
 invariant-loop-k g l = record {
   begun : IsBegun l.tables l.begun;
   passed_in : chars_so_far l.begun ≡ l.k;
-  printed : PrintsOn l.form l.tables l.direction (take l.k l.text) (g.W.Write.contents l.initial.w) (g.W.Write.contents l.w) l.initial.begun l.begun;
+  printed : PrintsOn l.form l.tables l.direction (take l.k l.text) (g.W.Write.contents l.initial.w)
+      (g.W.Write.contents l.w) l.initial.begun l.begun;
 }

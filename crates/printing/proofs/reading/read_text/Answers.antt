@@ -14,8 +14,12 @@ pub loop-n-init : goal.loop-n-init
 loop-n-init g c =
     let begun = c.requires in
     record {
-      read = subst (HasRead g.S.ByteSource.gives g.S.ByteSource.most_remaining c.args.form c.args.tables.now c.args.direction c.args.source.now c.args.source.now
-          (g.W.Write.contents c.args.w.now) (g.W.Write.contents c.args.w.now) c.args.begun.now c.args.begun.now []) (sym c.start-place.ensures) (nothing_read _ _ _ _ _ _ _ _ (g.met.S.ByteSource.gives_nothing _) begun.bound begun.begun begun.empty begun.first);
+      read = subst (HasRead g.S.ByteSource.gives g.S.ByteSource.most_remaining c.args.form c.args.tables.now
+          c.args.direction c.args.source.now c.args.source.now
+          (g.W.Write.contents c.args.w.now) (g.W.Write.contents c.args.w.now) c.args.begun.now c.args.begun.now [])
+          (sym c.start-place.ensures)
+          (nothing_read _ _ _ _ _ _ _ _ (g.met.S.ByteSource.gives_nothing _) begun.bound begun.begun begun.empty
+          begun.first);
       few = omega arith;
       long = refl;
     }
@@ -36,11 +40,17 @@ take_front-requires-clause-small g c =
     let l = c.loop-n in
     let buf = c.read.new.buf in
     let n = c.in-Ok.n in
-    let filled = filled_is l.buffer buf l.stored n (4096 - l.stored) (omega (arith, l.invariant.few, l.invariant.long)) c.in-Ok.ensures.bound in
-    let falls : g.S.ByteSource.most_remaining c.read.new.self + length (take n buf) ≤ g.S.ByteSource.most_remaining l.source =
+    let filled = filled_is l.buffer buf l.stored n (4096 - l.stored) (omega (
+      arith,
+      l.invariant.few,
+      l.invariant.long,
+    )) c.in-Ok.ensures.bound in
+    let falls : g.S.ByteSource.most_remaining c.read.new.self + length (take n buf) ≤
+    g.S.ByteSource.most_remaining l.source =
     omega (arith, c.in-Ok.ensures.most_remaining, length-take n buf) in
     subst (λ (bs : List ℕ). chars_so_far l.begun + length bs ≤ longest_text) (sym filled)
-    (more_fits _ _ _ _ _ _ _ _ l.source c.read.new.self (g.W.Write.contents l.w) (g.W.Write.contents l.w) l.begun l.begun (take l.stored l.buffer) (take n buf) l.place l.invariant.read falls)
+    (more_fits _ _ _ _ _ _ _ _ l.source c.read.new.self (g.W.Write.contents l.w)
+    (g.W.Write.contents l.w) l.begun l.begun (take l.stored l.buffer) (take n buf) l.place l.invariant.read falls)
 
 pub returns-in-Err-take_front-clause-fault : goal.returns-in-Err-take_front-clause-fault
 returns-in-Err-take_front-clause-fault g c =
@@ -50,13 +60,19 @@ returns-in-Err-take_front-clause-fault g c =
     let buf = c.read.new.buf in
     let n = c.in-Ok.n in
     let joined = g.met.S.ByteSource.gives_joined in
-    let filled = filled_is l.buffer buf l.stored n (4096 - l.stored) (omega (arith, l.invariant.few, l.invariant.long)) c.in-Ok.ensures.bound in
+    let filled = filled_is l.buffer buf l.stored n (4096 - l.stored) (omega (
+      arith,
+      l.invariant.few,
+      l.invariant.long,
+    )) c.in-Ok.ensures.bound in
     let given = joined _ _ _ _ _ read.given c.in-Ok.ensures.given in
     let cut = cut_of _ _ _ _ _ _ _ _ _ _ _ _ _ read begun.empty begun.first in
-    stop_ends _ _ _ _ _ _ _ g.S.ByteSource.gives _ c.read.new.self _ _ given c.in-Err-take_front.stop c.end_unwritten.result
+    stop_ends _ _ _ _ _ _ _ g.S.ByteSource.gives _ c.read.new.self _ _ given c.in-Err-take_front.stop
+    c.end_unwritten.result
     c.end_unwritten.ensures.unread c.end_unwritten.ensures.memory
     (λ is. c.end_unwritten.ensures.write is c.args.source.now
-    (up_to g.S.ByteSource.gives joined c.args.source.now l.source c.read.new.self l.place (take l.stored l.buffer) (take n buf) _ cut c.in-Ok.ensures.given filled))
+    (up_to g.S.ByteSource.gives joined c.args.source.now l.source c.read.new.self l.place (take l.stored l.buffer)
+    (take n buf) _ cut c.in-Ok.ensures.given filled))
 
 pub loop-n-preserved : goal.loop-n-preserved
 loop-n-preserved g c =
@@ -64,8 +80,13 @@ loop-n-preserved g c =
     let buf = c.read.new.buf in
     let n = c.in-Ok.n in
     let taken = c.in-Ok-take_front.ensures in
-    let filled = filled_is l.buffer buf l.stored n (4096 - l.stored) (omega (arith, l.invariant.few, l.invariant.long)) c.in-Ok.ensures.bound in
-    let falls : g.S.ByteSource.most_remaining c.read.new.self + length (take n buf) ≤ g.S.ByteSource.most_remaining l.source =
+    let filled = filled_is l.buffer buf l.stored n (4096 - l.stored) (omega (
+      arith,
+      l.invariant.few,
+      l.invariant.long,
+    )) c.in-Ok.ensures.bound in
+    let falls : g.S.ByteSource.most_remaining c.read.new.self + length (take n buf) ≤
+    g.S.ByteSource.most_remaining l.source =
     omega (arith, c.in-Ok.ensures.most_remaining, length-take n buf) in
     let given = g.met.S.ByteSource.gives_joined _ _ _ _ _ l.invariant.read.given c.in-Ok.ensures.given in
     let long : length c.hold-stored.new.buffer ≡ 4096 = search rules in
@@ -84,9 +105,11 @@ loop-n-preserved g c =
     ) in
     record {
       read =
-          read_more _ _ _ _ _ _ _ _ l.source c.read.new.self (g.W.Write.contents l.w) _ l.begun _ (take l.stored l.buffer) (take n buf) l.place l.invariant.read falls
+          read_more _ _ _ _ _ _ _ _ l.source c.read.new.self (g.W.Write.contents l.w) _ l.begun _
+          (take l.stored l.buffer) (take n buf) l.place l.invariant.read falls
           _ _ _ filled taken.taken c.hold-stored.ensures.stored given taken.begun taken.passed_in taken.printed _
-          (passed_is l.place c.after-place.result whole (l.stored + n) _ within taken.taken c.after-place.ensures.line c.after-place.ensures.offset);
+          (passed_is l.place c.after-place.result whole (l.stored + n) _ within taken.taken c.after-place.ensures.line
+          c.after-place.ensures.offset);
       few = c.hold-stored.ensures.few;
       long = long;
     }
@@ -105,7 +128,13 @@ returns-then-stored-gt0-clause-fault g c =
           (g.met.S.ByteSource.gives_joined _ _ _ _ _ read.given c.in-Ok-eq0.ensures.given),
       (
         ended,
-        cut_broken read.bytes read.front (take l.stored l.buffer) l.place read.cut read.place_is (omega (arith, some, l.invariant.few, l.invariant.long, length-take l.stored l.buffer)),
+        cut_broken read.bytes read.front (take l.stored l.buffer) l.place read.cut read.place_is (omega (
+          arith,
+          some,
+          l.invariant.few,
+          l.invariant.long,
+          length-take l.stored l.buffer,
+        )),
         ended_read _ _ _ _ _ _ _ _ _ _ _ _ _ read begun.empty begun.first,
       ),
     )
@@ -113,7 +142,14 @@ returns-then-stored-gt0-clause-fault g c =
 pub print_last-requires-clause-small : goal.print_last-requires-clause-small
 print_last-requires-clause-small g c =
     let read = c.loop-n.invariant.read in
-    omega (arith, read.passed_in, read.bound, chars_le read.front read.cut.utf8, ap length read.cut.joined, length-append read.front read.cut.remaining)
+    omega (
+      arith,
+      read.passed_in,
+      read.bound,
+      chars_le read.front read.cut.utf8,
+      ap length read.cut.joined,
+      length-append read.front read.cut.remaining,
+    )
 
 pub returns-in_err-print_last-clause-fault : goal.returns-in_err-print_last-clause-fault
 returns-in_err-print_last-clause-fault g c =
@@ -124,8 +160,13 @@ returns-in_err-print_last-clause-fault g c =
     let given = subst (λ xs. g.S.ByteSource.gives c.args.source.now xs c.read.new.self) none
     (g.met.S.ByteSource.gives_joined _ _ _ _ _ read.given c.in-Ok-eq0.ensures.given) in
     let ended : g.S.ByteSource.ended c.read.new.self = search rules in
-    let utf8 = cut_whole read.bytes read.front (take l.stored l.buffer) read.cut (omega (arith, c.if-stored-gt0.false, length-take l.stored l.buffer)) in
-    last_ends _ _ _ _ _ _ _ (λ xs. g.S.ByteSource.gives c.args.source.now xs c.read.new.self) _ given ended utf8 _ _ c.from_residual.ensures.1
+    let utf8 = cut_whole read.bytes read.front (take l.stored l.buffer) read.cut (omega (
+      arith,
+      c.if-stored-gt0.false,
+      length-take l.stored l.buffer,
+    )) in
+    last_ends _ _ _ _ _ _ _ (λ xs. g.S.ByteSource.gives c.args.source.now xs c.read.new.self) _ given ended utf8 _ _
+    c.from_residual.ensures.1
 
 pub returns-clause-printed : goal.returns-clause-printed
 returns-clause-printed g c =
@@ -138,5 +179,9 @@ returns-clause-printed g c =
       read.bytes,
       subst (λ xs. g.S.ByteSource.gives c.args.source.now xs c.read.new.self) none
           (g.met.S.ByteSource.gives_joined _ _ _ _ _ read.given c.in-Ok-eq0.ensures.given),
-      whole_read _ _ _ _ _ _ _ _ _ _ _ _ _ read begun.empty begun.first (omega (arith, all, length-take l.stored l.buffer)) _ c.in_ok-print_last.ensures,
+      whole_read _ _ _ _ _ _ _ _ _ _ _ _ _ read begun.empty begun.first (omega (
+        arith,
+        all,
+        length-take l.stored l.buffer,
+      )) _ c.in_ok-print_last.ensures,
     )

@@ -16,14 +16,18 @@ loop-position-init g c =
     let it = c.into_iter-position-iterator.result in
     let order : line.order ≡ c.line.result.order.now = ap (λ (l : LineLayout). l.order) c.line.ensures.line.shows in
     let rest : iter_rest (zip_first it) ≡ c.line.result.order.now =
-    rw (c.into_iter-position-iterator.ensures.into_iter_gives, c.zip-position-items.ensures.first) c.iter.ensures.rest in
+    rw (
+      c.into_iter-position-iterator.ensures.into_iter_gives,
+      c.zip-position-items.ensures.first,
+    ) c.iter.ensures.rest in
     let shown : remaining_shown (zip_second it) ≡ remaining_shown c.shown.result =
     rw (c.into_iter-position-iterator.ensures.into_iter_gives, c.zip-position-items.ensures.second) refl in
     nothing_shown _ _ _ _ _ _ _ _ (order ∙ sym rest) (shown ∙ c.shown.ensures) (rw rest c.line.ensures.places)
 
 pub loop-position-preserved : goal.loop-position-preserved
 loop-position-preserved g c =
-    one_more_shown _ _ _ _ _ _ _ _ _ _ _ _ _ _ c.in-Some.ensures.steps.0 c.in-Some.ensures.steps.1 c.loop-position.invariant c.in_ok-print_shown.ensures
+    one_more_shown _ _ _ _ _ _ _ _ _ _ _ _ _ _ c.in-Some.ensures.steps.0 c.in-Some.ensures.steps.1
+    c.loop-position.invariant c.in_ok-print_shown.ensures
 
 pub returns : goal.returns
 unfolding encode_utf8

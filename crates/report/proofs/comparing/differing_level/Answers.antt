@@ -7,11 +7,14 @@ use Rattle.report.proofs.comparing.differing_level.Goals as goal
 pub loop-i-preserved : goal.loop-i-preserved
 loop-i-preserved c =
     c.loop-i.invariant
-    ∙ level-passed c.args.compared c.args.defined.now c.args.claimed.now c.loop-i.i c.index-defined-i.result c.index-claimed-i.result
+    ∙ level-passed c.args.compared c.args.defined.now c.args.claimed.now c.loop-i.i c.index-defined-i.result
+    c.index-claimed-i.result
     (omega arith) (omega arith)
-    (ap₂ (λ claimed level. is_compared c.args.compared level && not (same_position claimed level)) (sym c.index-claimed-i.is) (sym c.index-defined-i.is)
+    (ap₂ (λ claimed level. is_compared c.args.compared level && not (same_position claimed level))
+    (sym c.index-claimed-i.is) (sym c.index-defined-i.is)
     ∙ sym c.is_other.ensures ∙ c.if-is_other.false)
 
 pub returns-else-claimed-defined : goal.returns-else-claimed-defined
 returns-else-claimed-defined c =
-    levels-end c.args.compared c.args.defined.now c.args.claimed.now c.min-shorter.result c.loop-i.i c.min-shorter.ensures (omega arith) (omega arith) c.if-claimed-defined.false c.loop-i.invariant
+    levels-end c.args.compared c.args.defined.now c.args.claimed.now c.min-shorter.result c.loop-i.i
+    c.min-shorter.ensures (omega arith) (omega arith) c.if-claimed-defined.false c.loop-i.invariant

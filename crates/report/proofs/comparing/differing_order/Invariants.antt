@@ -10,6 +10,8 @@ use Rattle.report.proofs.comparing.differing_order.Given as goal
 abbrev pub invariant-loop-k : goal.invariant-loop-k
 invariant-loop-k l = record {
   within : l.at + length (remaining_order l.remaining) ≤ length l.claimed;
-  rest : first_difference nat_eq (order_read l.fn.compared (view_of l.layout).levels l.claimed) (all_orders (view_of l.layout)) 0
-      ≡ first_difference nat_eq (remaining_order l.remaining) (flat_map (λ line. line.order) (drop l.k (view_of l.layout).lines)) l.at;
+  rest : first_difference nat_eq (order_read l.fn.compared (view_of l.layout).levels l.claimed)
+      (all_orders (view_of l.layout)) 0
+      ≡ first_difference nat_eq (remaining_order l.remaining)
+      (flat_map (λ line. line.order) (drop l.k (view_of l.layout).lines)) l.at;
 }

@@ -9,4 +9,5 @@ returns-in-All c = rw c.in-All.is c.wrong_part.ensures
 
 pub returns-in-OrderAlone : goal.returns-in-OrderAlone
 returns-in-OrderAlone c =
-    rw c.in-OrderAlone.is (c.wrong_order.ensures ∙ order-place c.args.leniency.positions (view_of c.args.layout.now) (expected_of c.args.expected))
+    rw c.in-OrderAlone.is (c.wrong_order.ensures ∙
+    order-place c.args.leniency.positions (view_of c.args.layout.now) (expected_of c.args.expected))

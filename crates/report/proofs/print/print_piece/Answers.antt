@@ -15,7 +15,13 @@ loop-rest-preserved g c =
     let remaining = c.in_ok-remaining.remaining in
     let old = g.W.Write.contents c.args.w.now in
     let new = g.W.Write.contents c.print_first.new.w in
-    let reported = subst (λ (ws : List WrongCase). HasReported c.loop-rest.report ws (take used rest) c.take-used.new.self) (sym c.found.ensures) c.take-used.ensures.reports in
-    let all : take (length rest - used) (drop used rest) ≡ drop used rest = take_all (length rest - used) (drop used rest) (omega (arith, length-drop used rest)) in
-    subst (λ (following : List ℕ). HasGone c.args.report.now c.take-used.new.self c.args.most remaining old new c.args.piece.now following) (sym all)
-    (more-gone c.args.report.now c.args.most old c.args.piece.now _ _ _ _ _ _ _ used c.found.result.now c.loop-rest.invariant reported c.in_ok-remaining.ensures)
+    let reported = subst (λ (ws : List WrongCase).
+    HasReported c.loop-rest.report ws (take used rest) c.take-used.new.self)
+    (sym c.found.ensures) c.take-used.ensures.reports in
+    let all : take (length rest - used) (drop used rest) ≡ drop used rest =
+    take_all (length rest - used) (drop used rest) (omega (arith, length-drop used rest)) in
+    subst (λ (following : List ℕ).
+    HasGone c.args.report.now c.take-used.new.self c.args.most remaining old new c.args.piece.now following)
+    (sym all)
+    (more-gone c.args.report.now c.args.most old c.args.piece.now _ _ _ _ _ _ _ used c.found.result.now
+    c.loop-rest.invariant reported c.in_ok-remaining.ensures)

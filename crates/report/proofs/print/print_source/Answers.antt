@@ -19,7 +19,8 @@ returns-in-Ok-eq0-clause-reported g c =
     let inv = c.loop-n.invariant in
     let buf = c.read.new.buf in
     let n = c.in-Ok-eq0.field-0 in
-    let none : inv.0 ++ take n buf ≡ inv.0 = ap (λ k. inv.0 ++ take k buf) c.in-Ok-eq0.field-0-test ∙ append-nil inv.0 in (
+    let none : inv.0 ++ take n buf ≡ inv.0 = ap (λ k. inv.0 ++ take k buf) c.in-Ok-eq0.field-0-test ∙
+    append-nil inv.0 in (
       inv.0 ++ take n buf,
       inv.1,
       g.met.S.ByteSource.gives_joined _ _ _ _ _ inv.2 c.in-Ok-eq0.ensures.given,
@@ -31,7 +32,9 @@ pub returns-in-Err-print_piece-clause-fault : goal.returns-in-Err-print_piece-cl
 returns-in-Err-print_piece-clause-fault g c =
     let inv = c.loop-n.invariant in
     let given = g.met.S.ByteSource.gives_joined _ _ _ _ _ inv.2 c.in-Ok.ensures.given in
-    piece-ends _ _ _ _ _ _ g.S.ByteSource.gives g.met.S.ByteSource.gives_joined c.args.source.now c.read.new.self _ _ given c.in-Err-print_piece.error c.end_unwritten.result c.end_unwritten.ensures.unread c.end_unwritten.ensures.write
+    piece-ends _ _ _ _ _ _ g.S.ByteSource.gives g.met.S.ByteSource.gives_joined c.args.source.now c.read.new.self _ _
+    given c.in-Err-print_piece.error c.end_unwritten.result c.end_unwritten.ensures.unread
+    c.end_unwritten.ensures.write
 
 pub loop-n-preserved : goal.loop-n-preserved
 loop-n-preserved g c =

@@ -7,5 +7,7 @@ use Rattle.report.proofs.row_cases.expected_item.Goals as goal
 
 pub returns-in-Levels : goal.returns-in-Levels
 returns-in-Levels c =
-    rw c.in-Levels.is (c.level_at.ensures ∙ ap level_item (sym (level-claimed c.args.leniency (view_of c.args.layout.now) (expected_of c.args.expected) c.in-Levels.index
+    rw c.in-Levels.is (c.level_at.ensures ∙
+    ap level_item (sym (level-claimed c.args.leniency (view_of c.args.layout.now)
+    (expected_of c.args.expected) c.in-Levels.index
     (c.requires ∙ ap (λ place. Some place) c.in-Levels.is))))

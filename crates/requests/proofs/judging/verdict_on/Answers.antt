@@ -10,4 +10,7 @@ pub returns-clause-fault : goal.returns-clause-fault
 returns-clause-fault g c =
     let given = c.in-Err.ensures.given in
     let failed : g.F.Source.ByteSource.failures c.judge_reader.new.source ≡ 1 = search rules in
-    rw c.unread-unread.ensures (refl, inr (given.0, g.met.F.Files.gave_up _ _ _ _ _ _ c.in_ok-source.ensures.opened given.1 failed))
+    rw c.unread-unread.ensures (
+      refl,
+      inr (given.0, g.met.F.Files.gave_up _ _ _ _ _ _ c.in_ok-source.ensures.opened given.1 failed),
+    )

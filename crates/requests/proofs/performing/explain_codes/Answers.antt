@@ -10,22 +10,31 @@ pub returns-in_err-text-clause-fault : goal.returns-in_err-text-clause-fault
 unfolding explaining_parts
 returns-in_err-text-clause-fault g c =
     let files = g.F.Files.facts c.args.files.now in
-    first_fails (explaining_parts files c.args.word.now c.args.source) _ c.from_residual.result _ c.from_residual.ensures.1
+    first_fails (explaining_parts files c.args.word.now c.args.source) _ c.from_residual.result _
+    c.from_residual.ensures.1
     (first_of_all (codes_parts c.args.word.now) (source_parts files c.args.source) _ c.in_err-text.ensures.fault)
 
 pub returns-in_err-tables-clause-fault : goal.returns-in_err-tables-clause-fault
 unfolding explaining_parts
 returns-in_err-tables-clause-fault g c =
     let files = g.F.Files.facts c.args.files.now in
-    first_fails (explaining_parts files c.args.word.now c.args.source) _ c.from_residual-in_err-tables.result _ c.from_residual-in_err-tables.ensures.1
-    (first_fault_after (codes_parts c.args.word.now) (source_parts files c.args.source) _
-    (c.in_ok-text.ensures.short, ((c.in_ok-text.text.items, c.in_ok-text.ensures.chars), tt)) c.in_err-tables.ensures.fault)
+    first_fails (explaining_parts files c.args.word.now c.args.source) _ c.from_residual-in_err-tables.result _
+    c.from_residual-in_err-tables.ensures.1
+    (first_fault_after (codes_parts c.args.word.now) (source_parts files c.args.source) _ (
+      c.in_ok-text.ensures.short,
+      (
+        (c.in_ok-text.text.items, c.in_ok-text.ensures.chars),
+        tt,
+      ),
+    ) c.in_err-tables.ensures.fault)
 
 pub returns-in_err-print_explained-clause-fault : goal.returns-in_err-print_explained-clause-fault
 returns-in_err-print_explained-clause-fault g c =
     let files = g.F.Files.facts c.args.files.now in
-    let done = codes_done files c.args.word.now c.args.source _ c.in_ok-tables.ensures.tables c.in_ok-text.ensures.short _ c.in_ok-text.ensures.chars in
-    printing_fails (explaining_parts files c.args.word.now c.args.source) _ _ _ _ done c.from_residual-in_err-print_explained.ensures.1
+    let done = codes_done files c.args.word.now c.args.source _ c.in_ok-tables.ensures.tables c.in_ok-text.ensures.short
+    _ c.in_ok-text.ensures.chars in
+    printing_fails (explaining_parts files c.args.word.now c.args.source) _ _ _ _ done
+    c.from_residual-in_err-print_explained.ensures.1
 
 pub returns-clause-printed : goal.returns-clause-printed
 returns-clause-printed g c =

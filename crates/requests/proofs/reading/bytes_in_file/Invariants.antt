@@ -4,7 +4,8 @@ use Rattle.requests.specs.ReadFiles.{origin_of}
 use Rattle.requests.proofs.reading.bytes_in_file.Given as goal
 
 -- the bytes that the source has returned, and how many more it may return
-pub record BytesRead {S : Type 0} (Opens : S → Type 0) (gives : S → List ℕ → S → Type 0) (room : S → ℕ) (now : S) (bytes : List ℕ) : Type 0 where
+pub record BytesRead {S : Type 0} (Opens : S → Type 0) (gives : S → List ℕ → S → Type 0) (room : S →
+    ℕ) (now : S) (bytes : List ℕ) : Type 0 where
   pub opened : S
   pub is : Opens opened
   pub given : gives opened bytes now

@@ -16,4 +16,5 @@ item_line word allowed =
 
 pub returns : goal.returns
 returns g c =
-    IfOk-weaker c.writeln.result _ _ (λ _ h. Appends-to _ _ _ _ (item_line c.args.word.now c.args.allowed.now) h) c.writeln.ensures.bytes
+    IfOk-weaker c.writeln.result _ _ (λ _ h. Appends-to _ _ _ _ (item_line c.args.word.now c.args.allowed.now) h)
+    c.writeln.ensures.bytes

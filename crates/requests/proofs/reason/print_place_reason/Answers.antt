@@ -9,11 +9,13 @@ use Rattle.requests.specs.Reasons.{place_words, reason_line}
 use Rattle.requests.proofs.reason.print_place_reason.Goals as goal
 
 place_line : (place : TextPlace)
-    → concat (codes "bidi: reason: line " ∷ decimal place.line ∷ codes ", byte offset " ∷ decimal place.offset ∷ line_feed ∷ [])
+    → concat (codes "bidi: reason: line " ∷ decimal place.line ∷ codes ", byte offset " ∷ decimal place.offset ∷
+    line_feed ∷ [])
     ≡ reason_line (Some (place_words place))
 place_line place =
     let rest = append_assoc (decimal place.line) (codes ", byte offset " ++ (decimal place.offset ++ [])) line_feed
-    ∙ ap (λ (xs : List ℕ). decimal place.line ++ (codes ", byte offset " ++ xs)) (append_assoc (decimal place.offset) [] line_feed) in
+    ∙ ap (λ (xs : List ℕ). decimal place.line ++ (codes ", byte offset " ++ xs))
+    (append_assoc (decimal place.offset) [] line_feed) in
     ap (λ (xs : List ℕ). codes "bidi: reason: line " ++ xs) (sym rest)
 
 pub returns : goal.returns

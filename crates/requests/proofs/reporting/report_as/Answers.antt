@@ -12,7 +12,11 @@ returns-in-Ok-clause-reported g c =
     let printed = c.in-Ok.ensures.printed in
     let opened = c.in_ok-source.ensures.opened in
     let leniency = c.args.options.leniency in
-    let begun = subst (λ (limits : LimitsOf). Reports (record { limits = limits; leniency = leniency }) c.args.rows c.in_ok-report.report [] []) c.standard.ensures c.in_ok-report.ensures.represents in
+    let begun = subst (λ (limits : LimitsOf). Reports (record {
+      limits = limits;
+      leniency =
+          leniency;
+    }) c.args.rows c.in_ok-report.report [] []) c.standard.ensures c.in_ok-report.ensures.represents in
     let is = printed.2 (terms_by leniency) c.args.rows begun in
     let status = c.status_of.ensures ∙ ap report_status is.outcome in
     record {
@@ -22,7 +26,8 @@ returns-in-Ok-clause-reported g c =
       noted = is.text;
       status_is = status;
       as_judged = λ strict_is.
-          status ∙ ap (λ (l : Leniency). report_status (is_right (report_of (terms_by l) c.args.rows printed.0))) strict_is ∙ status_of_report c.args.rows printed.0;
+          status ∙ ap (λ (l : Leniency). report_status (is_right (report_of (terms_by l) c.args.rows printed.0)))
+          strict_is ∙ status_of_report c.args.rows printed.0;
     }
 
 pub returns-in-Err-Write-clause-fault : goal.returns-in-Err-Write-clause-fault
@@ -40,7 +45,11 @@ returns-clause-fault g c =
     let given = rw c.in-Err-Read.field-0-is at c.in-Err-Read.ensures.fault in
     let opened = c.in_ok-source.ensures.opened in
     let leniency = c.args.options.leniency in
-    let begun = subst (λ (limits : LimitsOf). Reports (record { limits = limits; leniency = leniency }) c.args.rows c.in_ok-report.report [] []) c.standard.ensures c.in_ok-report.ensures.represents in
+    let begun = subst (λ (limits : LimitsOf). Reports (record {
+      limits = limits;
+      leniency =
+          leniency;
+    }) c.args.rows c.in_ok-report.report [] []) c.standard.ensures c.in_ok-report.ensures.represents in
     rw c.unread-unread.ensures (inr (
       refl,
       record {

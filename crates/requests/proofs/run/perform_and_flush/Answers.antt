@@ -21,4 +21,5 @@ returns-in_err-flush-clause-fault g c =
     (passed_on _ _ c.from_residual-in_err-flush.ensures.1 c.in_err-flush.ensures.fault))
 
 pub returns-in_err-flush-clause-memory : goal.returns-in_err-flush-clause-memory
-returns-in_err-flush-clause-memory g c = leaves_written _ _ _ _ _ c.from_residual-in_err-flush.ensures.1 c.in_err-flush.ensures.fault
+returns-in_err-flush-clause-memory g c =
+    leaves_written _ _ _ _ _ c.from_residual-in_err-flush.ensures.1 c.in_err-flush.ensures.fault

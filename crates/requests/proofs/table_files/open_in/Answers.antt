@@ -7,5 +7,7 @@ pub returns-clause-cannot : goal.returns-clause-cannot
 returns-clause-cannot g c =
     let same : c.as_str.result.now ≡ in_folder c.args.folder.now c.args.name.now = search rules in
     IfErr-weaker c.file.result _ _
-    (λ fault rejects unread cannot. subst (λ (path : List ℕ). (g.F.Files.facts c.args.files.now).Rejects (FileNamed path) most_file_bytes unread) same (rejects unread cannot))
+    (λ fault rejects unread cannot.
+    subst (λ (path : List ℕ). (g.F.Files.facts c.args.files.now).Rejects (FileNamed path) most_file_bytes unread)
+    same (rejects unread cannot))
     c.file.ensures.cannot

@@ -10,7 +10,8 @@ returns-in_err-tables-clause-fault g c =
 
 pub returns-in_err-opened-clause-fault : goal.returns-in_err-opened-clause-fault
 returns-in_err-opened-clause-fault g c =
-    opening_fails _ _ _ _ _ _ _ c.in_ok-tables.ensures.tables c.from_residual-in_err-opened.result _ c.from_residual-in_err-opened.ensures.1
+    opening_fails _ _ _ _ _ _ _ c.in_ok-tables.ensures.tables c.from_residual-in_err-opened.result _
+    c.from_residual-in_err-opened.ensures.1
     c.in_err-opened.ensures.fault
 
 pub returns-in-Ok-clause-printed : goal.returns-in-Ok-clause-printed
@@ -35,18 +36,21 @@ pub returns-in-Err-Write-clause-fault : goal.returns-in-Err-Write-clause-fault
 returns-in-Err-Write-clause-fault g c =
     let given = rw c.in-Err-Write.field-0-is at c.in-Err-Write.ensures.fault in
     let opened = c.in_ok-opened.ensures.opened in
-    write_fails _ c.args.form c.args.direction _ _ _ _ c.in_ok-tables.ensures.tables _ given.0 (g.met.F.Files.gave _ _ _ _ _ _ opened given.1)
+    write_fails _ c.args.form c.args.direction _ _ _ _ c.in_ok-tables.ensures.tables _ given.0
+    (g.met.F.Files.gave _ _ _ _ _ _ opened given.1)
     (g.met.F.Files.gave_all _ _ _ _ _ _ opened given.1 given.2.0) given.2.1
 
 pub returns-in-Err-NobodyReads-clause-fault : goal.returns-in-Err-NobodyReads-clause-fault
 returns-in-Err-NobodyReads-clause-fault g c =
     let given = c.in-Err-NobodyReads.ensures.fault in
-    inr (begun_done _ _ _ _ c.in_ok-tables.ensures.tables given.0 (g.met.F.Files.gave _ _ _ _ _ _ c.in_ok-opened.ensures.opened given.1))
+    inr (begun_done _ _ _ _ c.in_ok-tables.ensures.tables given.0
+    (g.met.F.Files.gave _ _ _ _ _ _ c.in_ok-opened.ensures.opened given.1))
 
 pub returns-in-Err-Memory-clause-fault : goal.returns-in-Err-Memory-clause-fault
 returns-in-Err-Memory-clause-fault g c =
     let given = c.in-Err-Memory.ensures.fault in
-    inr (begun_done _ _ _ _ c.in_ok-tables.ensures.tables given.0 (g.met.F.Files.gave _ _ _ _ _ _ c.in_ok-opened.ensures.opened given.1))
+    inr (begun_done _ _ _ _ c.in_ok-tables.ensures.tables given.0
+    (g.met.F.Files.gave _ _ _ _ _ _ c.in_ok-opened.ensures.opened given.1))
 
 pub returns-in-Err-NotUtf8-clause-fault : goal.returns-in-Err-NotUtf8-clause-fault
 returns-in-Err-NotUtf8-clause-fault g c =

@@ -9,7 +9,8 @@ use Rattle.requests.proofs.text_rows.row_text_in_file.Goals as goal
 pub returns-in_err-text-clause-fault : goal.returns-in_err-text-clause-fault
 returns-in_err-text-clause-fault g c =
     let files = g.F.Files.facts c.args.files.now in
-    let ends = first_of_all (text_parts files c.args.file.now) (lines_part files c.args.file.now ∷ []) _ c.in_err-text.ensures.fault in
+    let ends = first_of_all (text_parts files c.args.file.now) (lines_part files c.args.file.now ∷
+    []) _ c.in_err-text.ensures.fault in
     search rules
 
 pub returns-in-Some-clause-fault : goal.returns-in-Some-clause-fault

@@ -12,7 +12,8 @@ use Rattle.resolve.proofs.implicit.implicit.Goals as goal
 pub loop-k-init : goal.loop-k-init
 loop-k-init g c =
     let ps : List ℕ = c.as_slice-positions.result.now in
-    let fit : ArePositions ps (length c.args.levels.now) = rw (c.as_slice-positions.ensures.value, c.requires.levels) c.as_slice-positions.ensures.rise in
+    let fit : ArePositions ps (length c.args.levels.now) =
+    rw (c.as_slice-positions.ensures.value, c.requires.levels) c.as_slice-positions.ensures.rise in
     (raise_start c.args.s.now.level (classes_at c.args.classes.now ps) ps c.args.levels.now fit, omega arith)
 
 pub loop-k-preserved : goal.loop-k-preserved
@@ -32,7 +33,8 @@ returns g c =
     let s : SequenceView = c.args.s.now in
     let ps : List ℕ = c.as_slice-positions.result.now in
     let n : length ps ≡ length c.args.s.now.positions = ap length c.as_slice-positions.ensures.value in
-    let raised : Raises s.level c.args.classes.now ps c.args.levels.now c.loop-k.levels = raise_end c.loop-k.invariant.0 c.args.classes.now refl (omega arith) in
+    let raised : Raises s.level c.args.classes.now ps c.args.levels.now c.loop-k.levels =
+    raise_end c.loop-k.invariant.0 c.args.classes.now refl (omega arith) in
     record {
       levels = rw (← c.as_slice-positions.ensures.value) raised;
       steps = omega (arith, n);

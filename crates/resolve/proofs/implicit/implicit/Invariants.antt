@@ -5,4 +5,5 @@ use Rattle.resolve.proofs.implicit.implicit.Given as goal
 
 abbrev pub invariant-loop-k : goal.invariant-loop-k
 invariant-loop-k g l =
-    RaisePass l.s.level (classes_at l.classes l.positions) l.positions l.initial.levels l.levels l.k × (l.steps ≡ l.initial.steps + l.k)
+    RaisePass l.s.level (classes_at l.classes l.positions) l.positions l.initial.levels l.levels l.k ×
+    (l.steps ≡ l.initial.steps + l.k)

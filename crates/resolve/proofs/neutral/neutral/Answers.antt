@@ -17,7 +17,8 @@ loop-k-init g c =
     let s : SequenceView = c.args.s.now in
     let ps : List ℕ = c.as_slice-positions.result.now in
     let start : List Class = c.args.classes.now in
-    let fit : ArePositions ps (length start) = rw (c.as_slice-positions.ensures.value, c.requires) c.as_slice-positions.ensures.rise in
+    let fit : ArePositions ps (length start) =
+    rw (c.as_slice-positions.ensures.value, c.requires) c.as_slice-positions.ensures.rise in
     let P : Sides → Type 0 = λ x. StatePass by_run sides_past (sides_of s) ps start start x 0 in (
       subst P (sym c.new-sides.ensures) (state_pass_start by_run sides_past (sides_of s) ps start fit),
       state_pass_steps_start owed_in_run (classes_at start ps) c.new-sides.result c.args.steps.now,
@@ -30,16 +31,24 @@ loop-k-preserved g c =
     let inside : c.loop-k.k < length c.as_slice-positions.result.now = omega arith in
     let qs : List ℕ = take (length ps - (k + 1)) (drop (k + 1) ps) in
     let rest : take (length ps - (k + 1)) (drop (k + 1) ps) ≡ drop (k + 1) ps = take_rest ps (k + 1) in (
-      state_pass_next c.loop-k.invariant.0 inside c.take.result c.take.new.self qs rest c.take.ensures.value c.take.ensures.past,
-      state_pass_steps_next c.loop-k.invariant.0 inside owed_in_run c.take.new.self qs rest c.args.steps.now c.loop-k.steps c.take.new.steps c.loop-k.invariant.1
-          (omega (arith, c.tick.ensures, c.take.ensures.at_least)) (omega (arith, c.tick.ensures, c.take.ensures.at_most)),
+      state_pass_next c.loop-k.invariant.0 inside c.take.result c.take.new.self qs rest c.take.ensures.value
+          c.take.ensures.past,
+      state_pass_steps_next c.loop-k.invariant.0 inside owed_in_run c.take.new.self qs rest c.args.steps.now
+          c.loop-k.steps c.take.new.steps c.loop-k.invariant.1
+          (omega (arith, c.tick.ensures, c.take.ensures.at_least)) (omega (
+            arith,
+            c.tick.ensures,
+            c.take.ensures.at_most,
+          )),
     )
 
 pub returns-clause-classes : goal.returns-clause-classes
 returns-clause-classes g c =
     let s : SequenceView = c.args.s.now in
     rw (← c.as_slice-positions.ensures.value)
-    (state_pass_end c.loop-k.invariant.0 (after_neutral (direction_of s.level) s.sos s.eos) (after_neutral-after_state_pass s (classes_at c.args.classes.now c.as_slice-positions.result.now)) (omega arith) (omega arith))
+    (state_pass_end c.loop-k.invariant.0 (after_neutral (direction_of s.level) s.sos s.eos)
+    (after_neutral-after_state_pass s (classes_at c.args.classes.now c.as_slice-positions.result.now)) (omega arith)
+    (omega arith))
 
 pub returns-clause-at_most : goal.returns-clause-at_most
 returns-clause-at_most g c =
@@ -47,4 +56,9 @@ returns-clause-at_most g c =
     let from : List Class = classes_at c.args.classes.now ps in
     let long = length-classes_at c.args.classes.now ps in
     let n : length ps ≡ length c.args.s.now.positions = ap length c.as_slice-positions.ensures.value in
-    omega (arith, state_pass_steps_end owed_in_run from c.loop-k.sides c.loop-k.k c.args.steps.now c.loop-k.steps c.loop-k.invariant.1 (owes_no_more c.loop-k.sides.taken) (omega (arith, long)), n)
+    omega (
+      arith,
+      state_pass_steps_end owed_in_run from c.loop-k.sides c.loop-k.k c.args.steps.now c.loop-k.steps
+          c.loop-k.invariant.1 (owes_no_more c.loop-k.sides.taken) (omega (arith, long)),
+      n,
+    )

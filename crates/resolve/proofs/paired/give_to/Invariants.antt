@@ -8,7 +8,8 @@ use Rattle.resolve.proofs.paired.give_to.Given as goal
 
 abbrev pub invariant-loop-next : goal.invariant-loop-next
 invariant-loop-next g l = record {
-  giving : IsGiving (classes_at l.before l.s.positions) (index_of l.s.positions l.bracket) l.direction (classes_at l.fn.classes l.s.positions) (classes_at l.classes l.s.positions) (index_or_end l.s.positions l.next);
+  giving : IsGiving (classes_at l.before l.s.positions) (index_of l.s.positions l.bracket) l.direction
+      (classes_at l.fn.classes l.s.positions) (classes_at l.classes l.s.positions) (index_or_end l.s.positions l.next);
   others : KeepsOthers l.s.positions l.fn.classes l.classes;
   next : IsNext l.s.positions l.next;
   at_least : l.fn.steps ≤ l.steps;

@@ -14,7 +14,8 @@ pub loop-k-preserved : goal.loop-k-preserved
 loop-k-preserved g c =
     let l = c.loop-k in
     record {
-      neutral_or = all_more_written _ c.requires.positions l.invariant.classes l.invariant.neutral_or (omega arith) (sym (c.neutral_or-neutral_or.ensures _) ∙ sym c.holds.ensures ∙ c.if-holds.true);
+      neutral_or = all_more_written _ c.requires.positions l.invariant.classes l.invariant.neutral_or (omega arith)
+          (sym (c.neutral_or-neutral_or.ensures _) ∙ sym c.holds.ensures ∙ c.if-holds.true);
       classes = along_next _ _ _ l.invariant.neutral_or.from_start l.invariant.classes;
       levels = along_next _ _ _ l.invariant.neutral_or.from_start l.invariant.levels;
       steps = omega (arith, c.tick.ensures, l.invariant.steps);

@@ -13,7 +13,8 @@ pub loop-k-preserved : goal.loop-k-preserved
 loop-k-preserved g c =
     let l = c.loop-k in
     record {
-      run = all_more_written _ c.requires.positions l.invariant.classes l.invariant.run (omega arith) (c.is_same.ensures c.if-is_same.true);
+      run = all_more_written _ c.requires.positions l.invariant.classes l.invariant.run (omega arith)
+          (c.is_same.ensures c.if-is_same.true);
       classes = along_next _ _ _ l.invariant.run.from_start l.invariant.classes;
       steps = omega (arith, c.tick.ensures, l.invariant.steps);
     }

@@ -9,6 +9,7 @@ pub loop-k-preserved : goal.loop-k-preserved
 loop-k-preserved g c =
     let l = c.loop-k in
     record {
-      passed = all_more l.invariant.passed (omega arith) (sym (c.passed-passed.ensures _) ∙ sym c.holds.ensures ∙ c.if-holds.true);
+      passed = all_more l.invariant.passed (omega arith) (sym (c.passed-passed.ensures _) ∙ sym c.holds.ensures ∙
+          c.if-holds.true);
       steps = omega (arith, c.tick.ensures, l.invariant.steps);
     }

@@ -17,7 +17,8 @@ paired-requires-clause-filled g c = record {
 }
 
 pub returns-then-para-clause-classes : goal.returns-then-para-clause-classes
-returns-then-para-clause-classes g c = c.paired.ensures.classes c.args.para.now.limits.brackets c.args.para.now.units.now c.bracket_pairs.ensures.pairs
+returns-then-para-clause-classes g c =
+    c.paired.ensures.classes c.args.para.now.limits.brackets c.args.para.now.units.now c.bracket_pairs.ensures.pairs
 
 pub returns-else-para-clause-classes : goal.returns-else-para-clause-classes
 returns-else-para-clause-classes g c =
@@ -25,7 +26,8 @@ returns-else-para-clause-classes g c =
     let us : List BidiUnit = c.args.para.now.units.now in
     let none = none_passes (λ (u : BidiUnit). is_open u.bracket) us (c.requires.wanted.openings c.if-para.false) in
     record {
-      values = sym (after_brackets-none c.args.para.now.limits.brackets s us (classes_at c.args.para.now.before.now s.positions) (classes_at c.args.classes.now s.positions) none);
+      values = sym (after_brackets-none c.args.para.now.limits.brackets s us
+          (classes_at c.args.para.now.before.now s.positions) (classes_at c.args.classes.now s.positions) none);
       others = λ p h. refl;
     }
 

@@ -8,7 +8,8 @@ use Rattle.room.proofs.base_levels.after_paragraph.Given as goal
 abbrev pub invariant-loop-unit : goal.invariant-loop-unit
 invariant-loop-unit l = record {
   well_formed : IsWellFormed (source_seen l.rest);
-  units : drop (first_length (units_of l.tables (source_seen l.rest))) (units_of l.tables (source_seen l.rest)) ≡ drop (first_length (units_of l.tables (source_seen l.source))) (units_of l.tables (source_seen l.source));
+  units : drop (first_length (units_of l.tables (source_seen l.rest))) (units_of l.tables (source_seen l.rest)) ≡
+      drop (first_length (units_of l.tables (source_seen l.source))) (units_of l.tables (source_seen l.source));
   size : size_of (source_seen l.rest) ≤ size_of (source_seen l.source);
 }
 

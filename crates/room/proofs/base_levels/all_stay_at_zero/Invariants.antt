@@ -9,7 +9,8 @@ use Rattle.room.proofs.base_levels.all_stay_at_zero.Given as goal
 abbrev pub invariant-loop-unit : goal.invariant-loop-unit
 invariant-loop-unit l = record {
   well_formed : IsWellFormed (source_seen l.rest);
-  stay : all_stay_at_zero (classes_of (units_of l.tables (source_seen l.source))) ≡ all_stay_at_zero (classes_of (units_of l.tables (source_seen l.rest)));
+  stay : all_stay_at_zero (classes_of (units_of l.tables (source_seen l.source))) ≡
+      all_stay_at_zero (classes_of (units_of l.tables (source_seen l.rest)));
 }
 
 abbrev pub decreases-loop-unit : goal.decreases-loop-unit

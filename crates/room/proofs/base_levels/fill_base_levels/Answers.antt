@@ -17,8 +17,10 @@ loop-k-preserved c =
     let place : l.k < length l.levels = omega (arith, l.auto.levels) in
     let long : length l.levels ≡ length (paragraphs_of all) = omega (arith, l.auto.levels, c.requires.items) in
     let some : 0 < length units = rest_is_not_empty all units direction l.levels l.k place long l.invariant.written in
-    let level : c.get.result ≡ base_level units direction = c.get.ensures.value ∙ c.level.ensures.value ∙ c.level_of_first.ensures in
+    let level : c.get.result ≡ base_level units direction = c.get.ensures.value ∙ c.level.ensures.value ∙
+    c.level_of_first.ensures in
     record {
       well_formed = c.after_paragraph-rest.ensures.well_formed;
-      written = level_more units rest some c.after_paragraph-rest.ensures.units direction l.levels _ l.k c.get.result place level l.invariant.written;
+      written = level_more units rest some c.after_paragraph-rest.ensures.units direction l.levels _ l.k c.get.result
+          place level l.invariant.written;
     }

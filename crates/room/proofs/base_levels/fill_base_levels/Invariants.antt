@@ -8,5 +8,6 @@ use Rattle.room.proofs.base_levels.fill_base_levels.Given as goal
 abbrev pub invariant-loop-k : goal.invariant-loop-k
 invariant-loop-k l = record {
   well_formed : IsWellFormed (source_seen l.rest);
-  written : take l.k l.levels ++ para_levels_of (units_of l.tables (source_seen l.rest)) l.direction ≡ para_levels_of (units_of l.tables (source_seen l.source)) l.direction;
+  written : take l.k l.levels ++ para_levels_of (units_of l.tables (source_seen l.rest)) l.direction ≡
+      para_levels_of (units_of l.tables (source_seen l.source)) l.direction;
 }

@@ -12,7 +12,8 @@ invariant-loop-unit g l = record {
   well_formed : IsWellFormed (source_seen l.rest);
   deep : l.depth + size_of (source_seen l.rest) ≤ size_of (source_seen l.source);
   steps : l.steps + size_of (source_seen l.rest) ≤ l.initial.steps + size_of (source_seen l.source);
-  found : first_side (units_of l.tables (source_seen l.source)) ≡ side_from (units_of l.tables (source_seen l.rest)) l.depth;
+  found : first_side (units_of l.tables (source_seen l.source)) ≡
+      side_from (units_of l.tables (source_seen l.rest)) l.depth;
 }
 
 abbrev pub decreases-loop-unit : goal.decreases-loop-unit

@@ -11,5 +11,7 @@ loop-after-preserved c =
     record {
       well_formed = next.after.well_formed;
       few = omega (arith, next.shorter, l.invariant.few);
-      counted = counted_more (units_of c.args.tables.now (source_seen l.rest)) (units_of c.args.tables.now (source_seen c.in-Some.after)) next.some next.after.units l.count _ l.invariant.counted;
+      counted = counted_more (units_of c.args.tables.now (source_seen l.rest))
+          (units_of c.args.tables.now (source_seen c.in-Some.after)) next.some next.after.units l.count _
+          l.invariant.counted;
     }

@@ -9,7 +9,8 @@ abbrev pub invariant-loop-after : goal.invariant-loop-after
 invariant-loop-after l = record {
   well_formed : IsWellFormed (source_seen l.rest);
   few : l.count + size_of (source_seen l.rest) ≤ size_of (source_seen l.source);
-  counted : l.count + length (paragraphs_of (units_of l.tables (source_seen l.rest))) ≡ length (paragraphs_of (units_of l.tables (source_seen l.source)));
+  counted : l.count + length (paragraphs_of (units_of l.tables (source_seen l.rest))) ≡
+      length (paragraphs_of (units_of l.tables (source_seen l.source)));
 }
 
 abbrev pub decreases-loop-after : goal.decreases-loop-after

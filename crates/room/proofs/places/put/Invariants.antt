@@ -8,5 +8,6 @@ invariant-loop-i g l = record {
   len : length l.out ≡ length l.fn.out;
   reach : (j : ℕ) → l.start ≤ j → l.end ≤ j → l.i ≤ j;
   put : (j : ℕ) (d : g.row.T.Denot) → l.start ≤ j → j < l.i → slice_index_or l.out j d ≡ l.value;
-  others : (j : ℕ) (d : g.row.T.Denot) → (j < l.start) ⊎ (l.i ≤ j) → slice_index_or l.out j d ≡ slice_index_or l.fn.out j d;
+  others : (j : ℕ) (d : g.row.T.Denot) → (j < l.start) ⊎ (l.i ≤ j) →
+      slice_index_or l.out j d ≡ slice_index_or l.fn.out j d;
 }

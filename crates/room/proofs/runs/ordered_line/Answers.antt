@@ -8,5 +8,7 @@ use Rattle.room.proofs.runs.ordered_line.Goals as goal
 pub returns-clause-order : goal.returns-clause-order
 returns-clause-order c have =
     let line = c.line-line.ensures in
-    line_in_order (view_of c.args.layout.now).levels c.levels.result.now c.line-line.result.start c.line-line.result.end c.line-line.result.order.now line.forward c.levels.ensures
-    (subst (λ (l : LineLayout). HasOrder (view_of c.args.layout.now).levels l) line.line.shows (have c.args.k c.requires))
+    line_in_order (view_of c.args.layout.now).levels c.levels.result.now c.line-line.result.start c.line-line.result.end
+    c.line-line.result.order.now line.forward c.levels.ensures
+    (subst (λ (l : LineLayout). HasOrder (view_of c.args.layout.now).levels l) line.line.shows
+    (have c.args.k c.requires))

@@ -8,7 +8,8 @@ use Rattle.room.specs.Rooms.{RoomOf, TextOf, IsBrokenAt, offset_by}
 use Rattle.room.proofs.text.room_with.Goals as goal
 
 -- in a text without offsets, breaks at positions are breaks at offsets
-same_breaks : (offsets : Option (List ℕ)) (indices breaks : List ℕ) → offsets ≡ None → map (offset_by offsets) indices ≡ breaks → indices ≡ breaks
+same_breaks : (offsets : Option (List ℕ)) (indices breaks : List ℕ) → offsets ≡ None →
+    map (offset_by offsets) indices ≡ breaks → indices ≡ breaks
 same_breaks offsets indices breaks none begin =
     sym (map-id indices) ∙ sym (ap (λ (o : Option (List ℕ)). map (offset_by o) indices) none) ∙ begin
 
@@ -24,7 +25,8 @@ alike text limits units direction indices breaks same_limits same_units same_dir
 
 -- a room without offsets contains the layout of its text, broken at the breaks
 laid_out : (room : RoomOf) (breaks : List ℕ) (limits : LimitsOf) (units : List BidiUnit) (direction : Direction)
-    → IsBrokenAt breaks room → room.text.offsets ≡ None → room.text.limits ≡ limits → room.text.units ≡ units → room.text.direction ≡ direction
+    → IsBrokenAt breaks room → room.text.offsets ≡ None → room.text.limits ≡ limits → room.text.units ≡ units →
+    room.text.direction ≡ direction
     → room.layout ≡ layout_of limits units direction breaks
 laid_out room breaks limits units direction broken none same_limits same_units same_direction =
     broken.laid_out

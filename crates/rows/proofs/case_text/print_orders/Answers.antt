@@ -17,10 +17,13 @@ pub loop-k-preserved : goal.loop-k-preserved
 loop-k-preserved g c =
     let lines = (view_of c.args.layout.now).lines in
     let order = ap (λ (l : LineLayout). after_blanks decimal l.order) c.line.ensures.line.shows in
-    one_more_passed _ _ _ _ _ _ _ _ (drop_more lines c.loop-k.k no_line (omega arith)) c.loop-k.invariant (Appends-to _ _ _ _ (sym order) c.in_ok-print_positions.ensures)
+    one_more_passed _ _ _ _ _ _ _ _ (drop_more lines c.loop-k.k no_line (omega arith)) c.loop-k.invariant
+    (Appends-to _ _ _ _ (sym order) c.in_ok-print_positions.ensures)
 
 pub returns : goal.returns
 returns g c =
     let lines = (view_of c.args.layout.now).lines in
-    let all = all_passed _ _ _ _ _ (nil_from_length _ (omega (arith, length-drop c.loop-k.k lines))) c.loop-k.invariant in
-    Appends-to _ _ _ _ (sym (flat_map-twice (λ (p : ℕ). codes " " ++ decimal p) (λ (l : LineLayout). l.order) lines)) all
+    let all = all_passed _ _ _ _ _ (nil_from_length _ (omega (arith, length-drop c.loop-k.k lines))) c.loop-k.invariant
+    in
+    Appends-to _ _ _ _ (sym (flat_map-twice (λ (p : ℕ). codes " " ++ decimal p) (λ (l : LineLayout). l.order) lines))
+    all

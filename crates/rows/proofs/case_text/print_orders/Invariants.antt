@@ -8,4 +8,5 @@ use Rattle.rows.proofs.case_text.print_orders.Given as goal
 abbrev pub invariant-loop-k : goal.invariant-loop-k
 invariant-loop-k g l =
     let lines = (view_of l.layout).lines in
-    HasPrintedUpTo (g.W.Write.contents l.initial.w) (g.W.Write.contents l.w) (λ line. after_blanks decimal line.order) lines (drop l.k lines)
+    HasPrintedUpTo (g.W.Write.contents l.initial.w) (g.W.Write.contents l.w) (λ line.
+    after_blanks decimal line.order) lines (drop l.k lines)

@@ -19,8 +19,10 @@ loop-k-preserved g c =
     let shows = c.line.ensures.line.shows in
     let text = ap (λ (l : LineLayout). after_or_between begun decimal l.order) shows in
     let some = ap (λ (l : LineLayout). begun || has_some l.order) shows in
-    part-begun _ _ _ _ _ _ _ _ _ _ (ap (flat_map (λ (l : LineLayout). l.order)) (drop_more lines c.loop-k.k no_line (omega arith)))
-    (c.has_begun-begun.ensures ∙ sym some) c.loop-k.invariant (Appends-to _ _ _ _ (sym text) c.in_ok-print_line_positions.ensures)
+    part-begun _ _ _ _ _ _ _ _ _ _ (ap (flat_map (λ (l : LineLayout). l.order))
+    (drop_more lines c.loop-k.k no_line (omega arith)))
+    (c.has_begun-begun.ensures ∙
+    sym some) c.loop-k.invariant (Appends-to _ _ _ _ (sym text) c.in_ok-print_line_positions.ensures)
 
 pub returns : goal.returns
 returns g c =

@@ -7,7 +7,8 @@ loop-place-init c = drawn-none _ _ _ _ refl
 
 pub loop-place-preserved : goal.loop-place-preserved
 loop-place-preserved c =
-    drawn-more _ _ _ _ _ _ _ _ (omega arith) c.loop-place.invariant c.draw_letter.ensures.following c.draw_letter.ensures.letter
+    drawn-more _ _ _ _ _ _ _ _ (omega arith) c.loop-place.invariant c.draw_letter.ensures.following
+    c.draw_letter.ensures.letter
 
 pub returns : goal.returns
 returns c = drawn-all _ _ _ _ _ c.loop-place.place (omega arith) c.loop-place.invariant

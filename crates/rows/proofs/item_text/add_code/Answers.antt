@@ -4,12 +4,20 @@ use Rattle.rows.proofs.item_text.add_code.Goals as goal
 
 pub returns-then-number-lt65536-clause-text : goal.returns-then-number-lt65536-clause-text
 returns-then-number-lt65536-clause-text c =
-    rw (c.add_four_digits.ensures.text, c.from-number.ensures, small_code c.args.code (omega (arith, c.if-number-lt65536.true, c.from-number.ensures)))
+    rw (
+      c.add_four_digits.ensures.text,
+      c.from-number.ensures,
+      small_code c.args.code (omega (arith, c.if-number-lt65536.true, c.from-number.ensures)),
+    )
 
 pub returns-then-number-lt1048576-clause-text : goal.returns-then-number-lt1048576-clause-text
 returns-then-number-lt1048576-clause-text c =
     let is = c.from-number.ensures in
-    let front = front_of_one (c.args.code / 65536) (omega (arith, c.if-number-lt65536.false, is)) (omega (arith, c.if-number-lt1048576.true, is)) in
+    let front = front_of_one (c.args.code / 65536) (omega (arith, c.if-number-lt65536.false, is)) (omega (
+      arith,
+      c.if-number-lt1048576.true,
+      is,
+    )) in
     rw (
       c.add_four_digits-then-number-lt1048576.ensures.text,
       c.push.ensures.items,

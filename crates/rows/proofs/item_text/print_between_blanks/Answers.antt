@@ -12,9 +12,16 @@ returns g c =
     let items = c.args.items.now in
     let n = c.add_items-count.result in
     let there : 0 < length items = search (rules, arith) in
-    let some : 0 < n = c.add_items-count.ensures.some there (omega (arith, ap (λ (bs : List ℕ). length bs) c.new-text.ensures)) in
-    let first = c.as_slice.ensures.value ∙ c.add_items-count.ensures.text ∙ ap (λ bs. bs ++ after_blanks text (take n items)) c.new-text.ensures ∙ following-first text items n some there in
+    let some : 0 < n = c.add_items-count.ensures.some there (omega (
+      arith,
+      ap (λ (bs : List ℕ). length bs) c.new-text.ensures,
+    )) in
+    let first = c.as_slice.ensures.value ∙ c.add_items-count.ensures.text ∙
+    ap (λ bs. bs ++ after_blanks text (take n items)) c.new-text.ensures ∙
+    following-first text items n some there in
     let written = Appends-to _ _ _ _ (sliced-following 32 _ _ first) c.in_ok-hand_over.ensures in
-    let whole = ap (λ xs. between_blanks text (take n items) ++ after_blanks text xs) c.split_at.ensures.back ∙ between-parts text items n some there in
-    subst (λ bs. OnOk c.print_after_blanks.result (Appends (g.W.Write.contents c.args.w.now) (g.W.Write.contents c.print_after_blanks.new.w) bs)) whole
+    let whole = ap (λ xs. between_blanks text (take n items) ++ after_blanks text xs) c.split_at.ensures.back ∙
+    between-parts text items n some there in
+    subst (λ bs. OnOk c.print_after_blanks.result (Appends (g.W.Write.contents c.args.w.now)
+    (g.W.Write.contents c.print_after_blanks.new.w) bs)) whole
     (Appends-then c.print_after_blanks.result _ _ _ _ _ written c.print_after_blanks.ensures)

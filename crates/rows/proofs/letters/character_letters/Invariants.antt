@@ -3,4 +3,5 @@ use Rattle.rows.proofs.Looked.{AreLettersSoFar}
 use Rattle.rows.proofs.letters.character_letters.Given as goal
 
 abbrev pub invariant-loop-code : goal.invariant-loop-code
-invariant-loop-code l = AreLettersSoFar (IsCharacterBy l.tables) (letter_by l.tables) l.characters l.code-index l.letters.items
+invariant-loop-code l =
+    AreLettersSoFar (IsCharacterBy l.tables) (letter_by l.tables) l.characters l.code-index l.letters.items

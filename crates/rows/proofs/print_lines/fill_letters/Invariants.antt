@@ -5,4 +5,5 @@ use Rattle.rows.proofs.Looked.{AreLettersSoFar}
 use Rattle.rows.proofs.print_lines.fill_letters.Given as goal
 
 abbrev pub invariant-loop-place : goal.invariant-loop-place
-invariant-loop-place l = AreLettersSoFar (IsLetterOf (kind_of l.naming)) (letter_named l.naming) l.line l.place (take l.place l.row)
+invariant-loop-place l =
+    AreLettersSoFar (IsLetterOf (kind_of l.naming)) (letter_named l.naming) l.line l.place (take l.place l.row)

@@ -35,7 +35,8 @@ loop-remaining-preserved-in_ok-print_line g c =
     let some : 0 < length line = search rules in
     let next = some-line line _ more coming some in
     record {
-      passed = one_more_passed _ _ _ _ _ _ _ _ next c.loop-remaining.invariant.passed c.in_ok-print_line.ensures.printed;
+      passed = one_more_passed _ _ _ _ _ _ _ _ next c.loop-remaining.invariant.passed
+          c.in_ok-print_line.ensures.printed;
       short = (short-first line _ more coming c.loop-remaining.invariant.short).1;
       rows = λ all. c.loop-remaining.invariant.rows (subst (All (IsRowLine c.args.naming)) (sym next)
           (All-cons (IsRowLine c.args.naming) line (filter has_some more) c.print_line.ensures.right all));
@@ -62,7 +63,8 @@ pub returns-clause-printed : goal.returns-clause-printed
 returns-clause-printed g c =
     let naming = c.args.naming in
     let none = ap (λ remaining. filter has_some (remaining_lines remaining)) c.in_default.is in
-    Appends-to _ _ _ _ (sym (text-joined standard (kind_of naming) (cases_of_line naming c.args.directions.now) (row_lines c.args.text.now)))
+    Appends-to _ _ _ _ (sym (text-joined standard (kind_of naming) (cases_of_line naming c.args.directions.now)
+    (row_lines c.args.text.now)))
     (all_passed _ _ _ _ _ none c.loop-remaining.invariant.passed)
 
 pub returns-clause-right : goal.returns-clause-right

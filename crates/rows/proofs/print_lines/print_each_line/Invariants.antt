@@ -13,9 +13,11 @@ use Rattle.rows.proofs.print_lines.print_each_line.Given as goal
 abbrev pub invariant-loop-remaining : goal.invariant-loop-remaining
 invariant-loop-remaining g l = record {
   passed : HasPrintedUpTo (g.W.Write.contents l.initial.w) (g.W.Write.contents l.w)
-      (λ line. cases_text standard (kind_of l.naming) (cases_of_line l.naming l.directions line)) (row_lines l.text) (filter has_some (remaining_lines l.remaining));
+      (λ line. cases_text standard (kind_of l.naming) (cases_of_line l.naming l.directions line)) (row_lines l.text)
+      (filter has_some (remaining_lines l.remaining));
   short : All IsShort (remaining_lines l.remaining);
-  rows : All (IsRowLine l.naming) (filter has_some (remaining_lines l.remaining)) → All (IsRowLine l.naming) (row_lines l.text);
+  rows : All (IsRowLine l.naming) (filter has_some (remaining_lines l.remaining)) →
+      All (IsRowLine l.naming) (row_lines l.text);
   room : KeepsRowRoom l.fn.room l.room;
   size : length l.row ≡ length l.fn.row;
 }

@@ -12,8 +12,13 @@ returns g c =
     let kind = c.args.kind in
     let case : Case = record { text = c.args.text.now; direction = c.args.direction } in
     let lines = lines_with_layout kind (layout_of_case standard case) case in
-    let noted : OnOk c.print_case.result (Appends (g.W.Write.contents c.args.w.now) (g.W.Write.contents c.print_case.new.w) (flat_map ended lines)) =
-    subst (λ (layout : TextLayout). OnOk c.print_case.result (Appends (g.W.Write.contents c.args.w.now) (g.W.Write.contents c.print_case.new.w)
-    (flat_map ended (lines_with_layout kind layout case)))) (c.layout.ensures ∙ c.requires.layout) c.print_case.ensures in
-    subst (λ (ls : List (List ℕ)). OnOk c.print_case.result (Appends (g.W.Write.contents c.args.w.now) (g.W.Write.contents c.print_case.new.w) (flat_map ended ls)))
+    let noted : OnOk c.print_case.result (Appends (g.W.Write.contents c.args.w.now)
+    (g.W.Write.contents c.print_case.new.w) (flat_map ended lines)) =
+    subst (λ (layout : TextLayout).
+    OnOk c.print_case.result (Appends (g.W.Write.contents c.args.w.now) (g.W.Write.contents c.print_case.new.w)
+    (flat_map ended (lines_with_layout kind layout case)))) (c.layout.ensures ∙
+    c.requires.layout) c.print_case.ensures in
+    subst (λ (ls : List (List ℕ)).
+    OnOk c.print_case.result (Appends (g.W.Write.contents c.args.w.now) (g.W.Write.contents c.print_case.new.w)
+    (flat_map ended ls)))
     (sym (append-nil lines)) noted

@@ -12,7 +12,9 @@ loop-direction-init g c = record { passed = nothing_passed _ _ _; laid_out = tt;
 
 pub loop-direction-preserved : goal.loop-direction-preserved
 loop-direction-preserved g c = record {
-  passed = one_more_passed _ _ _ _ _ _ _ _ (drop_more c.args.directions.now c.loop-direction.direction-index Auto c.loop-direction-test.true) c.loop-direction.invariant.passed c.in_ok-print_laid_out.ensures;
+  passed = one_more_passed _ _ _ _ _ _ _ _
+      (drop_more c.args.directions.now c.loop-direction.direction-index Auto c.loop-direction-test.true)
+      c.loop-direction.invariant.passed c.in_ok-print_laid_out.ensures;
   laid_out = rw c.standard-limits.ensures at c.lay_out_again-laid_out.ensures.same;
   room = c.lay_out_again-laid_out.ensures.room ∙ c.loop-direction.invariant.room;
 }
@@ -20,4 +22,5 @@ loop-direction-preserved g c = record {
 pub returns-clause-printed : goal.returns-clause-printed
 returns-clause-printed g c =
     Appends-to _ _ _ _ (text-under standard c.args.kind c.args.text.now c.args.directions.now)
-    (all_passed _ _ _ _ _ (drop_all c.loop-direction.direction-index c.args.directions.now (omega arith)) c.loop-direction.invariant.passed)
+    (all_passed _ _ _ _ _ (drop_all c.loop-direction.direction-index c.args.directions.now (omega arith))
+    c.loop-direction.invariant.passed)

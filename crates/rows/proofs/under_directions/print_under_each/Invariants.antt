@@ -9,7 +9,9 @@ use Rattle.rows.proofs.under_directions.print_under_each.Given as goal
 
 abbrev pub invariant-loop-direction : goal.invariant-loop-direction
 invariant-loop-direction g l = record {
-  passed : HasPrintedUpTo (g.W.Write.contents l.initial.w) (g.W.Write.contents l.w) (λ d. cases_text standard l.kind (record { text = l.text; direction = d } ∷ [])) l.directions (drop l.direction-index l.directions);
+  passed : HasPrintedUpTo (g.W.Write.contents l.initial.w) (g.W.Write.contents l.w) (λ d.
+      cases_text standard l.kind (record { text = l.text; direction = d } ∷ [])) l.directions
+      (drop l.direction-index l.directions);
   laid_out : IfSome l.laid_out (IsLaidOut standard l.units l.scratch);
   room : room_of l.scratch ≡ room_of l.fn.scratch;
 }

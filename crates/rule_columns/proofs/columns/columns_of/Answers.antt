@@ -6,9 +6,13 @@ use Rattle.rule_columns.proofs.PuttingTogether.{columns_fit, if_ok}
 use Rattle.rule_columns.proofs.columns.columns_of.Goals as goal
 
 pub returns-clause-length : goal.returns-clause-length
-returns-clause-length c = if_ok (λ (columns : ColumnsOf). HaveLength columns (length c.args.para.now)) (columns_of c.args.para.now c.args.direction) c.columns_with.result c.columns_with.ensures (columns_fit c.args.para.now c.args.direction)
+returns-clause-length c =
+    if_ok (λ (columns : ColumnsOf). HaveLength columns (length c.args.para.now))
+    (columns_of c.args.para.now c.args.direction) c.columns_with.result c.columns_with.ensures
+    (columns_fit c.args.para.now c.args.direction)
 
 pub returns-clause-inside : goal.returns-clause-inside
 returns-clause-inside c =
-    if_ok (λ (columns : ColumnsOf). NamesInside columns (length c.args.para.now)) (columns_of c.args.para.now c.args.direction) c.columns_with.result c.columns_with.ensures
+    if_ok (λ (columns : ColumnsOf). NamesInside columns (length c.args.para.now))
+    (columns_of c.args.para.now c.args.direction) c.columns_with.result c.columns_with.ensures
     (columns_inside c.args.para.now c.args.direction c.requires.separators)

@@ -14,15 +14,20 @@ pub returns-then-is_strong : goal.returns-then-is_strong
 returns-then-is_strong c =
     let us : List BidiUnit = c.args.para.now in
     let n : length (classes_of us) ≡ length us = length-map us (λ (u : BidiUnit). u.class) in
-    let strong : is_strong (class_at (classes_of us) c.loop-p.p) ≡ true = ap is_strong (class_read us c.loop-p.p no_unit c.loop-p-test.true) ∙ sym c.is_strong.ensures ∙ c.if-is_strong.true in
+    let strong : is_strong (class_at (classes_of us) c.loop-p.p) ≡ true =
+    ap is_strong (class_read us c.loop-p.p no_unit c.loop-p-test.true) ∙ sym c.is_strong.ensures ∙
+    c.if-is_strong.true in
     sym (decided_at (classes_of us) c.loop-p.p c.loop-p.invariant (omega arith) strong)
 
 pub loop-p-preserved : goal.loop-p-preserved
 loop-p-preserved c =
     let us : List BidiUnit = c.args.para.now in
     let n : length (classes_of us) ≡ length us = length-map us (λ (u : BidiUnit). u.class) in
-    let weak : is_strong (class_at (classes_of us) c.loop-p.p) ≡ false = ap is_strong (class_read us c.loop-p.p no_unit c.loop-p-test.true) ∙ sym c.is_strong.ensures ∙ c.if-is_strong.false in
-    undecided_next (classes_of us) c.loop-p.p c.next_outside-p.result c.loop-p.invariant weak c.next_outside-p.ensures.later (omega (arith, c.next_outside-p.ensures.within))
+    let weak : is_strong (class_at (classes_of us) c.loop-p.p) ≡ false =
+    ap is_strong (class_read us c.loop-p.p no_unit c.loop-p-test.true) ∙ sym c.is_strong.ensures ∙
+    c.if-is_strong.false in
+    undecided_next (classes_of us) c.loop-p.p c.next_outside-p.result c.loop-p.invariant weak
+    c.next_outside-p.ensures.later (omega (arith, c.next_outside-p.ensures.within))
     (λ l. c.next_outside-p.ensures.outside (omega arith)) c.next_outside-p.ensures.next
 
 pub returns : goal.returns

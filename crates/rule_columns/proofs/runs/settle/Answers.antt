@@ -13,7 +13,8 @@ use Rattle.rule_columns.proofs.runs.settle.Goals.{then-holds, in-Some, in-None, 
 
 pub loop-k-init : goal.loop-k-init
 loop-k-init g c = (
-  settle_start (in_run c.args.run) (taken_by c.args.run) c.args.start c.args.end c.args.positions.now c.args.classes.now c.requires,
+  settle_start (in_run c.args.run) (taken_by c.args.run) c.args.start c.args.end c.args.positions.now c.args.classes.now
+      c.requires,
   count_start (in_run c.args.run) (classes_at c.args.classes.now c.args.positions.now) c.args.steps.now,
 )
 
@@ -30,31 +31,49 @@ loop-k-preserved g c =
           let t : in_run c.args.run (class_at c.loop-k.classes (slice_index ps c.loop-k.k)) ≡ true = search rules in
           rw (w.classes-is, w.steps-is, w.before-is, w.ahead-is) (elim w.match-ahead.branch [
             | in-Some w' ↦ (
-              settle_same w0 inside w'.in-Some.found (search rules) t w.match-ahead.after w.taken.result w'.after-is (search rules),
-              count_same n0 w'.in-Some.found (search rules) (pass_within w0.pass inside) (ap (in_run c.args.run) (sym reads) ∙ t) w.match-ahead.steps (w'.steps-is ∙ c.tick.ensures) w.match-ahead.after _ refl,
+              settle_same w0 inside w'.in-Some.found (search rules) t w.match-ahead.after w.taken.result w'.after-is
+                  (search rules),
+              count_same n0 w'.in-Some.found (search rules) (pass_within w0.pass inside)
+                  (ap (in_run c.args.run) (sym reads) ∙ t) w.match-ahead.steps (w'.steps-is ∙
+                  c.tick.ensures) w.match-ahead.after _ refl,
             )
             | in-None w' ↦
-                let rest : take (length ps - (c.loop-k.k + 1)) (drop (c.loop-k.k + 1) ps) ≡ drop (c.loop-k.k + 1) ps = take_rest ps (c.loop-k.k + 1) in
-                let past : w'.class_past-after.result ≡ first_class (ends_run c.args.run) (classes_at c.loop-k.classes (drop (c.loop-k.k + 1) ps)) c.args.end =
-                w'.class_past-after.ensures.value ∙ ap (λ qs. first_class (ends_run c.args.run) (classes_at c.loop-k.classes qs) c.args.end) rest in
-                let least : c.loop-k.steps + 1 ≤ w.match-ahead.steps = omega (arith, w'.steps-is, w'.class_past-after.ensures.at_least, c.tick.ensures) in
-                let most : w.match-ahead.steps ≤ c.loop-k.steps + 1 + prefix_len (in_run c.args.run) (classes_at c.loop-k.classes (drop (c.loop-k.k + 1) ps)) + 1 =
-                omega (arith, w'.steps-is, w'.class_past-after.ensures.at_most, ap (λ qs. prefix_len (in_run c.args.run) (classes_at c.loop-k.classes qs)) rest, c.tick.ensures) in (
+                let rest : take (length ps - (c.loop-k.k + 1)) (drop (c.loop-k.k + 1) ps) ≡ drop (c.loop-k.k + 1) ps =
+                take_rest ps (c.loop-k.k + 1) in
+                let past : w'.class_past-after.result ≡
+                first_class (ends_run c.args.run) (classes_at c.loop-k.classes (drop (c.loop-k.k + 1) ps))
+                c.args.end =
+                w'.class_past-after.ensures.value ∙
+                ap (λ qs. first_class (ends_run c.args.run) (classes_at c.loop-k.classes qs) c.args.end) rest in
+                let least : c.loop-k.steps + 1 ≤ w.match-ahead.steps =
+                omega (arith, w'.steps-is, w'.class_past-after.ensures.at_least, c.tick.ensures) in
+                let most : w.match-ahead.steps ≤ c.loop-k.steps + 1 + prefix_len (in_run c.args.run)
+                (classes_at c.loop-k.classes (drop (c.loop-k.k + 1) ps)) + 1 =
+                omega (
+                  arith,
+                  w'.steps-is,
+                  w'.class_past-after.ensures.at_most,
+                  ap (λ qs. prefix_len (in_run c.args.run) (classes_at c.loop-k.classes qs)) rest,
+                  c.tick.ensures,
+                ) in (
                   settle_new w0 inside t w.match-ahead.after w.taken.result (w'.after-is ∙ past) (search rules),
-                  count_new n0 _ (ap (prefix_len (in_run c.args.run)) ahead) (search rules) w.match-ahead.steps least most w.match-ahead.after _ refl,
+                  count_new n0 _ (ap (prefix_len (in_run c.args.run)) ahead)
+                      (search rules) w.match-ahead.steps least most w.match-ahead.after _ refl,
                 )
           ])
       | else-holds w ↦
           let f : in_run c.args.run (class_at c.loop-k.classes (slice_index ps c.loop-k.k)) ≡ false = search rules in
           rw (w.classes-is, w.steps-is, w.before-is, w.ahead-is) (
             settle_other w0 inside f,
-            count_other n0 (pass_within w0.pass inside) (ap (in_run c.args.run) (sym reads) ∙ f) c.tick.new.self c.tick.ensures _ refl,
+            count_other n0 (pass_within w0.pass inside) (ap (in_run c.args.run) (sym reads) ∙
+                f) c.tick.new.self c.tick.ensures _ refl,
           )
     ]
 
 pub returns-clause-classes : goal.returns-clause-classes
 returns-clause-classes g c =
-    pass_end (each_in_run (in_run c.args.run) (taken_by c.args.run) c.args.start c.args.end) c.loop-k.invariant.0.pass (omega arith) (omega arith)
+    pass_end (each_in_run (in_run c.args.run) (taken_by c.args.run) c.args.start c.args.end) c.loop-k.invariant.0.pass
+    (omega arith) (omega arith)
 
 pub returns-clause-at_most : goal.returns-clause-at_most
 returns-clause-at_most g c =

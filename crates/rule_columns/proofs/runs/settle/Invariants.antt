@@ -6,5 +6,6 @@ use Rattle.rule_columns.proofs.runs.settle.Given as goal
 
 abbrev pub invariant-loop-k : goal.invariant-loop-k
 invariant-loop-k g l =
-    SettlePass (in_run l.run) (taken_by l.run) l.fn.start l.end l.positions l.initial.classes l.classes l.before l.ahead l.k
+    SettlePass (in_run l.run) (taken_by l.run) l.fn.start l.end l.positions l.initial.classes l.classes l.before l.ahead
+    l.k
     × StepCount (in_run l.run) (classes_at l.initial.classes l.positions) l.k l.ahead l.initial.steps l.steps

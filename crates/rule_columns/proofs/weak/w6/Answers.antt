@@ -7,11 +7,15 @@ use Rattle.rule_columns.proofs.weak.w6.Goals as goal
 
 pub loop-position-init : goal.loop-position-init
 loop-position-init g c =
-    let fit : ArePositions c.as_slice-positions.result.now (length c.args.classes.now) = rw (c.as_slice-positions.ensures.value, c.requires) c.as_slice-positions.ensures.rise in
+    let fit : ArePositions c.as_slice-positions.result.now (length c.args.classes.now) =
+    rw (c.as_slice-positions.ensures.value, c.requires) c.as_slice-positions.ensures.rise in
     (each_pass_start by_w6 c.as_slice-positions.result.now c.args.classes.now fit, omega arith)
 
 pub loop-position-preserved : goal.loop-position-preserved
-loop-position-preserved g c = (each_pass_write by_w6 c.loop-position.invariant.0 (omega arith) c.by_w6.result (search rules), omega arith)
+loop-position-preserved g c =
+    (each_pass_write by_w6 c.loop-position.invariant.0 (omega arith) c.by_w6.result (search rules), omega arith)
 
 pub returns-clause-classes : goal.returns-clause-classes
-returns-clause-classes g c = rw (← c.as_slice-positions.ensures.value) (pass_end after_w6 c.loop-position.invariant.0 (omega arith) (omega arith))
+returns-clause-classes g c =
+    rw (← c.as_slice-positions.ensures.value) (pass_end after_w6 c.loop-position.invariant.0 (omega arith)
+    (omega arith))

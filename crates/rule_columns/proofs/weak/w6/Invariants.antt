@@ -4,4 +4,5 @@ use Rattle.rule_columns.proofs.RulePasses.{EachPass}
 use Rattle.rule_columns.proofs.weak.w6.Given as goal
 
 abbrev pub invariant-loop-position : goal.invariant-loop-position
-invariant-loop-position g l = EachPass by_w6 l.positions l.initial.classes l.classes l.position-index × (l.steps ≡ l.initial.steps + l.position-index)
+invariant-loop-position g l = EachPass by_w6 l.positions l.initial.classes l.classes l.position-index ×
+    (l.steps ≡ l.initial.steps + l.position-index)

@@ -6,4 +6,5 @@ use Rattle.rule_columns.proofs.weak.w7.Given as goal
 
 abbrev pub invariant-loop-position : goal.invariant-loop-position
 invariant-loop-position g l =
-    NearestPass by_w7 is_strong l.s.sos l.positions l.initial.classes l.classes l.strong l.position-index × (l.steps ≡ l.initial.steps + l.position-index)
+    NearestPass by_w7 is_strong l.s.sos l.positions l.initial.classes l.classes l.strong l.position-index ×
+    (l.steps ≡ l.initial.steps + l.position-index)

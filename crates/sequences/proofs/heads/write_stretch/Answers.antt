@@ -5,7 +5,12 @@ use Rattle.sequences.proofs.Links.{linked-some, pushed_within, pushed_step, push
 use Rattle.sequences.proofs.heads.write_stretch.Goals as goal
 
 pub bounds-column-start : goal.bounds-column-start
-bounds-column-start g c = omega (arith, c.requires.room, ap length (linked-some c.args.links.now c.args.first c.requires.linked c.requires.first))
+bounds-column-start g c =
+    omega (
+      arith,
+      c.requires.room,
+      ap length (linked-some c.args.links.now c.args.first c.requires.linked c.requires.first),
+    )
 
 pub loop-p-init : goal.loop-p-init
 loop-p-init g c =
@@ -17,7 +22,8 @@ loop-p-init g c =
     let one : start + (first - first) + 1 ≡ start + 1 = omega arith in
     record {
       stretch = record { later = omega arith; within = c.requires.first; each = λ p low high. absurd (omega arith) };
-      pushed = pushed_more c.requires.linked (pushed_first c.args.links.now first c.requires.first (take start column)) first refl _
+      pushed = pushed_more c.requires.linked (pushed_first c.args.links.now first c.requires.first (take start column))
+          first refl _
           (ap (λ (k : ℕ). take k (set column start first)) one ∙ take_more_set column start first room) _ refl;
       rest = omega (arith, ap length step);
       steps = omega (arith, c.tick.ensures);
@@ -27,7 +33,15 @@ pub bounds-column-start-in-loop-p : goal.bounds-column-start-in-loop-p
 bounds-column-start-in-loop-p g c =
     let l = c.loop-p in
     let step = pushed_step c.requires.linked l.invariant.pushed (l.p + 1) (c.leads_on.ensures.0 c.loop-p-test.true) in
-    omega (arith, l.invariant.stretch.later, c.requires.room, l.invariant.rest, ap length step, l.auto.column, length-set c.args.column.now c.args.start c.args.first)
+    omega (
+      arith,
+      l.invariant.stretch.later,
+      c.requires.room,
+      l.invariant.rest,
+      ap length step,
+      l.auto.column,
+      length-set c.args.column.now c.args.start c.args.first,
+    )
 
 pub loop-p-preserved : goal.loop-p-preserved
 loop-p-preserved g c =
@@ -38,7 +52,15 @@ loop-p-preserved g c =
     let step = pushed_step c.requires.linked w (p + 1) e in
     let k : ℕ = c.args.start + (p + 1 - c.args.first) in
     let same : k ≡ c.args.start + (p - c.args.first) + 1 = omega (arith, l.invariant.stretch.later) in
-    let room : k < length l.column = omega (arith, same, c.requires.room, l.invariant.rest, ap length step, l.auto.column, length-set c.args.column.now c.args.start c.args.first) in
+    let room : k < length l.column = omega (
+      arith,
+      same,
+      c.requires.room,
+      l.invariant.rest,
+      ap length step,
+      l.auto.column,
+      length-set c.args.column.now c.args.start c.args.first,
+    ) in
     record {
       stretch = record {
         later = omega (arith, l.invariant.stretch.later);
@@ -48,7 +70,8 @@ loop-p-preserved g c =
           | inr other ↦ l.invariant.stretch.each q low (omega arith)
         ];
       };
-      pushed = pushed_more c.requires.linked w (p + 1) e _ (take_more_set l.column k (p + 1) room ∙ ap (λ (n : ℕ). take n l.column ++ (p + 1) ∷ []) same) _ refl;
+      pushed = pushed_more c.requires.linked w (p + 1) e _ (take_more_set l.column k (p + 1) room ∙
+          ap (λ (n : ℕ). take n l.column ++ (p + 1) ∷ []) same) _ refl;
       rest = omega (arith, same, l.invariant.rest, ap length step);
       steps = omega (arith, c.tick-in-loop-p.ensures, l.invariant.steps);
     }

@@ -9,21 +9,27 @@ use Rattle.sequences.proofs.linking.link.Goals as goal
 
 pub go_on-link-requires-clause-known : goal.go_on-link-requires-clause-known
 go_on-link-requires-clause-known g c =
-    back_known c.args.t.now c.loop-p.p c.loop-p.following c.loop-p.links c.loop-p.ends c.loop-p.joined c.loop-p.invariant.0 c.loop-p.invariant.1 (c.loop-p.p - 1) (omega arith)
+    back_known c.args.t.now c.loop-p.p c.loop-p.following c.loop-p.links c.loop-p.ends c.loop-p.joined
+    c.loop-p.invariant.0 c.loop-p.invariant.1 (c.loop-p.p - 1) (omega arith)
 
 pub link_level-p-requires-clause-level : goal.link_level-p-requires-clause-level
 link_level-p-requires-clause-level g c = sym c.level-level.ensures.value ∙ c.in-Some.is
 
 pub link_level-p-requires-clause-end : goal.link_level-p-requires-clause-end
 link_level-p-requires-clause-end g c =
-    end_is c.loop-p.invariant.0 (c.loop-p.p - 1) (omega arith) c.len-p.ensures.leveled c.go_on-link.result.link c.go_on-link.ensures.link c.go_on-link.result.end c.go_on-link.ensures.end
+    end_is c.loop-p.invariant.0 (c.loop-p.p - 1) (omega arith) c.len-p.ensures.leveled c.go_on-link.result.link
+    c.go_on-link.ensures.link c.go_on-link.result.end c.go_on-link.ensures.end
 
 pub link_level-p-requires-clause-follow : goal.link_level-p-requires-clause-follow
 link_level-p-requires-clause-follow g c =
     let t = c.args.t.now in
     let p = c.loop-p.p - 1 in
     let here : level_of t p ≡ Some c.in-Some.level = sym c.level-level.ensures.value ∙ c.in-Some.is in
-    rw (c.link_to.ensures, c.mark.ensures) (back_step c.loop-p.invariant.0 p (omega arith) c.len-p.ensures.leveled c.go_on-link.result.link c.go_on-link.ensures.link
+    rw (
+      c.link_to.ensures,
+      c.mark.ensures,
+    ) (back_step c.loop-p.invariant.0 p (omega arith) c.len-p.ensures.leveled c.go_on-link.result.link
+    c.go_on-link.ensures.link
     c.go_on-link.result.end c.go_on-link.ensures.end _ (sym (cond-true (remains t p) _ _ (ap is_some here))))
 
 pub loop-p-preserved-in-Some : goal.loop-p-preserved-in-Some
@@ -39,7 +45,11 @@ loop-p-preserved g c =
     let t = c.args.t.now in
     let p = c.loop-p.p - 1 in
     let here : level_of t p ≡ None = sym c.level-level.ensures.value ∙ c.in_default.is in (
-      rw (c.link_to.ensures, c.mark.ensures) (back_step c.loop-p.invariant.0 p (omega arith) c.len-p.ensures.leveled c.go_on-link.result.link c.go_on-link.ensures.link
+      rw (
+        c.link_to.ensures,
+        c.mark.ensures,
+      ) (back_step c.loop-p.invariant.0 p
+          (omega arith) c.len-p.ensures.leveled c.go_on-link.result.link c.go_on-link.ensures.link
           c.go_on-link.result.end c.go_on-link.ensures.end _ (sym (cond-false (remains t p) _ _ (ap is_some here)))),
       c.loop-p.invariant.1,
       omega arith,

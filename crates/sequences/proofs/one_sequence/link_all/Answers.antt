@@ -7,6 +7,8 @@ pub loop-k-preserved : goal.loop-k-preserved
 loop-k-preserved g c =
     let P : ℕ → Type 0 = λ n. ArePositions c.args.positions.now n in
     record {
-      linked = linked_more c.args.positions.now c.loop-k.k c.loop-k.links c.position_after.result (subst P (sym c.loop-k.auto.links) c.requires.rise) c.loop-k-test.true c.position_after.ensures c.loop-k.invariant.linked;
+      linked = linked_more c.args.positions.now c.loop-k.k c.loop-k.links c.position_after.result
+          (subst P (sym c.loop-k.auto.links) c.requires.rise) c.loop-k-test.true c.position_after.ensures
+          c.loop-k.invariant.linked;
       steps = omega arith;
     }

@@ -9,5 +9,6 @@ returns-clause-chain g c =
     let links = c.loop-p.links in
     let long : length links ≡ n = c.loop-p.auto.links in
     successive_chain n _
-    (λ p lt. get_or-set_other links (n - 1) p c.none.result None (λ e. omega arith) ∙ c.loop-p.invariant.linked p (omega arith))
+    (λ p lt. get_or-set_other links (n - 1) p c.none.result None (λ e. omega arith) ∙
+    c.loop-p.invariant.linked p (omega arith))
     (get_or-set_same links (n - 1) c.none.result None (omega arith) ∙ c.none.ensures)

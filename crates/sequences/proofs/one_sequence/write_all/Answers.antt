@@ -7,6 +7,7 @@ pub loop-p-preserved : goal.loop-p-preserved
 loop-p-preserved g c =
     let p : ℕ = c.loop-p.p in
     record {
-      placed = take_more_set c.loop-p.column p p (omega (arith, c.loop-p.auto.column)) ∙ ap (λ (ps : List ℕ). ps ++ p ∷ []) c.loop-p.invariant.placed ∙ sym (positions_more p);
+      placed = take_more_set c.loop-p.column p p (omega (arith, c.loop-p.auto.column)) ∙
+          ap (λ (ps : List ℕ). ps ++ p ∷ []) c.loop-p.invariant.placed ∙ sym (positions_more p);
       steps = omega arith;
     }

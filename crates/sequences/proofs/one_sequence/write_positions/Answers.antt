@@ -10,7 +10,9 @@ use Rattle.sequences.proofs.one_sequence.write_positions.Goals as goal
 pub returns-then-all_remain : goal.returns-then-all_remain
 returns-then-all_remain g c =
     let n : ℕ = length c.args.para.now in
-    let all : remaining_of (classes_of c.args.para.now) ≡ positions_from 0 n = all_remain (classes_of c.args.para.now) (c.requires.all_remain c.if-all_remain.true) ∙ ap (positions_from 0) (length-classes_of c.args.para.now) in
+    let all : remaining_of (classes_of c.args.para.now) ≡ positions_from 0 n =
+    all_remain (classes_of c.args.para.now) (c.requires.all_remain c.if-all_remain.true) ∙
+    ap (positions_from 0) (length-classes_of c.args.para.now) in
     record {
       count = sym (ap length all ∙ length-positions_from 0 n);
       placed = c.write_all.ensures.placed ∙ sym all;

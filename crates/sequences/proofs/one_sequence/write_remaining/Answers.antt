@@ -16,7 +16,8 @@ loop-p-preserved g c =
     let us : List BidiUnit = c.args.para.now in
     let cs : List Class = classes_of us in
     let p : ℕ = c.loop-p.p in
-    let here : is_remaining (class_at cs p) ≡ not c.is_removed.result = remaining_by_class us p no_unit c.is_removed.result c.loop-p-test.true c.is_removed.ensures in
+    let here : is_remaining (class_at cs p) ≡ not c.is_removed.result =
+    remaining_by_class us p no_unit c.is_removed.result c.loop-p-test.true c.is_removed.ensures in
     elim c.if-not-is_removed.branch [
       | then-not-is_removed w ↦ record {
         placed = rw (w.count-is, w.column-is) (
@@ -28,7 +29,8 @@ loop-p-preserved g c =
         steps = omega arith;
       }
       | else-not-is_removed w ↦ record {
-        placed = rw (w.count-is, w.column-is) (c.loop-p.invariant.placed ∙ sym (before_gone cs p (here ∙ ap not w.if-not-is_removed.false)));
+        placed = rw (w.count-is, w.column-is) (c.loop-p.invariant.placed ∙
+            sym (before_gone cs p (here ∙ ap not w.if-not-is_removed.false)));
         within = rw w.count-is (omega arith);
         steps = omega arith;
       }

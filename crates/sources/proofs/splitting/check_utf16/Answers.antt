@@ -10,11 +10,13 @@ loop-at-preserved c =
     let l = c.loop-at in
     let count = l.invariant.0 in
     let found = c.char_at.result in
-    let next = at_next text count l.at found.0 found.1 c.char_at.ensures.first c.char_at.ensures.following c.char_at.ensures.forward c.char_at.ensures.inside l.invariant.1 in (
+    let next = at_next text count l.at found.0 found.1 c.char_at.ensures.first c.char_at.ensures.following
+    c.char_at.ensures.forward c.char_at.ensures.inside l.invariant.1 in (
       count + 1,
       next.later,
       λ k lt. elim (cases_eq k count) [
-        | inl e ↦ subst (IsPaired text) (sym e) (λ none. is_some c.in-Some-default.field-0-0 (sym c.in-Some-default.is-0 ∙ sym next.spelled ∙ none))
+        | inl e ↦ subst (IsPaired text) (sym e) (λ none.
+            is_some c.in-Some-default.field-0-0 (sym c.in-Some-default.is-0 ∙ sym next.spelled ∙ none))
         | inr ne ↦ l.invariant.2 k (omega (arith, lt, ne))
       ],
     )

@@ -12,5 +12,6 @@ pub returns-in-Err-clause-width : goal.returns-in-Err-clause-width
 returns-in-Err-clause-width c =
     let bytes = c.args.bytes.now in
     let error = c.in-Err.error in
-    let same = fault_at_front bytes (valid_up_to error) (error_len error) c.requires.some c.requires.none c.in-Err.ensures.valid_len c.in-Err.ensures.fault in
+    let same = fault_at_front bytes (valid_up_to error) (error_len error) c.requires.some c.requires.none
+    c.in-Err.ensures.valid_len c.in-Err.ensures.fault in
     c.unwrap_or.ensures ∙ ap (λ (o : Option ℕ). unwrap_or o (length bytes)) (c.error_len.ensures ∙ same)

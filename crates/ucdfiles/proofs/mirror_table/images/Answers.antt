@@ -9,6 +9,7 @@ pub returns-clause-rising : goal.returns-clause-rising
 returns-clause-rising c =
     let spans = c.args.spans.now in
     let image = λ (c : ℕ). Some c in
-    let all : c.loop-span.images.items ≡ map (revalued image) spans = c.loop-span.invariant ∙ ap (map (revalued image)) (take_all c.loop-span.span-index spans (omega arith)) in
+    let all : c.loop-span.images.items ≡ map (revalued image) spans = c.loop-span.invariant ∙
+    ap (map (revalued image)) (take_all c.loop-span.span-index spans (omega arith)) in
     let P : List (Span (Option ℕ)) → Type 0 = λ ss. IsRising ss in
     subst P (sym all) (rising-revalued image 0 spans c.requires)

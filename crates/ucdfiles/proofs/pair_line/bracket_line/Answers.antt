@@ -4,13 +4,20 @@ use Rattle.ucdfiles.proofs.PairLines.{pair-silent, pair-says}
 use Rattle.ucdfiles.proofs.pair_line.bracket_line.Goals as goal
 
 pub returns-then-line-gt-LONGEST_LINE-clause-value : goal.returns-then-line-gt-LONGEST_LINE-clause-value
-returns-then-line-gt-LONGEST_LINE-clause-value c = pair_line_says-long bracket_in c.args.line.now c.if-line-gt-LONGEST_LINE.true
+returns-then-line-gt-LONGEST_LINE-clause-value c =
+    pair_line_says-long bracket_in c.args.line.now c.if-line-gt-LONGEST_LINE.true
 
 pub returns-then-is_empty-clause-value : goal.returns-then-is_empty-clause-value
-returns-then-is_empty-clause-value c = pair-silent bracket_in c.args.line.now c.content-content.result.now c.if-line-gt-LONGEST_LINE.false c.content-content.ensures.content c.if-is_empty.ensures
+returns-then-is_empty-clause-value c =
+    pair-silent bracket_in c.args.line.now c.content-content.result.now c.if-line-gt-LONGEST_LINE.false
+    c.content-content.ensures.content c.if-is_empty.ensures
 
 pub returns-in-Ok-clause-value : goal.returns-in-Ok-clause-value
-returns-in-Ok-clause-value c = pair-says bracket_in c.args.line.now c.content-content.result.now c.if-line-gt-LONGEST_LINE.false c.content-content.ensures.content c.if-is_empty.ensures _ c.in-Ok.ensures.value
+returns-in-Ok-clause-value c =
+    pair-says bracket_in c.args.line.now c.content-content.result.now c.if-line-gt-LONGEST_LINE.false
+    c.content-content.ensures.content c.if-is_empty.ensures _ c.in-Ok.ensures.value
 
 pub returns-in-Err-clause-value : goal.returns-in-Err-clause-value
-returns-in-Err-clause-value c = pair-says bracket_in c.args.line.now c.content-content.result.now c.if-line-gt-LONGEST_LINE.false c.content-content.ensures.content c.if-is_empty.ensures _ c.in-Err.ensures.value
+returns-in-Err-clause-value c =
+    pair-says bracket_in c.args.line.now c.content-content.result.now c.if-line-gt-LONGEST_LINE.false
+    c.content-content.ensures.content c.if-is_empty.ensures _ c.in-Err.ensures.value

@@ -14,8 +14,11 @@ returns-in_err-take_cut-clause-err g c =
     let rest = take (length piece - at) (drop at piece) in
     let r = c.loop-at.invariant.1 b s in
     rw (← rest_joined at used piece b)
-    (step-err (g.T.LineTable.represents c.loop-at.table) (g.T.LineTable.represents c.take_cut.new.table) g.T.LineTable.fault c.loop-at.splitter c.take.follows.lender-at-none (b ++ take at piece) rest used
-    c.take.result.1 _ (drop used rest) g.met.T.LineTable.over_long r c.take.ensures.used (c.take.ensures.through _ r.lines r.rest r.cuts r.whole) (c.take.ensures.outcome _ r.cuts) c.in_err-take_cut.ensures.err))
+    (step-err (g.T.LineTable.represents c.loop-at.table) (g.T.LineTable.represents c.take_cut.new.table)
+    g.T.LineTable.fault c.loop-at.splitter c.take.follows.lender-at-none (b ++ take at piece) rest used
+    c.take.result.1 _ (drop used rest) g.met.T.LineTable.over_long r c.take.ensures.used
+    (c.take.ensures.through _ r.lines r.rest r.cuts r.whole)
+    (c.take.ensures.outcome _ r.cuts) c.in_err-take_cut.ensures.err))
 
 pub loop-at-preserved : goal.loop-at-preserved
 loop-at-preserved g c =
@@ -27,6 +30,8 @@ loop-at-preserved g c =
       λ b s.
           let r = c.loop-at.invariant.1 b s in
           rw (joined at used piece b)
-          (step-ok (g.T.LineTable.represents c.loop-at.table) (g.T.LineTable.represents c.take_cut.new.table) g.T.LineTable.fault c.loop-at.splitter c.take.follows.lender-at-none (b ++ take at piece) rest used
-          c.take.result.1 r (c.take.follows.holds-at-none _ r.cuts) (c.take.ensures.outcome _ r.cuts) c.in_ok-take_cut.ensures.ok),
+          (step-ok (g.T.LineTable.represents c.loop-at.table) (g.T.LineTable.represents c.take_cut.new.table)
+          g.T.LineTable.fault c.loop-at.splitter c.take.follows.lender-at-none (b ++ take at piece) rest used
+          c.take.result.1 r (c.take.follows.holds-at-none _ r.cuts)
+          (c.take.ensures.outcome _ r.cuts) c.in_ok-take_cut.ensures.ok),
     )

@@ -11,10 +11,13 @@ returns-in-Ok-clause-rising g c =
     let ss = c.args.spans.now.items in
     let n = c.ended_before-ended.result in
     let within : n ≤ length ss = omega (arith, ap length c.deref.ensures.value, c.ended_before-ended.ensures.bound) in
-    let below : AllWithin (λ (s : Span g.row.V.Denot). s.last < c.args.span.first) ss 0 n = rw c.deref.ensures.value at c.ended_before-ended.ensures.below in
-    let above = λ (lt : n < length ss) (d : Span g.row.V.Denot). (let e : c.args.span.last < (get_or ss n d).first = elim c.else-ended-len.branch [
+    let below : AllWithin (λ (s : Span g.row.V.Denot). s.last < c.args.span.first) ss 0 n =
+    rw c.deref.ensures.value at c.ended_before-ended.ensures.below in
+    let above = λ (lt : n < length ss) (d : Span g.row.V.Denot). (let e : c.args.span.last < (get_or ss n d).first =
+    elim c.else-ended-len.branch [
       | else-ended-len-via-then-ended-len+else-index-span w ↦
-          let over : c.args.span.last < (get_or ss n w.index.result.now).first = omega (arith, ap (λ (s : Span g.row.V.Denot). s.first) w.index.ensures, w.if-index-span.false) in
+          let over : c.args.span.last < (get_or ss n w.index.result.now).first =
+          omega (arith, ap (λ (s : Span g.row.V.Denot). s.first) w.index.ensures, w.if-index-span.false) in
           begins_above ss n c.args.span.last w.index.result.now over lt d
       | else-ended-len-via-else-ended-len w ↦ absurd (omega arith)
     ] in e) in
@@ -23,13 +26,19 @@ returns-in-Ok-clause-rising g c =
 pub returns-in-Ok-clause-ok : goal.returns-in-Ok-clause-ok
 returns-in-Ok-clause-ok g c =
     let rs = c.args.spans.now.items in
-    let within : c.ended_before-ended.result ≤ length rs = omega (arith, ap length c.deref.ensures.value, c.ended_before-ended.ensures.bound) in
-    let below : AllWithin (λ (s : Span g.row.V.Denot). s.last < c.args.span.first) rs 0 c.ended_before-ended.result = rw c.deref.ensures.value at c.ended_before-ended.ensures.below in
+    let within : c.ended_before-ended.result ≤ length rs =
+    omega (arith, ap length c.deref.ensures.value, c.ended_before-ended.ensures.bound) in
+    let below : AllWithin (λ (s : Span g.row.V.Denot). s.last < c.args.span.first) rs 0 c.ended_before-ended.result =
+    rw c.deref.ensures.value at c.ended_before-ended.ensures.below in
     let none : list_any (overlaps c.args.span) rs ≡ false =
-    overlaps-none rs c.ended_before-ended.result c.args.span c.requires.rising within below (λ lt d. elim c.else-ended-len.branch [
+    overlaps-none rs c.ended_before-ended.result c.args.span c.requires.rising within below (λ lt d.
+    elim c.else-ended-len.branch [
       | else-ended-len-via-then-ended-len+else-index-span w ↦
-          let above : c.args.span.last < (get_or rs c.ended_before-ended.result w.index.result.now).first = omega (arith, ap (λ (s : Span g.row.V.Denot). s.first) w.index.ensures, w.if-index-span.false) in
+          let above : c.args.span.last < (get_or rs c.ended_before-ended.result w.index.result.now).first =
+          omega (arith, ap (λ (s : Span g.row.V.Denot). s.first) w.index.ensures, w.if-index-span.false) in
           begins_above rs c.ended_before-ended.result c.args.span.last w.index.result.now above lt d
       | else-ended-len-via-else-ended-len w ↦ absurd (omega arith)
-    ]) in
-    (rw c.in-Ok.ensures.items (Adds-insert rs c.ended_before-ended.result c.args.span within none), data_fault-none c.args.taken rs c.args.span (omega arith) none)
+    ]) in (
+      rw c.in-Ok.ensures.items (Adds-insert rs c.ended_before-ended.result c.args.span within none),
+      data_fault-none c.args.taken rs c.args.span (omega arith) none,
+    )

@@ -7,5 +7,7 @@ use Rattle.ucdfiles.proofs.spans.begun_by.Goals as goal
 
 pub returns-clause-above : goal.returns-clause-above
 returns-clause-above g c =
-    let point = IsPartitionPoint-from_clause (λ (s : Span g.row.V.Denot). leb s.first c.args.code) _ _ c.partition_point.ensures.partitioned (parted_first c.args.spans.now c.args.code c.requires) (λ a r q k. search rules) in
+    let point = IsPartitionPoint-from_clause (λ (s : Span g.row.V.Denot). leb s.first c.args.code) _ _
+    c.partition_point.ensures.partitioned (parted_first c.args.spans.now c.args.code c.requires) (λ a r q k.
+    search rules) in
     λ k d low high. leb-false _ _ (point.1 k d low high)

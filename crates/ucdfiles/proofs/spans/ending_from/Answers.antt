@@ -9,4 +9,5 @@ pub returns-clause-finds : goal.returns-clause-finds
 returns-clause-finds g c code low =
     let rs = c.args.spans.now in
     let n = c.ended_before-ended.result in
-    ap (find (holds code)) (take_all (length rs - n) (drop n rs) (omega (arith, length-drop n rs))) ∙ find-drop rs n code (λ k d a b. omega (arith, c.ended_before-ended.ensures.below k d a b))
+    ap (find (holds code)) (take_all (length rs - n) (drop n rs) (omega (arith, length-drop n rs))) ∙
+    find-drop rs n code (λ k d a b. omega (arith, c.ended_before-ended.ensures.below k d a b))

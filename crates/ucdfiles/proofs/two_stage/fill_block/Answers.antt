@@ -10,6 +10,9 @@ returns-clause-values g c k d lt =
     let met = c.meeting.result.now in
     let defaults = c.args.defaults.now in
     c.paint_all-2.ensures.values k d (omega arith)
-    ∙ ap (value_over_all code met) (c.paint_all.ensures.values k d (omega arith) ∙ ap (value_over_all code defaults) (c.paint.ensures.values k d (omega arith) ∙ value_over-everything code c.args.none _ (omega arith)))
+    ∙ ap (value_over_all code met) (c.paint_all.ensures.values k d (omega arith) ∙
+    ap (value_over_all code defaults) (c.paint.ensures.values k d (omega arith) ∙
+    value_over-everything code c.args.none _ (omega arith)))
     ∙ painted-value code met defaults c.args.none c.meeting.ensures.rising
-    ∙ ap (λ o. unwrap_or o c.args.none) (value_in-find code met c.args.spans.now defaults (c.meeting.ensures.finds code (omega arith) (omega arith)))
+    ∙ ap (λ o. unwrap_or o c.args.none) (value_in-find code met c.args.spans.now defaults
+    (c.meeting.ensures.finds code (omega arith) (omega arith)))

@@ -18,5 +18,6 @@ unfolding stop_of stop_at_63 bracket_pairs_of pairs_of_63
 returns-clause-pairs c = λ bs. refl
 
 pub returns-clause-layouts : goal.returns-clause-layouts
-unfolding entered entered_to_125 explicit_at explicit_at_to_125 stop_of stop_at_63 bracket_pairs_of pairs_of_63 resolved_levels standard_resolved_levels layout_of standard_layout
+unfolding entered entered_to_125 explicit_at explicit_at_to_125 stop_of stop_at_63 bracket_pairs_of pairs_of_63
+    resolved_levels standard_resolved_levels layout_of standard_layout
 returns-clause-layouts c = λ text direction breaks. refl

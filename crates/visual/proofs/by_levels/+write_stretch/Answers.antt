@@ -16,8 +16,14 @@ loop-end-preserved-then-levels-end-2 t c =
     let stretch = c.write_stretch-higher_end.ensures in
     record {
       len = omega (arith, c.reverse_span.ensures.len, stretch.len, l.invariant.len);
-      so_far = written_higher c.args.levels.now l.invariant.so_far l.invariant.len (grind (arith, common_steps)) c.write_stretch-higher_end.result c.write_stretch-higher_end.new.order c.reverse_span.new.order
-          (grind (arith, common_steps)) stretch.forward stretch.within (record { above = stretch.above }) stretch.stops stretch.order c.reverse_span.ensures.reversed;
+      so_far = written_higher c.args.levels.now l.invariant.so_far l.invariant.len (grind (
+        arith,
+        common_steps,
+      )) c.write_stretch-higher_end.result c.write_stretch-higher_end.new.order c.reverse_span.new.order
+          (grind (arith, common_steps)) stretch.forward stretch.within (record {
+            above =
+                stretch.above;
+          }) stretch.stops stretch.order c.reverse_span.ensures.reversed;
     }
 
 pub loop-end-preserved : goal.loop-end-preserved
@@ -25,5 +31,6 @@ loop-end-preserved t c =
     let l = c.loop-end in
     record {
       len = grind (arith, common_steps);
-      so_far = written_one c.args.levels.now l.invariant.so_far l.invariant.len (grind (arith, common_steps)) (grind (arith, common_steps));
+      so_far = written_one c.args.levels.now l.invariant.so_far l.invariant.len (grind (arith, common_steps))
+          (grind (arith, common_steps));
     }

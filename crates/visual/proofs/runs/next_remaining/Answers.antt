@@ -5,4 +5,5 @@ use Rattle.visual.proofs.runs.next_remaining.Goals as goal
 
 pub loop-next-preserved : goal.loop-next-preserved
 loop-next-preserved c =
-    c.loop-next.invariant ∙ next-removed c.args.levels.now c.args.end c.loop-next.next c.loop-next-test.true (grind (arith, common_steps))
+    c.loop-next.invariant ∙
+    next-removed c.args.levels.now c.args.end c.loop-next.next c.loop-next-test.true (grind (arith, common_steps))

@@ -19,7 +19,8 @@ fields_sent = search (sendable, crosses) depth 20
 
 owned_keyless : (a : Global) (p : Ptr) (v : Option contents.the_row.Denot) → Keyless (kept contents.the_row a p v)
 owned_keyless a p None = tt
-owned_keyless a p (Some x) = (lies contents.the_row contents_send p x, frees.frees a (raw (lone contents.the_row.mir)) p)
+owned_keyless a p (Some x) =
+    (lies contents.the_row contents_send p x, frees.frees a (raw (lone contents.the_row.mir)) p)
 
 pub send : IsSend the_row
 send = owning_send the_type fields_sent (λ h. owned_keyless h.alloc h.at h.value) (λ k d w. tt)

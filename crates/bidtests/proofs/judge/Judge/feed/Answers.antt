@@ -8,4 +8,5 @@ returns c = λ limits kind b judges.
     let inside = c.self.inside in
     let P : Judging → Type 0 = λ j. Judges limits kind j b in
     let before : Judges limits kind (judging inside.kind inside.state) b = subst P (sym c.self.view_is) judges in
-    judges-of limits kind inside.kind c.feed.new.self (b ++ c.args.piece.now) before.of (c.feed.ensures limits b (state-of limits kind inside.kind inside.state b before))
+    judges-of limits kind inside.kind c.feed.new.self (b ++ c.args.piece.now) before.of
+    (c.feed.ensures limits b (state-of limits kind inside.kind inside.state b before))

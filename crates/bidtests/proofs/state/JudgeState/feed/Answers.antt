@@ -12,7 +12,8 @@ returns-then-is_some c = λ limits b h.
     let self = c.loop-at.self-inside in
     let state : StateOf = record { cutting = self.splitter; carried = self.line_judge; decided = self.decided } in
     holds-for limits kind state (b ++ c.args.piece.now)
-    (feeds-some limits kind (judging kind state) b c.args.piece.now c.loop-at.at (sym c.is_some.ensures ∙ c.if-is_some.true)
+    (feeds-some limits kind (judging kind state) b c.args.piece.now c.loop-at.at (sym c.is_some.ensures ∙
+    c.if-is_some.true)
     (record { of = refl; is = c.loop-at.invariant.holds limits b h kind refl })).is
 
 pub loop-at-preserved : goal.loop-at-preserved
@@ -33,8 +34,11 @@ loop-at-preserved c =
           rw (joined at used piece b)
           (holds-for limits kind next ((b ++ take at piece) ++ take used rest)
           (feeds-on (judging kind state) c.take.follows.lender-at-none line_judge decided rest used c.take.result.1
-          (is_some_false self.decided (sym c.is_some.ensures ∙ c.if-is_some.false)) c.take.ensures.used c.take.ensures.through c.take.ensures.outcome c.take.follows.holds-at-none
+          (is_some_false self.decided (sym c.is_some.ensures ∙
+          c.if-is_some.false)) c.take.ensures.used c.take.ensures.through c.take.ensures.outcome
+          c.take.follows.holds-at-none
           (c.err-self-inside.ensures.value ∙ c.judge_cut.ensures.no)
-          (λ none. if-no-error _ c.judge_cut.result (sym c.err-self-inside.ensures.value ∙ none) c.judge_cut.ensures.carried) limits kind (b ++ take at piece)
+          (λ none. if-no-error _ c.judge_cut.result (sym c.err-self-inside.ensures.value ∙
+          none) c.judge_cut.ensures.carried) limits kind (b ++ take at piece)
           (record { of = refl; is = c.loop-at.invariant.holds limits b h kind refl })).is);
     }

@@ -17,7 +17,8 @@ unfolding stored
 returns-in-Some-clause-opened c =
     let name = c.args.name.now in
     let files = c.self.inside.files.now in
-    let first : option_map (λ (b : Bor MemoryFile). b.now) c.find.result ≡ find (λ (file : MemoryFile). bytes_eq file.name.now name) files =
+    let first : option_map (λ (b : Bor MemoryFile). b.now) c.find.result ≡ find (λ (file : MemoryFile).
+    bytes_eq file.name.now name) files =
     find_from_yields_List (λ (file : MemoryFile). bytes_eq file.name.now name) _ _ c.find.result c.find.ensures.ran
     (YieldsList-from_slice files cc) (λ x b q k. search (rules, tests)) in
     let is : c.find.result ≡ Some c.in-Some.file = search rules in
@@ -35,7 +36,8 @@ unfolding stored
 returns-in-None-clause-cannot c =
     let name = c.args.name.now in
     let files = c.self.inside.files.now in
-    let first : option_map (λ (b : Bor MemoryFile). b.now) c.find.result ≡ find (λ (file : MemoryFile). bytes_eq file.name.now name) files =
+    let first : option_map (λ (b : Bor MemoryFile). b.now) c.find.result ≡ find (λ (file : MemoryFile).
+    bytes_eq file.name.now name) files =
     find_from_yields_List (λ (file : MemoryFile). bytes_eq file.name.now name) _ _ c.find.result c.find.ensures.ran
     (YieldsList-from_slice files cc) (λ x b q k. search (rules, tests)) in
     let is : c.find.result ≡ None = search rules in

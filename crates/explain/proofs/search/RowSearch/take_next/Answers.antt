@@ -11,10 +11,13 @@ returns-in_err-row-clause-comes c = λ b h.
     let most : c.args.wanted ≤ most_counted = omega (arith, c.ranges.wanted.fits) in
     let old : Searching = record { cutting = inside.splitter; rows = inside.rows } in
     let new : Searching = record { cutting = c.take.follows.lender-at-none; rows = c.take_cut.new.rows } in
-    let o : SearchesOn kind c.args.wanted old b = subst (λ (s : Searching). SearchesOn kind c.args.wanted s b) (sym c.self.view_is) h in
+    let o : SearchesOn kind c.args.wanted old b =
+    subst (λ (s : Searching). SearchesOn kind c.args.wanted s b) (sym c.self.view_is) h in
     steps-fault kind c.args.wanted new b c.args.piece.now _ _ c.from_residual.ensures.1
-    (rejected-by kind c.args.wanted most old new b c.args.piece.now c.take.result.0 o c.take.ensures.used (c.take.ensures.through b o.lines o.rest o.splitter o.cut)
-    (c.take.follows.holds-at-none b o.splitter) c.take.result.1 (c.take.ensures.outcome b o.splitter) _ c.in_err-row.ensures.says)
+    (rejected-by kind c.args.wanted most old new b c.args.piece.now c.take.result.0 o c.take.ensures.used
+    (c.take.ensures.through b o.lines o.rest o.splitter o.cut)
+    (c.take.follows.holds-at-none b o.splitter) c.take.result.1
+    (c.take.ensures.outcome b o.splitter) _ c.in_err-row.ensures.says)
 
 pub returns-clause-comes : goal.returns-clause-comes
 returns-clause-comes c = λ b h.
@@ -23,6 +26,9 @@ returns-clause-comes c = λ b h.
     let most : c.args.wanted ≤ most_counted = omega (arith, c.ranges.wanted.fits) in
     let old : Searching = record { cutting = inside.splitter; rows = inside.rows } in
     let new : Searching = record { cutting = c.take.follows.lender-at-none; rows = c.take_cut.new.rows } in
-    let o : SearchesOn kind c.args.wanted old b = subst (λ (s : Searching). SearchesOn kind c.args.wanted s b) (sym c.self.view_is) h in
-    comes-by kind c.args.wanted most old new b c.args.piece.now c.take.result.0 o c.take.ensures.used (c.take.ensures.through b o.lines o.rest o.splitter o.cut)
-    (c.take.follows.holds-at-none b o.splitter) c.take.result.1 (c.take.ensures.outcome b o.splitter) _ c.in_ok-row.ensures.says
+    let o : SearchesOn kind c.args.wanted old b =
+    subst (λ (s : Searching). SearchesOn kind c.args.wanted s b) (sym c.self.view_is) h in
+    comes-by kind c.args.wanted most old new b c.args.piece.now c.take.result.0 o c.take.ensures.used
+    (c.take.ensures.through b o.lines o.rest o.splitter o.cut)
+    (c.take.follows.holds-at-none b o.splitter) c.take.result.1
+    (c.take.ensures.outcome b o.splitter) _ c.in_ok-row.ensures.says

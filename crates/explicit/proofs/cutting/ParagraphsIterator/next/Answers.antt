@@ -9,10 +9,12 @@ returns-clause-steps c =
     let text = c.self.inside.rest.now in
     let some = eqb-false (length text) 0 (sym c.is_empty.ensures ∙ c.if-is_empty.false) in
     let split = paragraphs_of_split text (omega (arith, some)) in
-    let parts : paragraphs_of text ≡ c.split_at.result.0.now ∷ paragraphs_of c.split_at.result.1.now = rw (c.split_at.ensures.front, c.split_at.ensures.back, c.first_length.ensures.value) split in
+    let parts : paragraphs_of text ≡ c.split_at.result.0.now ∷ paragraphs_of c.split_at.result.1.now =
+    rw (c.split_at.ensures.front, c.split_at.ensures.back, c.first_length.ensures.value) split in
     sym c.self.view_is ∙ parts
 
 pub returns-clause-goes : goal.returns-clause-goes
 returns-clause-goes c =
-    let fewer : length c.args.self.now ≡ suc (length (paragraphs_of c.split_at.result.1.now)) = ap length (returns-clause-steps c) in
+    let fewer : length c.args.self.now ≡ suc (length (paragraphs_of c.split_at.result.1.now)) =
+    ap length (returns-clause-steps c) in
     record { on = λ _. (tt, tt, omega (arith, fewer)); keeps = tt; rests = λ _. tt }

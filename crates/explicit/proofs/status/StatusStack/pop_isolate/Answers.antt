@@ -5,7 +5,8 @@ use Rattle.explicit.proofs.status.StatusStack.pop_isolate.Goals as goal
 
 pub loop-entry-preserved : goal.loop-entry-preserved
 loop-entry-preserved g c = record {
-  same_front = sym (before-other c.pop.new.self.items c.in-Some.entry c.if-entry.false) ∙ ap before_isolate (sym c.in-Some.ensures.items) ∙ c.loop-entry.invariant.same_front;
+  same_front = sym (before-other c.pop.new.self.items c.in-Some.entry c.if-entry.false) ∙
+      ap before_isolate (sym c.in-Some.ensures.items) ∙ c.loop-entry.invariant.same_front;
   isolates = c.loop-entry.invariant.isolates;
   embeddings = c.loop-entry.invariant.embeddings;
   valid = c.loop-entry.invariant.valid;
@@ -14,4 +15,5 @@ loop-entry-preserved g c = record {
 }
 
 pub returns-then-entry-clause-popped : goal.returns-then-entry-clause-popped
-returns-then-entry-clause-popped g c = sym (before-isolate c.pop.new.self.items c.in-Some.entry c.if-entry.true) ∙ ap before_isolate (sym c.in-Some.ensures.items) ∙ c.loop-entry.invariant.same_front
+returns-then-entry-clause-popped g c = sym (before-isolate c.pop.new.self.items c.in-Some.entry c.if-entry.true) ∙
+    ap before_isolate (sym c.in-Some.ensures.items) ∙ c.loop-entry.invariant.same_front

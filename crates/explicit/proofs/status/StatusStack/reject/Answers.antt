@@ -6,4 +6,5 @@ pub overflow_add-self : goal.overflow_add-self
 overflow_add-self c = let b = retained-bounded c.args.self.now c.requires in omega (arith, b.overflow_isolates)
 
 pub overflow_add-self-then-self-eq0 : goal.overflow_add-self-then-self-eq0
-overflow_add-self-then-self-eq0 c = let b = retained-bounded c.args.self.now c.requires in omega (arith, b.overflow_embeddings)
+overflow_add-self-then-self-eq0 c = let b = retained-bounded c.args.self.now c.requires in
+    omega (arith, b.overflow_embeddings)

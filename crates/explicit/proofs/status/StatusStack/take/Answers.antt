@@ -6,7 +6,12 @@ use Rattle.explicit.proofs.status.StatusStack.take.Goals as goal
 pub overflow_add-self : goal.overflow_add-self
 overflow_add-self c =
     let b = retained-bounded c.args.self.now c.requires in
-    let one : c.from.result ≤ 1 = rw c.from.ensures (elim (cases_Bool c.args.entry.is_isolate) [ inl u ↦ rw u (omega arith) | inr u ↦ rw u (omega arith) ]) in
+    let one : c.from.result ≤ 1 =
+    rw c.from.ensures (elim (cases_Bool c.args.entry.is_isolate) [
+      | inl u ↦ rw u (omega arith)
+      | inr u ↦
+          rw u (omega arith)
+    ]) in
     omega (arith, b.valid_isolates, one)
 
 pub push-requires : goal.push-requires

@@ -23,12 +23,18 @@ invariant_of-self c = c.self.invariant ∙ sym (c.lay_out_classes.ensures none_r
 pub returns : goal.returns
 returns c tables =
     let numbers = c.args.numbers.now in
-    let ask : AskOf = record { source = Classes numbers; direction = c.args.direction; breaks = c.args.breaks.now; limits = c.args.limits } in
+    let ask : AskOf = record {
+      source = Classes numbers;
+      direction = c.args.direction;
+      breaks = c.args.breaks.now;
+      limits = c.args.limits;
+    } in
     let error = error_of_text (Classes numbers) in
     let done = c.lay_out_classes.result in
     record {
       done = done;
-      so = subst (λ (r : RoomOf). Leaves ask tables r c.lay_out_classes.new.self done) c.self.view_is (c.lay_out_classes.ensures tables);
+      so = subst (λ (r : RoomOf). Leaves ask tables r c.lay_out_classes.new.self done) c.self.view_is
+          (c.lay_out_classes.ensures tables);
       reported = elim c.match-lay_out_classes.branch [
         | in-Ok w ↦ w.result-is ∙ sym (ap (outcome_of error) w.in-Ok.is)
         | in-Err w ↦ w.result-is ∙ ap Err w.error_of_text.ensures ∙ sym (ap (outcome_of error) w.in-Err.is)

@@ -23,12 +23,18 @@ invariant_of-self c = c.self.invariant ∙ sym (c.lay_out_numbered.ensures none_
 pub returns : goal.returns
 returns c tables =
     let numbered = c.args.numbered.now in
-    let ask : AskOf = record { source = Units numbered; direction = c.args.direction; breaks = c.args.breaks.now; limits = c.args.limits } in
+    let ask : AskOf = record {
+      source = Units numbered;
+      direction = c.args.direction;
+      breaks = c.args.breaks.now;
+      limits = c.args.limits;
+    } in
     let error = error_of_text (Units numbered) in
     let done = c.lay_out_numbered.result in
     record {
       done = done;
-      so = subst (λ (r : RoomOf). Leaves ask tables r c.lay_out_numbered.new.self done) c.self.view_is (c.lay_out_numbered.ensures tables);
+      so = subst (λ (r : RoomOf). Leaves ask tables r c.lay_out_numbered.new.self done) c.self.view_is
+          (c.lay_out_numbered.ensures tables);
       reported = elim c.match-lay_out_numbered.branch [
         | in-Ok w ↦ w.result-is ∙ sym (ap (outcome_of error) w.in-Ok.is)
         | in-Err w ↦ w.result-is ∙ ap Err w.error_of_text.ensures ∙ sym (ap (outcome_of error) w.in-Err.is)

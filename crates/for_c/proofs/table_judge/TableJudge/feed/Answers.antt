@@ -9,5 +9,6 @@ returns c = λ limits tables b h.
     let before = subst (λ (t : Option TablesOf). HoldsFor limits t c.args.self.now.state b) (sym same) h.so_far in
     record {
       by = h.by;
-      so_far = subst (λ (t : Option TablesOf). HoldsFor limits t c.feed.new.self (b ++ c.args.piece.now)) same (c.feed.ensures limits b before);
+      so_far = subst (λ (t : Option TablesOf). HoldsFor limits t c.feed.new.self (b ++ c.args.piece.now)) same
+          (c.feed.ensures limits b before);
     }

@@ -12,6 +12,7 @@ returns-in-None c =
       reason = (
         refl,
         λ limits tables ended returned bytes h.
-            sym (append-nil returned) ∙ ap (λ ws. returned ++ ws) (sym none.0) ∙ returns-all limits tables ended c.args.self.now returned bytes h,
+            sym (append-nil returned) ∙ ap (λ ws. returned ++ ws) (sym none.0) ∙
+            returns-all limits tables ended c.args.self.now returned bytes h,
       );
     }

@@ -4,4 +4,5 @@ use Rattle.for_c.proofs.table_report.TableReport.take_line.Goals as goal
 
 pub returns-clause-takes : goal.returns-clause-takes
 returns-clause-takes c =
-    takes-line c.args.self.now c.requires c.kind_by.result c.kind_by.ensures c.take-used.new.self (take c.take-used.result c.args.piece.now) c.take-used.ensures.reports
+    takes-line c.args.self.now c.requires c.kind_by.result c.kind_by.ensures c.take-used.new.self
+    (take c.take-used.result c.args.piece.now) c.take-used.ensures.reports

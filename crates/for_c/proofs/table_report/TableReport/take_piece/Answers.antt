@@ -9,5 +9,6 @@ loop-at-preserved c =
     record {
       within = within at used piece c.loop-at.invariant.within c.take_line-at.ensures.used;
       takes = λ limits tables returned bytes h.
-          rw (joined at used piece bytes) (c.take_line-at.ensures.takes limits tables returned _ (c.loop-at.invariant.takes limits tables returned bytes h));
+          rw (joined at used piece bytes) (c.take_line-at.ensures.takes limits tables returned _
+          (c.loop-at.invariant.takes limits tables returned bytes h));
     }

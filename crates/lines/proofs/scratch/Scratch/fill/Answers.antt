@@ -22,12 +22,15 @@ returns-clause-layout g c =
     let as_levels : length filled.new.levels ≡ column.len = search rules in
     let levels_are = with_items_is column filled.new.levels as_levels in
     let paras : List ℕ = map level_of_para (paras_filled found.result.paragraphs unchanged.new.self) in
-    let reset : take n filled.new.levels ≡ after_resets (classes_of c.args.text.now) c.args.breaks.now.positions paras (levels_filled n unchanged.new.self) =
+    let reset : take n filled.new.levels ≡ after_resets (classes_of c.args.text.now) c.args.breaks.now.positions paras
+    (levels_filled n unchanged.new.self) =
     rw (← c.deref_mut-2.ensures.value, ← c.deref-2.ensures.value) filled.ensures.levels in
     rw levels_are
-    (laid_out c.args.limits c.args.text.now c.args.direction c.args.breaks.now.positions paras (levels_filled n unchanged.new.self) (take n filled.new.levels) (take n filled.new.levels)
+    (laid_out c.args.limits c.args.text.now c.args.direction c.args.breaks.now.positions paras
+    (levels_filled n unchanged.new.self) (take n filled.new.levels) (take n filled.new.levels)
     (lines_filled filled.result filled.new.columns) refl
-    (ap (λ ps. map level_of_para (take found.result.paragraphs (boxed_slice_items ps))) unchanged.ensures.paras ∙ found.ensures.resolved.paras)
+    (ap (λ ps. map level_of_para (take found.result.paragraphs (boxed_slice_items ps))) unchanged.ensures.paras ∙
+    found.ensures.resolved.paras)
     (ap (λ column. take n (boxed_slice_items column)) unchanged.ensures.levels ∙ found.ensures.resolved.levels)
     reset filled.ensures.lines)
 
@@ -42,11 +45,16 @@ returns-clause-holds g c =
     let levels_are = with_items_is column filled.new.levels as_levels in
     record {
       units = refl;
-      ends = subst (λ column. AreAllParagraphEnds c.args.text.now (take found.result.paragraphs (boxed_slice_items column))) (sym unchanged.ensures.para_ends) found.ensures.resolved.para_ends;
-      paras = ap (λ ps. map level_of_para (take found.result.paragraphs (boxed_slice_items ps))) unchanged.ensures.paras ∙ found.ensures.resolved.paras;
+      ends = subst (λ column.
+          AreAllParagraphEnds c.args.text.now (take found.result.paragraphs (boxed_slice_items column)))
+          (sym unchanged.ensures.para_ends) found.ensures.resolved.para_ends;
+      paras = ap (λ ps. map level_of_para (take found.result.paragraphs (boxed_slice_items ps))) unchanged.ensures.paras
+          ∙ found.ensures.resolved.paras;
       levels =
           rw levels_are
-          (resolved_stay found.result.uniform n (boxed_slice_items unchanged.new.self.resolved) (boxed_slice_items unchanged.new.self.levels) filled.new.levels (λ known. filled.ensures.same known ∙ ap (take n) c.deref_mut-2.ensures.value)
+          (resolved_stay found.result.uniform n (boxed_slice_items unchanged.new.self.resolved)
+          (boxed_slice_items unchanged.new.self.levels) filled.new.levels (λ known. filled.ensures.same known ∙
+          ap (take n) c.deref_mut-2.ensures.value)
           ∙ unchanged.ensures.resolved
           ∙ found.ensures.resolved.levels);
       known = found.ensures.resolved.known;
@@ -58,7 +66,14 @@ arrange-filled-requires-clause-uniform g c = λ known.
     let text = c.args.text.now in
     let direction = c.args.direction in
     let found = c.resolve_text-resolved.ensures.resolved in
-    rw (c.deref_mut-2.ensures.value, c.deref-2.ensures.value, c.keep_resolved.ensures.levels, c.keep_resolved.ensures.paras, found.paras, found.levels)
+    rw (
+      c.deref_mut-2.ensures.value,
+      c.deref-2.ensures.value,
+      c.keep_resolved.ensures.levels,
+      c.keep_resolved.ensures.paras,
+      found.paras,
+      found.levels,
+    )
     (text_at_paras limits direction text (all_stay limits direction (paragraphs_of text) (sym found.known ∙ known)))
 
 pub arrange-filled-requires-clause-ends : goal.arrange-filled-requires-clause-ends
@@ -69,4 +84,5 @@ arrange-filled-requires-clause-ends g c =
     rw (with_items_is column found.new.bounds as_bounds) found.ensures.resolved.ends
 
 pub arrange-filled-requires-clause-para_ends : goal.arrange-filled-requires-clause-para_ends
-arrange-filled-requires-clause-para_ends g c = rw (c.deref.ensures.value, c.keep_resolved.ensures.para_ends) c.resolve_text-resolved.ensures.resolved.para_ends
+arrange-filled-requires-clause-para_ends g c =
+    rw (c.deref.ensures.value, c.keep_resolved.ensures.para_ends) c.resolve_text-resolved.ensures.resolved.para_ends

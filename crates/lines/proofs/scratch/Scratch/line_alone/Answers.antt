@@ -16,7 +16,8 @@ use Rattle.lines.proofs.scratch.Scratch.line_alone.Goals as goal
 
 pub reset_line_unless_uniform-requires-clause-paragraph : goal.reset_line_unless_uniform-requires-clause-paragraph
 reset_line_unless_uniform-requires-clause-paragraph g c = λ p low high.
-    plain_line c.args.text.now (breaks_around c.args.start c.args.end) c.args.start c.args.end p c.in_ok-paragraph.ensures.line.line low high
+    plain_line c.args.text.now (breaks_around c.args.start c.args.end) c.args.start c.args.end p
+    c.in_ok-paragraph.ensures.line.line low high
 
 pub write_order_alone-requires-clause-uniform : goal.write_order_alone-requires-clause-uniform
 write_order_alone-requires-clause-uniform g c =
@@ -33,25 +34,43 @@ write_order_alone-requires-clause-uniform g c =
     let n : ℕ = end - start in
     let within : end ≤ length text = omega (arith, found.line.within, length-map text (λ u. u.class)) in
     let long : length reset ≡ n =
-    omega (arith, c.reset_line_unless_uniform.auto.levels, c.copy_line.auto.line, length-take-le n c.args.levels.now (c.requires.levels within)) in
+    omega (
+      arith,
+      c.reset_line_unless_uniform.auto.levels,
+      c.copy_line.auto.line,
+      length-take-le n c.args.levels.now (c.requires.levels within),
+    ) in
     let used : ℕ = room.used.paragraphs in
-    let paras_fit : used ≤ length (boxed_slice_items room.text.paras) = omega (arith, room.in_use.of_paras, room.fits.for_text.paras) in
+    let paras_fit : used ≤ length (boxed_slice_items room.text.paras) =
+    omega (arith, room.in_use.of_paras, room.fits.for_text.paras) in
     let ends_fit : used ≤ length c.deref.result.now =
     omega (arith, room.in_use.of_paras, room.fits.for_text.para_ends, ap length c.deref.ensures.value) in
-    let low : c.in_ok-paragraph.paragraph < used = omega (arith, found.inside, length-take-le used c.deref.result.now ends_fit) in
+    let low : c.in_ok-paragraph.paragraph < used =
+    omega (arith, found.inside, length-take-le used c.deref.result.now ends_fit) in
     let para : ParaLevel = c.index-level.result.now in
     let level : para ≡ slice_index_or (boxed_slice_items room.text.paras) c.in_ok-paragraph.paragraph Zero =
-    get_or_read (boxed_slice_items room.text.paras) c.in_ok-paragraph.paragraph para (omega (arith, low, paras_fit)) c.index-level.ensures Zero in
-    let has = para_in_use text (boxed_slice_items room.text.paras) used start c.in_ok-paragraph.paragraph para level found.counted low paras_fit in
+    get_or_read (boxed_slice_items room.text.paras) c.in_ok-paragraph.paragraph para (omega (
+      arith,
+      low,
+      paras_fit,
+    )) c.index-level.ensures Zero in
+    let has = para_in_use text (boxed_slice_items room.text.paras) used start c.in_ok-paragraph.paragraph para level
+    found.counted low paras_fit in
     let part : slice_range (text_levels limits text direction) start end ≡ copied =
     ap (λ (xs : List (Option ℕ)). slice_range xs start end) (sym stored.levels)
-    ∙ range_in_use (resolved_column room.used.uniform room.text) room.used.units start end (omega (arith, stored.units, within))
+    ∙ range_in_use (resolved_column room.used.uniform room.text) room.used.units start end (omega (
+      arith,
+      stored.units,
+      within,
+    ))
     ∙ sym c.copy_line.ensures.copied in
     subst (λ o. IfSome o (λ p. IsAtOneLevel reset 0 (length reset) (level_of_para p))) (sym c.then_some-known.ensures)
     (known_level room.used.uniform reset 0 (length reset) (level_of_para para) para refl (λ known.
-    subst (λ (xs : List (Option ℕ)). IsAtOneLevel xs 0 (length reset) (level_of_para para)) (sym (c.reset_line_unless_uniform.ensures.same known))
+    subst (λ (xs : List (Option ℕ)). IsAtOneLevel xs 0 (length reset) (level_of_para para))
+    (sym (c.reset_line_unless_uniform.ensures.same known))
     (subst (λ (m : ℕ). IsAtOneLevel copied 0 m (level_of_para para)) (sym long)
-    (line_at_level limits text direction (paras_in room) stored.paras (breaks_around start end) start end (level_of_para para) copied (sym known ∙ stored.known) found.line has part))))
+    (line_at_level limits text direction (paras_in room) stored.paras (breaks_around start end) start end
+    (level_of_para para) copied (sym known ∙ stored.known) found.line has part))))
 
 pub returns-clause-line : goal.returns-clause-line
 returns-clause-line g c =
@@ -66,16 +85,29 @@ returns-clause-line g c =
     let n : ℕ = end - start in
     let within : end ≤ length text = omega (arith, found.line.within, length-map text (λ u. u.class)) in
     let long : length reset ≡ n =
-    omega (arith, c.reset_line_unless_uniform.auto.levels, c.copy_line.auto.line, length-take-le n c.args.levels.now (c.requires.levels within)) in
-    let placed : length written.new.order ≡ n = omega (arith, written.auto.order, length-take-le n c.args.order.now (c.requires.order within)) in
+    omega (
+      arith,
+      c.reset_line_unless_uniform.auto.levels,
+      c.copy_line.auto.line,
+      length-take-le n c.args.levels.now (c.requires.levels within),
+    ) in
+    let placed : length written.new.order ≡ n =
+    omega (arith, written.auto.order, length-take-le n c.args.order.now (c.requires.order within)) in
     let few : written.result ≤ length written.new.order = omega (arith, written.ensures.count, long, placed) in
     let used : ℕ = room.used.paragraphs in
-    let paras_fit : used ≤ length (boxed_slice_items room.text.paras) = omega (arith, room.in_use.of_paras, room.fits.for_text.paras) in
+    let paras_fit : used ≤ length (boxed_slice_items room.text.paras) =
+    omega (arith, room.in_use.of_paras, room.fits.for_text.paras) in
     let ends_fit : used ≤ length c.deref.result.now =
     omega (arith, room.in_use.of_paras, room.fits.for_text.para_ends, ap length c.deref.ensures.value) in
-    let low : c.in_ok-paragraph.paragraph < used = omega (arith, found.inside, length-take-le used c.deref.result.now ends_fit) in
-    let level : c.index-level.result.now ≡ slice_index_or (boxed_slice_items room.text.paras) c.in_ok-paragraph.paragraph Zero =
-    get_or_read (boxed_slice_items room.text.paras) c.in_ok-paragraph.paragraph c.index-level.result.now (omega (arith, low, paras_fit)) c.index-level.ensures Zero in
+    let low : c.in_ok-paragraph.paragraph < used =
+    omega (arith, found.inside, length-take-le used c.deref.result.now ends_fit) in
+    let level : c.index-level.result.now ≡
+    slice_index_or (boxed_slice_items room.text.paras) c.in_ok-paragraph.paragraph Zero =
+    get_or_read (boxed_slice_items room.text.paras) c.in_ok-paragraph.paragraph c.index-level.result.now (omega (
+      arith,
+      low,
+      paras_fit,
+    )) c.index-level.ensures Zero in
     let levels_are : take n (reset ++ drop n c.args.levels.now) ≡ reset =
     take-append-le n reset (drop n c.args.levels.now) (omega (arith, long)) ∙ take_all n reset (omega (arith, long)) in
     let order_is = take-append-le written.result written.new.order (drop n c.args.order.now) few in
@@ -86,13 +118,20 @@ returns-clause-line g c =
             let all = text_levels limits text direction in
             let part : slice_range all start end ≡ c.copy_line.new.line =
             ap (λ (xs : List (Option ℕ)). slice_range xs start end) (sym stored.levels)
-            ∙ range_in_use (resolved_column room.used.uniform room.text) room.used.units start end (omega (arith, stored.units, within))
+            ∙ range_in_use (resolved_column room.used.uniform room.text) room.used.units start end (omega (
+              arith,
+              stored.units,
+              within,
+            ))
             ∙ sym c.copy_line.ensures.copied in
             rw (levels_are, order_is)
-            (line_laid_out limits text direction breaks (paras_in room) start end reset (take written.result written.new.order) stored.paras (omega arith) within
-            (line_reset_by limits text direction (paras_in room) stored.paras breaks start end room.used.uniform c.copy_line.new.line reset stored.known part c.reset_line_unless_uniform.ensures.same
+            (line_laid_out limits text direction breaks (paras_in room) start end reset
+            (take written.result written.new.order) stored.paras (omega arith) within
+            (line_reset_by limits text direction (paras_in room) stored.paras breaks start end room.used.uniform
+            c.copy_line.new.line reset stored.known part c.reset_line_unless_uniform.ensures.same
             (λ off. c.reset_line_unless_uniform.ensures.levels off breaks (paras_in room) all line
-            (para_in_use text (boxed_slice_items room.text.paras) used start c.in_ok-paragraph.paragraph c.index-level.result.now level found.counted low paras_fit)
+            (para_in_use text (boxed_slice_items room.text.paras) used start c.in_ok-paragraph.paragraph
+            c.index-level.result.now level found.counted low paras_fit)
             (length-text_levels limits text direction) part))
             written.ensures.order);
         few = omega (arith, written.ensures.count, long);
@@ -111,8 +150,22 @@ returns-clause-if_uniform g c = λ if_uniform.
     let found = c.in_ok-paragraph.ensures.line in
     let reset = c.reset_line_unless_uniform in
     let known : room.used.uniform ≡ true = if_uniform.2.known ∙ if_uniform.3 in
-    let within : c.args.end ≤ length c.args.text.now = omega (arith, found.line.within, length-map c.args.text.now (λ u. u.class)) in
+    let within : c.args.end ≤ length c.args.text.now =
+    omega (arith, found.line.within, length-map c.args.text.now (λ u. u.class)) in
     let long : length reset.new.levels ≡ n =
-    omega (arith, reset.auto.levels, c.copy_line.auto.line, length-take-le n c.args.levels.now (c.requires.levels within)) in
-    let few = where_known room.used.uniform c.index-level.result.now c.then_some-known.result c.then_some-known.ensures c.write_order_alone.ensures.if_uniform known in
-    omega (arith, few, long, reset.ensures.if_uniform known, c.copy_line.ensures.steps, c.in_ok-paragraph.ensures.at_most)
+    omega (
+      arith,
+      reset.auto.levels,
+      c.copy_line.auto.line,
+      length-take-le n c.args.levels.now (c.requires.levels within),
+    ) in
+    let few = where_known room.used.uniform c.index-level.result.now c.then_some-known.result c.then_some-known.ensures
+    c.write_order_alone.ensures.if_uniform known in
+    omega (
+      arith,
+      few,
+      long,
+      reset.ensures.if_uniform known,
+      c.copy_line.ensures.steps,
+      c.in_ok-paragraph.ensures.at_most,
+    )

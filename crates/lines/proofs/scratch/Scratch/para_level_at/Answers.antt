@@ -17,7 +17,8 @@ count_up_to-requires c =
     let room = c.args.self.now in
     let text = c.requires.holds.0 in
     let stored = c.requires.holds.1.2 in
-    let is : take room.used.paragraphs c.deref.result.now ≡ para_ends_in room = ap (take room.used.paragraphs) c.deref.ensures.value in
+    let is : take room.used.paragraphs c.deref.result.now ≡ para_ends_in room =
+    ap (take room.used.paragraphs) c.deref.ensures.value in
     subst Rises (sym is) (ends_rise (classes_of text) (para_ends_in room) (length text) stored.ends)
 
 pub returns : goal.returns
@@ -33,9 +34,15 @@ returns c limits text direction stored =
     let is : ends ≡ para_ends_in room = ap (take used) c.deref.ensures.value in
     let len : length own ≡ length text = length-map text (λ u. u.class) in
     let all : AreParagraphEnds own ends (length own) =
-    subst (AreParagraphEnds own ends) (sym len) (subst (λ (es : List ℕ). AreParagraphEnds own es (length text)) (sym is) stored.ends) in
+    subst (AreParagraphEnds own ends) (sym len) (subst (λ (es : List ℕ). AreParagraphEnds own es (length text))
+    (sym is) stored.ends) in
     let f : IsSearched own ends position number =
-    found own ends position number all (omega (arith, len, stored.units, c.requires.inside)) count.ensures.bound count.ensures.below count.ensures.above in
+    found own ends position number all (omega (
+      arith,
+      len,
+      stored.units,
+      c.requires.inside,
+    )) count.ensures.bound count.ensures.below count.ensures.above in
     let paras_fit : used ≤ length paras = omega (arith, room.in_use.of_paras, room.fits.for_text.paras) in
     let ends_fit : used ≤ length c.deref.result.now =
     omega (arith, room.in_use.of_paras, room.fits.for_text.para_ends, ap length c.deref.ensures.value) in

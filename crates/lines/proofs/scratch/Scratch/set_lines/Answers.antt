@@ -26,9 +26,14 @@ arrange-self-requires-clause-uniform g c =
     ∙ ap (λ n. resolved_filled n room.used.uniform room.text) (sym stored.units)
     ∙ stored.levels in
     let paras_are : map level_of_para (take room.used.paragraphs c.deref-3.result.now) ≡ para_levels_of text direction =
-    ap (λ xs. map level_of_para (take room.used.paragraphs xs)) (c.deref-3.ensures.value ∙ ap (λ column. boxed_slice_items column) c.restore_resolved.ensures.paras)
+    ap (λ xs. map level_of_para (take room.used.paragraphs xs)) (c.deref-3.ensures.value ∙
+    ap (λ column. boxed_slice_items column) c.restore_resolved.ensures.paras)
     ∙ stored.paras in
-    λ known. rw (paras_are, resolved_are) (text_at_paras limits direction text (all_stay limits direction (paragraphs_of text) (sym stored.known ∙ known)))
+    λ known. rw (
+      paras_are,
+      resolved_are,
+    ) (text_at_paras limits direction text (all_stay limits direction (paragraphs_of text)
+    (sym stored.known ∙ known)))
 
 pub arrange-self-requires-clause-ends : goal.arrange-self-requires-clause-ends
 arrange-self-requires-clause-ends g c =
@@ -48,26 +53,34 @@ returns-clause-lines g c =
     let as_levels : length filled.new.levels ≡ column.len = search rules in
     let levels_are = with_items_is column filled.new.levels as_levels in
     let paras : List ℕ = map level_of_para (paras_filled room.used.paragraphs restored.new.self) in
-    let reset : take n filled.new.levels ≡ after_resets (classes_of text) c.args.breaks.now.positions paras (levels_filled n restored.new.self) =
+    let reset : take n filled.new.levels ≡ after_resets (classes_of text) c.args.breaks.now.positions paras
+    (levels_filled n restored.new.self) =
     rw (← c.deref_mut-2.ensures.value, ← c.deref-3.ensures.value) filled.ensures.levels in
     record {
       room = search rules;
       filled = search rules;
       laid_out = λ limits direction stored.
           rw levels_are
-          (laid_out limits text direction c.args.breaks.now.positions paras (levels_filled n restored.new.self) (take n filled.new.levels) (take room.used.units filled.new.levels)
+          (laid_out limits text direction c.args.breaks.now.positions paras (levels_filled n restored.new.self)
+          (take n filled.new.levels) (take room.used.units filled.new.levels)
           (lines_filled filled.result filled.new.columns)
           (ap (λ k. take k filled.new.levels) stored.units)
-          (ap (λ ps. map level_of_para (take room.used.paragraphs (boxed_slice_items ps))) restored.ensures.paras ∙ stored.paras)
-          (restored.ensures.levels ∙ ap (λ k. resolved_filled k room.used.uniform room.text) (sym stored.units) ∙ stored.levels)
+          (ap (λ ps. map level_of_para (take room.used.paragraphs (boxed_slice_items ps))) restored.ensures.paras ∙
+          stored.paras)
+          (restored.ensures.levels ∙ ap (λ k. resolved_filled k room.used.uniform room.text) (sym stored.units) ∙
+          stored.levels)
           reset filled.ensures.lines);
       holds = λ limits direction stored. record {
         units = stored.units;
-        ends = subst (λ column. AreAllParagraphEnds text (take room.used.paragraphs (boxed_slice_items column))) (sym restored.ensures.para_ends) stored.ends;
-        paras = ap (λ ps. map level_of_para (take room.used.paragraphs (boxed_slice_items ps))) restored.ensures.paras ∙ stored.paras;
+        ends = subst (λ column. AreAllParagraphEnds text (take room.used.paragraphs (boxed_slice_items column)))
+            (sym restored.ensures.para_ends) stored.ends;
+        paras = ap (λ ps. map level_of_para (take room.used.paragraphs (boxed_slice_items ps))) restored.ensures.paras ∙
+            stored.paras;
         levels =
             rw (stored.units, levels_are)
-            (resolved_stay room.used.uniform n (boxed_slice_items restored.new.self.resolved) (boxed_slice_items restored.new.self.levels) filled.new.levels (λ known. filled.ensures.same known ∙ ap (take n) c.deref_mut-2.ensures.value)
+            (resolved_stay room.used.uniform n (boxed_slice_items restored.new.self.resolved)
+            (boxed_slice_items restored.new.self.levels) filled.new.levels (λ known. filled.ensures.same known ∙
+            ap (take n) c.deref_mut-2.ensures.value)
             ∙ restored.ensures.resolved
             ∙ ap (λ k. resolved_filled k room.used.uniform room.text) (sym stored.units)
             ∙ stored.levels);
@@ -76,7 +89,8 @@ returns-clause-lines g c =
     }
 
 pub arrange-self-requires-clause-para_ends : goal.arrange-self-requires-clause-para_ends
-arrange-self-requires-clause-para_ends g c = rw (c.deref-2.ensures.value, c.restore_resolved.ensures.para_ends) c.requires.holds.2.ends
+arrange-self-requires-clause-para_ends g c =
+    rw (c.deref-2.ensures.value, c.restore_resolved.ensures.para_ends) c.requires.holds.2.ends
 
 pub cut_text-lines-requires-clause-para_ends : goal.cut_text-lines-requires-clause-para_ends
 cut_text-lines-requires-clause-para_ends g c = rw c.deref.ensures.value c.requires.holds.2.ends

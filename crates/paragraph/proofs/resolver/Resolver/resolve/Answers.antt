@@ -9,9 +9,11 @@ use Rattle.paragraph.proofs.resolver.Resolver.resolve.Goals as goal
 pub resolve_known-requires-clause-contents : goal.resolve_known-requires-clause-contents
 resolve_known-requires-clause-contents g c =
     let para : List BidiUnit = c.args.para.now in
-    let all : c.of-first.result.length ≡ length para = c.of-first.ensures.first.length ∙ first_of_one para c.requires.separators in
+    let all : c.of-first.result.length ≡ length para = c.of-first.ensures.first.length ∙
+    first_of_one para c.requires.separators in
     let P : List BidiUnit → Type 0 = λ us. Describes c.of-first.result.contents (classes_of us) in
-    subst P (ap (λ (n : ℕ). take n para) all ∙ take_all (length para) para (omega arith)) c.of-first.ensures.first.contents
+    subst P (ap (λ (n : ℕ). take n para) all ∙
+    take_all (length para) para (omega arith)) c.of-first.ensures.first.contents
 
 pub returns : goal.returns
 returns g c =

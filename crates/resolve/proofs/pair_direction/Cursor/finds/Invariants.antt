@@ -7,7 +7,8 @@ use Rattle.resolve.proofs.pair_direction.Cursor.finds.Given as goal
 
 abbrev pub invariant-loop-self : goal.invariant-loop-self
 invariant-loop-self g l =
-    IsLooking (classes_at l.classes l.s.positions) l.pair.index (index_of l.s.positions l.pair.closer) (length l.s.positions - 1) l.fn.self l.self
+    IsLooking (classes_at l.classes l.s.positions) l.pair.index (index_of l.s.positions l.pair.closer)
+    (length l.s.positions - 1) l.fn.self l.self
     × (looks_from l.fn.self l.pair.index ≤ l.self.next)
     × (l.steps + looks_from l.fn.self l.pair.index ≡ l.fn.steps + l.self.next)
     × (length l.positions ≡ length l.s.positions)

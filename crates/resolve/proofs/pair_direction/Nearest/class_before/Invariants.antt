@@ -5,7 +5,8 @@ use Rattle.resolve.proofs.pair_direction.Nearest.class_before.Given as goal
 
 abbrev pub invariant-loop-k : goal.invariant-loop-k
 invariant-loop-k g l =
-    (context_before (classes_at l.classes l.s.positions) l.s.sos l.k ≡ context_before (classes_at l.classes l.s.positions) l.s.sos l.index)
+    (context_before (classes_at l.classes l.s.positions) l.s.sos l.k ≡
+    context_before (classes_at l.classes l.s.positions) l.s.sos l.index)
     × (l.self.index ≤ l.k)
     × (l.fn.steps ≤ l.steps)
     × (l.steps + l.k ≡ l.fn.steps + l.index)

@@ -16,4 +16,5 @@ returns-then-end-start-clause-past g c =
     let n : ℕ = end - (start + 1) in
     let all : suc n ≡ end - start = omega (arith, c.if-end-start.true) in
     let last : end - 1 ≡ start + n = omega (arith, c.if-end-start.true) in
-    c.keep.ensures ∙ ap (λ j. unchanged_past x (class_at cs (slice_index ps j))) last ∙ ap (λ m. context_past_run x ps start m cs) all
+    c.keep.ensures ∙ ap (λ j. unchanged_past x (class_at cs (slice_index ps j))) last ∙
+    ap (λ m. context_past_run x ps start m cs) all

@@ -9,4 +9,5 @@ returns c =
     let lines = c.args.self.now.layout.lines in
     let all : length l.out ≤ l.k = omega (arith, c.loop-k-test.false, l.auto.out) in
     let all_lines : length lines ≤ l.k = omega (arith, c.loop-k-test.false, l.auto.out, c.requires) in
-    sym (take_all l.k l.out all) ∙ l.invariant ∙ ap (map (λ line. bounds_of (in_units c.args.self.now line))) (take_all l.k lines all_lines)
+    sym (take_all l.k l.out all) ∙ l.invariant ∙
+    ap (map (λ line. bounds_of (in_units c.args.self.now line))) (take_all l.k lines all_lines)

@@ -7,5 +7,7 @@ use Rattle.room.proofs.room.Room.fill_shown.Given as goal
 abbrev pub invariant-loop-i : goal.invariant-loop-i
 invariant-loop-i l = record {
   len : length l.out ≡ length l.fn.out;
-  shown : (j : ℕ) → j < l.i → IsShown l.tables (slice_index_or l.self.layout.levels (slice_index l.order j) None) (slice_index l.codes (slice_index l.order j)) (slice_index l.out j);
+  shown : (j : ℕ) → j < l.i →
+      IsShown l.tables (slice_index_or l.self.layout.levels (slice_index l.order j) None)
+      (slice_index l.codes (slice_index l.order j)) (slice_index l.out j);
 }

@@ -21,12 +21,21 @@ returns c tables =
     let column = boxed_slice_with_items self.units c.fill_classes.new.units in
     let same : boxed_slice_items column ≡ c.fill_classes.new.units
     = refilled self.units c.fill_classes.new.units (c.fill_classes.ensures.len ∙ ap length c.deref_mut.ensures.value) in
-    let text : take (length numbers) c.deref.result.now ≡ us = ap (take (length numbers)) (c.deref.ensures.value ∙ same) ∙ c.fill_classes.ensures.units in
+    let text : take (length numbers) c.deref.result.now ≡ us =
+    ap (take (length numbers)) (c.deref.ensures.value ∙ same) ∙ c.fill_classes.ensures.units in
     let laid : layout_in c.lay_out_units.new.scratch ≡ layout_of c.args.limits us c.args.direction c.args.breaks.now =
-    c.lay_out_units.ensures.laid_out ∙ ap (λ (xs : List BidiUnit). layout_of c.args.limits xs c.args.direction c.in-Ok.breaks.positions) text
+    c.lay_out_units.ensures.laid_out ∙
+    ap (λ (xs : List BidiUnit). layout_of c.args.limits xs c.args.direction c.in-Ok.breaks.positions) text
     ∙ ap (λ (b : BreaksView). layout_of c.args.limits us c.args.direction b.positions) c.in-Ok.ensures.0 in
-    let shows = shows_plain (record self { scratch = c.lay_out_units.new.scratch; units = column; spelled = false; direction = c.args.direction; limits = c.args.limits }) us c.args.breaks.now laid
-    (ap (λ (k : ℕ). take k (boxed_slice_items column)) len ∙ ap (take (length numbers)) same ∙ c.fill_classes.ensures.units) refl in
+    let shows = shows_plain (record self {
+      scratch = c.lay_out_units.new.scratch;
+      units = column;
+      spelled = false;
+      direction = c.args.direction;
+      limits = c.args.limits;
+    }) us c.args.breaks.now laid
+    (ap (λ (k : ℕ). take k (boxed_slice_items column)) len ∙ ap (take (length numbers)) same ∙
+    c.fill_classes.ensures.units) refl in
     record {
       capacity = c.lay_out_units.ensures.room ∙ capacity;
       encodes = ap (λ (r : RoomOf). r.encodes) c.self.view_is;

@@ -20,11 +20,15 @@ loop-k-preserved c =
     let next : l.trailing ≡ trails (classes_of us) (k + 1) =
     l.invariant.trailing ∙ ap (trails own) n ∙ ap (λ (xs : List BidiUnit). trails (classes_of xs) (k + 1)) (sym same) in
     let does : c.resets_spaces_before-trailing.result ≡ trails own k =
-    c.resets_spaces_before-trailing.ensures ∙ trails_before us k l.trailing inside next ∙ ap (λ (xs : List BidiUnit). trails (classes_of xs) k) same in
+    c.resets_spaces_before-trailing.ensures ∙ trails_before us k l.trailing inside next ∙
+    ap (λ (xs : List BidiUnit). trails (classes_of xs) k) same in
     record {
       len = length-set l.out k c.from.result ∙ l.invariant.len;
       trailing = does;
-      marked = marked_more own k c.resets_spaces_before-trailing.result c.from.result l.out (omega (arith, l.invariant.len)) (c.from.ensures ∙ bool_byte-is c.resets_spaces_before-trailing.result) does
+      marked = marked_more own k c.resets_spaces_before-trailing.result c.from.result l.out (omega (
+        arith,
+        l.invariant.len,
+      )) (c.from.ensures ∙ bool_byte-is c.resets_spaces_before-trailing.result) does
           (subst (λ (m : ℕ). AreMarkedFrom own m l.out) n l.invariant.marked);
     }
 

@@ -20,21 +20,25 @@ loop-run-preserved c =
         runs ++ run ∷ [],
         given_more c.args.line.now runs c.loop-run.run-iterator run c.next.new.self i.3.1 c.in-Some.ensures.steps,
         omega (arith, n, i.3.2),
-        written_run c.args.self.now runs run c.loop-run.out c.put.new.out c.loop-run.count c.in_units.result len c.in_units.ensures put i.3.3,
-        converted-rest c.args.out.now c.loop-run.out c.put.new.out c.loop-run.count c.in_units.result c.put.ensures i.3.4,
+        written_run c.args.self.now runs run c.loop-run.out c.put.new.out c.loop-run.count c.in_units.result len
+            c.in_units.ensures put i.3.3,
+        converted-rest c.args.out.now c.loop-run.out c.put.new.out c.loop-run.count c.in_units.result c.put.ensures
+            i.3.4,
       ),
     )
 
 pub in_units-requires-clause-start : goal.in_units-requires-clause-start
 in_units-requires-clause-start c =
     let i = c.loop-run.invariant in
-    let w = run_within c.args.line.now i.3.0 c.loop-run.run-iterator c.in-Some.run' c.next.new.self c.requires.order i.3.1 c.in-Some.ensures.steps in
+    let w = run_within c.args.line.now i.3.0 c.loop-run.run-iterator c.in-Some.run' c.next.new.self c.requires.order
+    i.3.1 c.in-Some.ensures.steps in
     omega (arith, w.forward, w.end, c.requires.inside)
 
 pub in_units-requires-clause-end : goal.in_units-requires-clause-end
 in_units-requires-clause-end c =
     let i = c.loop-run.invariant in
-    let w = run_within c.args.line.now i.3.0 c.loop-run.run-iterator c.in-Some.run' c.next.new.self c.requires.order i.3.1 c.in-Some.ensures.steps in
+    let w = run_within c.args.line.now i.3.0 c.loop-run.run-iterator c.in-Some.run' c.next.new.self c.requires.order
+    i.3.1 c.in-Some.ensures.steps in
     omega (arith, w.end, c.requires.inside)
 
 pub returns-clause-runs : goal.returns-clause-runs

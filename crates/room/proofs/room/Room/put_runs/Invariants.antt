@@ -11,4 +11,5 @@ invariant-loop-run l =
     × (goal.iterator-loop-run).is_finite l.run-iterator
     × (length l.out ≡ length l.fn.out)
     × ((runs : List VisualRun) × AreGiven l.line runs l.run-iterator × (l.count ≡ length runs)
-    × (l.count ≤ length l.out → take l.count l.out ≡ map (run_in l.self) runs) × (drop l.count l.out ≡ drop l.count l.fn.out))
+    × (l.count ≤ length l.out → take l.count l.out ≡ map (run_in l.self) runs) ×
+    (drop l.count l.out ≡ drop l.count l.fn.out))

@@ -9,5 +9,6 @@ abbrev pub invariant-loop-i : goal.invariant-loop-i
 invariant-loop-i l = record {
   len : length l.out ≡ length l.fn.out;
   few : l.count ≤ 4 * l.i;
-  put : ArePut (flat_map (shown_units_of encode_utf16 (utf16_code_at l.text) l.tables l.self) (take l.i l.order)) l.count l.out;
+  put : ArePut (flat_map (shown_units_of encode_utf16 (utf16_code_at l.text) l.tables l.self) (take l.i l.order))
+      l.count l.out;
 }

@@ -12,9 +12,12 @@ returns-in-Some c =
     let line : OrderedLine = c.ordered_line-line.result in
     let para = c.para_level_of.result in
     let same = c.layout-layout.ensures.layout in
-    let begins : c.line-start.result.start ≡ line.start = ap (λ (l : LineLayout). l.start) (sym c.line-start.ensures.line.shows ∙ c.ordered_line-line.ensures.line.shows) in
+    let begins : c.line-start.result.start ≡ line.start =
+    ap (λ (l : LineLayout). l.start) (sym c.line-start.ensures.line.shows ∙
+    c.ordered_line-line.ensures.line.shows) in
     let of : IsLineOf room k line =
-    line_of_layout room k c.line-start.result.start para line (subst (λ (v : TextLayout). IsOrderedLine v k para line) same c.ordered_line-line.ensures.line) begins c.para_level_of.ensures in
+    line_of_layout room k c.line-start.result.start para line (subst (λ (v : TextLayout).
+    IsOrderedLine v k para line) same c.ordered_line-line.ensures.line) begins c.para_level_of.ensures in
     none_put room k line of c.in-Some.count c.args.out.now c.in-Some.ensures.1 c.in-Some.ensures.0
 
 pub returns : goal.returns
@@ -24,7 +27,11 @@ returns c =
     let line : OrderedLine = c.ordered_line-line.result in
     let para = c.para_level_of.result in
     let same = c.layout-layout.ensures.layout in
-    let begins : c.line-start.result.start ≡ line.start = ap (λ (l : LineLayout). l.start) (sym c.line-start.ensures.line.shows ∙ c.ordered_line-line.ensures.line.shows) in
+    let begins : c.line-start.result.start ≡ line.start =
+    ap (λ (l : LineLayout). l.start) (sym c.line-start.ensures.line.shows ∙
+    c.ordered_line-line.ensures.line.shows) in
     let of : IsLineOf room k line =
-    line_of_layout room k c.line-start.result.start para line (subst (λ (v : TextLayout). IsOrderedLine v k para line) same c.ordered_line-line.ensures.line) begins c.para_level_of.ensures in
-    all_put room k line of c.put_runs.result c.args.out.now c.put_runs.new.out c.put_runs.ensures.runs c.put_runs.ensures.len c.in_default.ensures
+    line_of_layout room k c.line-start.result.start para line (subst (λ (v : TextLayout).
+    IsOrderedLine v k para line) same c.ordered_line-line.ensures.line) begins c.para_level_of.ensures in
+    all_put room k line of c.put_runs.result c.args.out.now c.put_runs.new.out c.put_runs.ensures.runs
+    c.put_runs.ensures.len c.in_default.ensures

@@ -26,20 +26,24 @@ returns g c =
     let cs : List Class = classes_of us in
     let n : length cs ≡ length us = length-map us (λ (u : BidiUnit). u.class) in
     let para_level = level_of_para c.para_level-level.result in
-    let depth : c.standard-limits.result.depth ≡ standard.depth = ap (λ (limits : LimitsOf). limits.depth) c.standard-limits.ensures in
+    let depth : c.standard-limits.result.depth ≡ standard.depth =
+    ap (λ (limits : LimitsOf). limits.depth) c.standard-limits.ensures in
     let all = c.fill.ensures.all c.standard-limits.result.depth c.explicit_levels.ensures.found in
     let long : length c.explicit_levels.new.out ≡ length us = search rules in
     let leveled : c.explicit_levels.new.out ≡ explicit_of c.standard-limits.result.depth cs para_level =
     sym (take_all (length cs) c.explicit_levels.new.out (omega arith))
-    ∙ computed_front c.standard-limits.result.depth c.explicit_levels.new.out cs para_level c.explicit_levels.ensures.found in
+    ∙ computed_front c.standard-limits.result.depth c.explicit_levels.new.out cs para_level
+    c.explicit_levels.ensures.found in
     let P : List SequenceView → Type 0 = λ all. AreDisjoint (length us) all in
     record {
       value =
-          explicit_from us c.args.direction para_level c.first_strong-first_strong.result c.explicit_levels.new.out c.fill.new.self.all
+          explicit_from us c.args.direction para_level c.first_strong-first_strong.result c.explicit_levels.new.out
+          c.fill.new.self.all
           c.para_level-level.ensures.level c.first_strong-first_strong.ensures
           (leveled ∙ ap (λ (d : ℕ). explicit_of d cs para_level) depth)
           (all ∙ ap (λ (d : ℕ). sequences_of (leveled_of d cs para_level)) depth);
       extent = c.fill.ensures.extent;
-      apart = subst P (sym all) (sequences_are_apart c.standard-limits.result.depth (omega (arith, depth)) us para_level (level_of_para-low c.para_level-level.result) c.requires.separators);
+      apart = subst P (sym all) (sequences_are_apart c.standard-limits.result.depth (omega (arith, depth)) us para_level
+          (level_of_para-low c.para_level-level.result) c.requires.separators);
       length = long;
     }

@@ -10,4 +10,5 @@ at-requires c = within_explicit c.self.invariant c.self.view_is c.args.p c.requi
 pub returns : goal.returns
 returns c =
     c.is_at.ensures
-    ∙ ap (λ (o : Option ℕ). at_one_level o (Some c.args.level)) (ap (option_map (λ leveled. leveled.0)) c.at.ensures ∙ sym (level-explicit c.self.invariant c.self.view_is c.args.p c.requires))
+    ∙ ap (λ (o : Option ℕ). at_one_level o (Some c.args.level)) (ap (option_map (λ leveled. leveled.0)) c.at.ensures ∙
+    sym (level-explicit c.self.invariant c.self.view_is c.args.p c.requires))

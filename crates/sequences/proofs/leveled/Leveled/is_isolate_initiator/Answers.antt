@@ -7,5 +7,6 @@ bounds-para-p c = within_units c.self.invariant c.self.view_is c.args.p c.requir
 
 pub offset_bounds-para-p : goal.offset_bounds-para-p
 offset_bounds-para-p c =
-    let within : c.args.p < length c.self.inside.para.now = within_units c.self.invariant c.self.view_is c.args.p c.requires in
+    let within : c.args.p < length c.self.inside.para.now =
+    within_units c.self.invariant c.self.view_is c.args.p c.requires in
     search rules

@@ -9,7 +9,8 @@ at-requires c = within_explicit c.self.invariant c.self.view_is c.args.p c.requi
 
 pub returns-clause-value : goal.returns-clause-value
 returns-clause-value c =
-    c.level.ensures ∙ ap (option_map (λ leveled. leveled.0)) c.at.ensures ∙ sym (level-explicit c.self.invariant c.self.view_is c.args.p c.requires)
+    c.level.ensures ∙ ap (option_map (λ leveled. leveled.0)) c.at.ensures ∙
+    sym (level-explicit c.self.invariant c.self.view_is c.args.p c.requires)
 
 pub returns-clause-within : goal.returns-clause-within
 returns-clause-within c =

@@ -14,7 +14,8 @@ record Seen (c : After-get) : Type 0 where
 
 seen : (c : After-get) → Seen c
 seen c =
-    let positions : c.self.inside.positions.now ≡ c.args.self.now.positions = ap (λ (s : SequenceView). s.positions) c.self.view_is in
+    let positions : c.self.inside.positions.now ≡ c.args.self.now.positions =
+    ap (λ (s : SequenceView). s.positions) c.self.view_is in
     record {
       are = rw (← positions) c.self.invariant.0;
       chain = rw (← positions) c.self.invariant.1;
@@ -26,14 +27,19 @@ result_is_link c =
     let s = seen c in
     c.get.ensures
     ∙ c.index-links-p.is
-    ∙ get_or_default c.self.inside.links.now c.args.p _ _ (position_within c.args.self.now c.self.inside.links.now s.are s.chain c.args.p c.requires)
+    ∙ get_or_default c.self.inside.links.now c.args.p _ _
+    (position_within c.args.self.now c.self.inside.links.now s.are s.chain c.args.p c.requires)
 
 pub returns-clause-successor : goal.returns-clause-successor
 returns-clause-successor c = λ t j leveled found.
     let s = seen c in
-    result_is_link c ∙ link_is_successor c.args.self.now c.self.inside.links.now s.are s.chain c.args.p c.requires t j leveled found
+    result_is_link c ∙ link_is_successor c.args.self.now c.self.inside.links.now s.are s.chain c.args.p c.requires t j
+    leveled found
 
 pub returns-clause-later : goal.returns-clause-later
 returns-clause-later c =
     let s = seen c in
-    rw (result_is_link c, ← s.extent) (link_later c.args.self.now c.self.inside.links.now s.are s.chain c.args.p c.requires)
+    rw (
+      result_is_link c,
+      ← s.extent,
+    ) (link_later c.args.self.now c.self.inside.links.now s.are s.chain c.args.p c.requires)

@@ -12,10 +12,14 @@ invariant_of-self g c =
     let l : length f.new.links ≡ boxed_slice_len old.links = f.auto.links ∙ c.deref_mut.ensures.len in
     let d : length f.new.heads ≡ boxed_slice_len old.heads = f.auto.heads ∙ c.deref_mut-2.ensures.len in
     let n : length f.new.column ≡ boxed_slice_len old.column = f.auto.column ∙ c.deref_mut-3.ensures.len in
-    let l' : length (boxed_slice_items old.links) ≡ boxed_slice_len old.links = sym (ap length c.deref_mut.ensures.value) ∙ c.deref_mut.ensures.len in
-    let d' : length (boxed_slice_items old.heads) ≡ boxed_slice_len old.heads = sym (ap length c.deref_mut-2.ensures.value) ∙ c.deref_mut-2.ensures.len in
-    let n' : length (boxed_slice_items old.column) ≡ boxed_slice_len old.column = sym (ap length c.deref_mut-3.ensures.value) ∙ c.deref_mut-3.ensures.len in
-    let unchanged : HaveLength (boxed_slice_len old.links) f.new.links (boxed_slice_items old.ends) (boxed_slice_items old.joined) f.new.heads f.new.column = record {
+    let l' : length (boxed_slice_items old.links) ≡ boxed_slice_len old.links =
+    sym (ap length c.deref_mut.ensures.value) ∙ c.deref_mut.ensures.len in
+    let d' : length (boxed_slice_items old.heads) ≡ boxed_slice_len old.heads =
+    sym (ap length c.deref_mut-2.ensures.value) ∙ c.deref_mut-2.ensures.len in
+    let n' : length (boxed_slice_items old.column) ≡ boxed_slice_len old.column =
+    sym (ap length c.deref_mut-3.ensures.value) ∙ c.deref_mut-3.ensures.len in
+    let unchanged : HaveLength (boxed_slice_len old.links) f.new.links (boxed_slice_items old.ends)
+    (boxed_slice_items old.joined) f.new.heads f.new.column = record {
       small = omega (arith, c.self.invariant.small);
       links_fit = l;
       ends_fit = omega (arith, c.self.invariant.ends_fit);
@@ -23,12 +27,14 @@ invariant_of-self g c =
       heads_fit = omega (arith, c.self.invariant.heads_fit);
       column_fit = omega (arith, c.self.invariant.column_fit);
     } in
-    let fit : length c.args.para.now ≤ boxed_slice_len old.links = omega (arith, c.requires.room, ap (λ (s : SequencesView). s.room) c.self.view_is) in
+    let fit : length c.args.para.now ≤ boxed_slice_len old.links =
+    omega (arith, c.requires.room, ap (λ (s : SequencesView). s.room) c.self.view_is) in
     rw (
       put_back _ f.new.links (boxed_slice_items old.links) l,
       put_back _ f.new.heads (boxed_slice_items old.heads) d,
       put_back _ f.new.column (boxed_slice_items old.column) n,
-    ) (column_capacity (f.ensures.filled 0) (boxed_slice_len old.links) (boxed_slice_items old.ends) (boxed_slice_items old.joined) unchanged fit)
+    ) (column_capacity (f.ensures.filled 0) (boxed_slice_len old.links) (boxed_slice_items old.ends)
+    (boxed_slice_items old.joined) unchanged fit)
 
 pub returns-clause-all : goal.returns-clause-all
 returns-clause-all g c = λ depth.

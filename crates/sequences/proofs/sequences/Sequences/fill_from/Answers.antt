@@ -21,12 +21,18 @@ invariant_of-self g c =
     let j : length f.new.joined ≡ boxed_slice_len old.joined = f.auto.joined ∙ c.deref_mut-3.ensures.len in
     let d : length f.new.heads ≡ boxed_slice_len old.heads = f.auto.heads ∙ c.deref_mut-4.ensures.len in
     let n : length f.new.column ≡ boxed_slice_len old.column = f.auto.column ∙ c.deref_mut-5.ensures.len in
-    let l' : length (boxed_slice_items old.links) ≡ boxed_slice_len old.links = sym (ap length c.deref_mut.ensures.value) ∙ c.deref_mut.ensures.len in
-    let e' : length (boxed_slice_items old.ends) ≡ boxed_slice_len old.ends = sym (ap length c.deref_mut-2.ensures.value) ∙ c.deref_mut-2.ensures.len in
-    let j' : length (boxed_slice_items old.joined) ≡ boxed_slice_len old.joined = sym (ap length c.deref_mut-3.ensures.value) ∙ c.deref_mut-3.ensures.len in
-    let d' : length (boxed_slice_items old.heads) ≡ boxed_slice_len old.heads = sym (ap length c.deref_mut-4.ensures.value) ∙ c.deref_mut-4.ensures.len in
-    let n' : length (boxed_slice_items old.column) ≡ boxed_slice_len old.column = sym (ap length c.deref_mut-5.ensures.value) ∙ c.deref_mut-5.ensures.len in
-    let unchanged : HaveLength (boxed_slice_len old.links) f.new.links f.new.ends f.new.joined f.new.heads f.new.column = record {
+    let l' : length (boxed_slice_items old.links) ≡ boxed_slice_len old.links =
+    sym (ap length c.deref_mut.ensures.value) ∙ c.deref_mut.ensures.len in
+    let e' : length (boxed_slice_items old.ends) ≡ boxed_slice_len old.ends =
+    sym (ap length c.deref_mut-2.ensures.value) ∙ c.deref_mut-2.ensures.len in
+    let j' : length (boxed_slice_items old.joined) ≡ boxed_slice_len old.joined =
+    sym (ap length c.deref_mut-3.ensures.value) ∙ c.deref_mut-3.ensures.len in
+    let d' : length (boxed_slice_items old.heads) ≡ boxed_slice_len old.heads =
+    sym (ap length c.deref_mut-4.ensures.value) ∙ c.deref_mut-4.ensures.len in
+    let n' : length (boxed_slice_items old.column) ≡ boxed_slice_len old.column =
+    sym (ap length c.deref_mut-5.ensures.value) ∙ c.deref_mut-5.ensures.len in
+    let unchanged : HaveLength (boxed_slice_len old.links) f.new.links f.new.ends f.new.joined f.new.heads f.new.column
+    = record {
       small = omega (arith, c.self.invariant.small);
       links_fit = l;
       ends_fit = omega (arith, c.self.invariant.ends_fit);
@@ -41,7 +47,12 @@ invariant_of-self g c =
       put_back _ f.new.heads (boxed_slice_items old.heads) d,
       put_back _ f.new.column (boxed_slice_items old.column) n,
       c.len-self-inside.ensures.value,
-    ) (filled_room f.ensures.filled c.len-self-inside.ensures.leveled (boxed_slice_len old.links) f.new.ends f.new.joined unchanged (omega (arith, c.requires, ap (λ (s : SequencesView). s.room) c.self.view_is)))
+    ) (filled_room f.ensures.filled c.len-self-inside.ensures.leveled
+    (boxed_slice_len old.links) f.new.ends f.new.joined unchanged (omega (
+      arith,
+      c.requires,
+      ap (λ (s : SequencesView). s.room) c.self.view_is,
+    )))
 
 pub returns-clause-all : goal.returns-clause-all
 returns-clause-all g c =
@@ -57,14 +68,21 @@ pub returns-clause-once : goal.returns-clause-once
 returns-clause-once g c =
     let t = c.args.t.now in
     let P : List SequenceView → Type 0 = λ all. HoldsOnce t all in
-    subst P (sym (returns-clause-all g c)) (sequences_hold_once t c.len-self-inside.ensures.leveled c.len-self-inside.ensures.nested)
+    subst P (sym (returns-clause-all g c))
+    (sequences_hold_once t c.len-self-inside.ensures.leveled c.len-self-inside.ensures.nested)
 
 pub returns-clause-fit : goal.returns-clause-fit
 returns-clause-fit g c =
     let t = c.args.t.now in
     let P : List SequenceView → Type 0 = λ all. sum_by (λ (s : SequenceView). length s.positions) all ≤ size_of t in
-    subst P (sym (returns-clause-all g c)) (sequences_fit t c.len-self-inside.ensures.leveled c.len-self-inside.ensures.nested)
+    subst P (sym (returns-clause-all g c))
+    (sequences_fit t c.len-self-inside.ensures.leveled c.len-self-inside.ensures.nested)
 
 pub returns-clause-steps : goal.returns-clause-steps
 returns-clause-steps g c =
-    omega (arith, length-column c.args.t.now, ap (λ (all : List SequenceView). sum_by (λ (s : SequenceView). length s.positions) all) (returns-clause-all g c))
+    omega (
+      arith,
+      length-column c.args.t.now,
+      ap (λ (all : List SequenceView). sum_by (λ (s : SequenceView). length s.positions) all)
+          (returns-clause-all g c),
+    )

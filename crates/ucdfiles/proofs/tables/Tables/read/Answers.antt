@@ -11,7 +11,8 @@ returns-in-Err-read_brackets-clause-err c = (c.in-Ok.ensures.ok.faultless, c.in-
 
 pub returns-in-Ok-read_mirrors-clause-ok : goal.returns-in-Ok-read_mirrors-clause-ok
 returns-in-Ok-read_mirrors-clause-ok c =
-    subst (λ (tables : TablesOf). StateTables c.args.classes.now c.args.brackets.now c.args.mirrors.now tables) (sym c.new.ensures) record {
+    subst (λ (tables : TablesOf). StateTables c.args.classes.now c.args.brackets.now c.args.mirrors.now tables)
+    (sym c.new.ensures) record {
       by_classes = c.in-Ok.ensures.ok;
       by_brackets = c.in-Ok-read_brackets.ensures.ok;
       by_mirrors = c.in-Ok-read_mirrors.ensures.ok;

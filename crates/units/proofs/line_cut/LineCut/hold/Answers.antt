@@ -11,4 +11,5 @@ returns-then-text-self-clause-represents c =
     let fits : n ≤ length c.self.inside.buffer = omega (arith, c.self.invariant, c.self.told) in
     let over : longest_line < length (take n c.self.inside.buffer) + length c.args.text.now =
     omega (arith, c.if-text-self.true, length-take-le n c.self.inside.buffer fits) in
-    rw (← c.self.view_is) (λ b s. holds_over _ b _ _ (ap (λ (v : Cutting). v.phase) c.self.view_is ∙ c.requires.within) c.requires.feeds over s)
+    rw (← c.self.view_is) (λ b s. holds_over _ b _ _ (ap (λ (v : Cutting). v.phase) c.self.view_is ∙
+    c.requires.within) c.requires.feeds over s)

@@ -14,7 +14,8 @@ returns-in-Within c = (
     line = c.advance-used.ensures.line;
     whole = c.advance-used.ensures.whole;
     short = tt;
-    outcome = λ b s. returns_more c.advance-used.new.self b _ _ (c.advance-used.ensures.represents b s) c.advance-used.ensures.reaches
+    outcome = λ b s. returns_more c.advance-used.new.self b _ _
+        (c.advance-used.ensures.represents b s) c.advance-used.ensures.reaches
         (sym (ap (λ (v : Cutting). v.phase) c.self.view_is) ∙ c.in-Within.is);
     after = tt;
   },
@@ -30,8 +31,10 @@ returns-in-Ended c = (
     line = c.advance-used.ensures.line;
     whole = c.advance-used.ensures.whole;
     short = c.text-text.ensures.short;
-    outcome = λ b s. returns_line c.advance-used.new.self b _ _ (c.advance-used.ensures.represents b s) c.advance-used.ensures.reaches
-        _ c.text-text.result (sym (ap (λ (v : Cutting). v.phase) c.self.view_is) ∙ c.in-Ended.is) (ap (λ (v : Cutting). v.done) c.self.view_is) c.text-text.ensures.stored;
+    outcome = λ b s. returns_line c.advance-used.new.self b _ _
+        (c.advance-used.ensures.represents b s) c.advance-used.ensures.reaches
+        _ c.text-text.result (sym (ap (λ (v : Cutting). v.phase) c.self.view_is) ∙
+        c.in-Ended.is) (ap (λ (v : Cutting). v.done) c.self.view_is) c.text-text.ensures.stored;
     after = tt;
   },
 )
@@ -46,8 +49,10 @@ returns-in-Failed c = (
     line = c.advance-used.ensures.line;
     whole = c.advance-used.ensures.whole;
     short = tt;
-    outcome = λ b s. returns_too_long c.advance-used.new.self b _ _ (c.advance-used.ensures.represents b s) c.advance-used.ensures.reaches
-        _ (sym (ap (λ (v : Cutting). v.phase) c.self.view_is) ∙ c.in-Failed.is) (c.saturating_add-number.ensures ∙ ap (λ (v : Cutting). saturated (v.done + 1)) c.self.view_is);
+    outcome = λ b s. returns_too_long c.advance-used.new.self b _ _
+        (c.advance-used.ensures.represents b s) c.advance-used.ensures.reaches
+        _ (sym (ap (λ (v : Cutting). v.phase) c.self.view_is) ∙ c.in-Failed.is) (c.saturating_add-number.ensures ∙
+        ap (λ (v : Cutting). saturated (v.done + 1)) c.self.view_is);
     after = tt;
   },
 )

@@ -9,6 +9,10 @@ returns c =
     record {
       empty = refl;
       end = refl;
-      represents = removed_run-is line _ (omega (arith, f.ensures.up_to, c.if-start-self.false)) f.ensures.inside f.ensures.removed refl
+      represents = removed_run-is line _ (omega (
+        arith,
+        f.ensures.up_to,
+        c.if-start-self.false,
+      )) f.ensures.inside f.ensures.removed refl
           c.level.ensures.value refl f.ensures.stops (c.is_alone.ensures.alone c.if-not-is_alone.false);
     }

@@ -12,4 +12,5 @@ returns-clause-steps c =
     let e = c.in_default.ensures in
     let mid = c.next_removed.new.self in
     next_shown-is c.args.self.now mid _ c.run_from-run.result e.line e.place e.closed (e.left refl)
-    (mid.begins (omega (arith, mid.inside, c.if-self.false))) c.run_from-run.ensures.run c.run_from-run.ensures.some refl refl refl
+    (mid.begins (omega (arith, mid.inside, c.if-self.false))) c.run_from-run.ensures.run c.run_from-run.ensures.some
+    refl refl refl
