@@ -20,7 +20,7 @@ WIDTH, GAP, LINE, MARGIN, BETWEEN = 236, 28, 15, 20, 46
 CHARACTERS = 37
 FILLS = {
     "base": "#fff4d6",
-    "laws": "#f3e8f7",
+    "lemmas": "#f3e8f7",
     "engine": "#e3f0fb",
     "files": "#e6f5e6",
     "uses": "#eef1f4",

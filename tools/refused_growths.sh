@@ -143,10 +143,10 @@ for crate in ${*:-table_tests file_tests engine_tests layout_tests text_tests co
                 line_rows::no_growth_comes_after_making ;;
         text_tests)
             tests_of text_tests 'print_levels and print_reorder' \
-                printed_refused::prints_or_says_that_memory_was_refused ;;
+                printed_out_of_memory::prints_or_says_that_memory_was_refused ;;
         command_tests)
             tests_of command_tests 'run over files in memory' \
-                faults::answers_as_ever_or_says_that_memory_was_refused ;;
+                faults::runs_as_usual_or_reports_that_memory_ran_out ;;
         bidi)
             program_of_bidi ;;
         *) missing "$crate has no test made for refused memory" ;;
