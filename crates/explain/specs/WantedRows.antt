@@ -66,8 +66,7 @@ IsWanted HasEnded kind number bytes found =
     (more : List ℕ) → (HasEnded → more ≡ []) → wanted_row kind number (bytes ++ more) ≡ found
 
 -- these bytes don't decide the result at the line of this number: none of the lines that they decide is malformed or
--- has
--- this number
+-- has this number
 pub record IsUnsettled (kind : Kind) (number : ℕ) (bytes : List ℕ) : Type 0 where
   pub sound : first_malformed 0 (findings_by kind (decided_lines bytes)) ≡ None
   pub before : length (decided_lines bytes) < number

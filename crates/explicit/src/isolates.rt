@@ -213,7 +213,7 @@ fn pass_fours<L: Ledger>(
 }
 
 // Returns the next position, from `from` on, at which an isolate begins or ends, or at which there is a strong class if
-// `wanted`. Removes the partners of this position and of those before it. Each of these positions is a step.
+// `wanted` is true. Removes the partners of this position and of those before it. Each of these positions is a step.
 fn next_stop<L: Ledger>(
     para: &[Unit],
     from: usize,

@@ -123,9 +123,8 @@ impl ReportState {
 
     /// Takes the end of a file of this kind, which also ends the line that has begun. Afterwards `found` returns the
     /// wrong cases of a last line that no LF ends, `case_counts` the counts of the file, and `malformed` its first
-    /// malformed
-    /// line. It takes no memory and always succeeds. The contract doesn't say which bytes the state represents
-    /// afterwards.
+    /// malformed line. It takes no memory and always succeeds. The contract doesn't say which bytes the state
+    /// represents afterwards.
     pub fn finish(&mut self, kind: Kind<'_>)
         ensures { (terms : TermsOf) (reported : List Reported) (b : List ℕ)
             → HasReportedFor terms (tables_of kind.entry) self.old reported b

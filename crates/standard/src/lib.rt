@@ -15,8 +15,7 @@ use ucdfiles::mirror_table::MirrorTable;
 use ucdfiles::tables::Tables;
 
 /// Returns the tables that the facts of the edition `facts::EDITION` state. They are constants: the call reads no
-/// facts,
-/// allocates nothing and can't fail.
+/// facts, allocates nothing and can't fail.
 pub fn tables() -> Tables
     ensures { StateTables CLASSES BRACKETS MIRRORS result }
 {
