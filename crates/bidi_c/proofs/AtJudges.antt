@@ -16,5 +16,5 @@ module _ {IsSo : TableJudge → TableJudge → Type 0} where
 module _ {old new : Option Contents} {before after : BidiVerdict} {status : ℕ} where
   pub none_to_end : judge_in old ≡ None → new ≡ old → after ≡ before → status ≡ 16 →
       ReturnsStatus (EndsJudge old new before after) status
-  none_to_end none same kept coded =
-      record { outcome = Err NoJudge; coded = coded; so = record { at = rw none (refl, same, kept) } }
+  none_to_end none same unchanged coded =
+      record { outcome = Err NoJudge; coded = coded; so = record { at = rw none (refl, same, unchanged) } }

@@ -12,9 +12,9 @@ module _ {A : Type 0} {IsSo : TableReport → TableReport → Result A CallError
     Type 0} {before after : A} {status : ℕ} where
   pub no_report : {old new : Option Contents} → report_in old ≡ None → new ≡ old → after ≡ before → status ≡ 26 →
       ReturnsStatus (AtReport IsSo old new before after) status
-  no_report none same kept coded = record {
+  no_report none same unchanged coded = record {
     outcome = Err NoReport;
     coded = coded;
     so =
-        record { at = rw none (refl, same, kept) };
+        record { at = rw none (refl, same, unchanged) };
   }

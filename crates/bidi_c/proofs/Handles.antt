@@ -32,7 +32,7 @@ use Rattle.std.specs.contracts.alloc.Global as heap
 use Rattle.std.proofs.alloc.Global.TheLaws as heap_laws
 use Rattle.std.specs.contracts.impls.GlobalAllocator.TheImpl.{ghosts, dict}
 use Rattle.std_alloc.specs.Box.Ownership.{box_owns}
-use Rattle.bidi_c.specs.Kept.{kept}
+use Rattle.bidi_c.specs.Owned.{owned}
 use Rattle.bidi_c.specs.contracts.contents.Contents as inner
 use Rattle.bidi_c.proofs.contents.Contents.TheLaws as inner_lemmas
 use Rattle.bidi_c.specs.contracts.handle.Handle as outer
@@ -118,7 +118,7 @@ module _ {M : Type 1} {𝓤 : Ura M} {𝓛 : Logic 𝓤} {K : Type 0} {Γ : List
       feq_l t (λ ev. fsplit t $
       feq_l t (λ ep. fsplit t $ handle_tells E.al t d.alloc vss.1.0 (λ h ea fits. move t (1 ∷ []) $ drop t $
       move t (1 ∷ []) $
-      rewrite t 0 (λ (v : Option R.Denot). ‵ (kept R d.alloc d.at v)) is refl $
+      rewrite t 0 (λ (v : Option R.Denot). ‵ (owned R d.alloc d.at v)) is refl $
       in_a_block t d.at (λ p. box_owns (ghosts.dealloc_token d.alloc) R p x)
       (fst∗ 𝓤 (never 𝓤) (sem 𝓛 (ghosts.dealloc_token d.alloc (bare (lone R.mir)) null_ptr))) (λ b o e. k b o h e
       (subst (λ (p : Ptr). vs ≡ vstruct (of_list (ptr_val p ∷ h ∷ [])) ∷ []) e

@@ -14,8 +14,8 @@ with_contents owner last = record { at = owner.at; alloc = owner.alloc; value = 
 
 -- the handle with these contents in place of its own
 abbrev pub holding : BidiHandle → Contents → BidiHandle
-holding kept last = record {
-  handle = with_contents kept.handle last;
+holding owner last = record {
+  handle = with_contents owner.handle last;
   made = true;
   made_iff_some =
       (λ _. refl, λ _. refl);
@@ -23,9 +23,10 @@ holding kept last = record {
 
 -- the handle ends with the last contents that the borrower wrote, or unchanged if nothing was borrowed
 abbrev pub BorrowsContentsIf : MutBor BidiHandle → Option (MutBor Contents) → Fml
-BorrowsContentsIf kept borrowed = LendsIf bidi_handle.the_row contents.the_row kept borrowed (holding kept.now) kept.now
+BorrowsContentsIf owner borrowed =
+    LendsIf bidi_handle.the_row contents.the_row owner borrowed (holding owner.now) owner.now
 
 -- the handle ends unchanged
 abbrev pub EndsUnchanged : MutBor BidiHandle → Fml
-EndsUnchanged kept = follows_so bidi_handle.the_row bidi_handle.the_row kept.ghost_name none (λ _ _. ⊤) (λ last.
-    last ≡ kept.now)
+EndsUnchanged owner = follows_so bidi_handle.the_row bidi_handle.the_row owner.ghost_name none (λ _ _. ⊤) (λ last.
+    last ≡ owner.now)

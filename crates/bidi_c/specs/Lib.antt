@@ -1,5 +1,5 @@
 -- What handles own, contain and let callers borrow, and what calls on them do.
-pub mod Kept
+pub mod Owned
 pub mod BorrowedContents
 pub mod ContentsIn
 pub mod ContentsAt

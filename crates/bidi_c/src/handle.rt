@@ -16,10 +16,10 @@ pub struct Handle {
 }
 
 impl Model for Handle {
-    ghost use Rattle.bidi_c.specs.Kept.{kept};
+    ghost use Rattle.bidi_c.specs.Owned.{owned};
     ghost use Rattle.bidi_c.specs.contracts.contents.Contents.{the_row};
 
-    ghost also_owns = { λ h. kept the_row h.alloc h.at h.value };
+    ghost also_owns = { λ h. owned the_row h.alloc h.at h.value };
 }
 
 impl Handle {

@@ -5,7 +5,7 @@ ghost use Rattle.clap.specs.Walk.{rows_of};
 ghost use Rattle.command.specs.CommandLine.{AsksFor, AsksToExplainRow};
 ghost use Rattle.command.specs.Rejections.{has_row_words, has_text_words, has_two_tables};
 ghost use Rattle.requests.specs.declared.request.Request.{Request as RequestOf};
-ghost use Rattle.requests.specs.declared.request.WantedRow.{WantedRow as SoughtRowOf};
+ghost use Rattle.requests.specs.declared.request.WantedRow.{WantedRow as WantedRowSpec};
 
 use crate::values::{
     direction_in, has_table_words, has_two_tables, has_value, kind_in, line_in, named_tables,
@@ -33,7 +33,7 @@ pub fn has_text_words(matches: &ArgMatches<'_>) -> bool
 fn explain_row_in<'a>(matches: &ArgMatches<'a>) -> Option<WantedRow<'a>>
     requires { has_two_tables (rows_of (found_of matches.now)) ≡ false }
     ensures some { IfSome result (AsksToExplainRow (rows_of (found_of matches.now))) }
-    ensures none { IfNone result ((wanted : SoughtRowOf)
+    ensures none { IfNone result ((wanted : WantedRowSpec)
         → ¬ (AsksToExplainRow (rows_of (found_of matches.now)) wanted)) }
 {
     if has_text_words(matches) || !has_value(matches, "row") {

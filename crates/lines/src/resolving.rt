@@ -77,7 +77,7 @@ fn resolve_unit<L: Ledger>(
     ensures resolved { result ≡ true → (limits : LimitsOf) (breaks : List ℕ)
         → IsResolved limits text.now direction breaks one_unit columns.new bounds.new }
     ensures steps { result ≡ true → steps.new ≡ steps.old + uniform_text_steps }
-    ensures left { result ≡ false → columns.new ≡ columns.old }
+    ensures columns { result ≡ false → columns.new ≡ columns.old }
     ensures no_steps { result ≡ false → steps.new ≡ steps.old }
 {
     let Some(unchanged) = remaining_unit(text[0], direction) else {

@@ -26,7 +26,7 @@ pub next_shown-is : (old mid new : Runs) (run : VisualRun) → mid.line ≡ old.
     BeginsAt mid.line mid.place → (IsInOrder mid.line → BeginsAt mid.line mid.place → IsRunAt mid.line mid.place run) →
     0 < run.shown → new.line ≡ mid.line → new.place ≡ mid.place + run.shown → new.end_pending ≡ mid.end_pending →
     IsNextRun old run new
-next_shown-is old mid new run line place closed left begins is some line2 place2 end2 =
+next_shown-is old mid new run line place closed pending begins is some line2 place2 end2 =
     record {
       line = line2 ∙ line;
       run = λ o.
@@ -34,5 +34,5 @@ next_shown-is old mid new run line place closed left begins is some line2 place2
           subst (λ n. IsRunAt old.line n run) place (subst (λ l. IsRunAt l mid.place run) line t);
       place = omega (arith, place, place2);
       closed = λ e. end2 ∙ closed e;
-      either = inl (some, elim left [ inl e ↦ inl (end2 ∙ e) | inr j ↦ inr j ]);
+      either = inl (some, elim pending [ inl e ↦ inl (end2 ∙ e) | inr j ↦ inr j ]);
     }

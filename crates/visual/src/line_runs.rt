@@ -49,7 +49,7 @@ impl<'a> Runs<'a> {
         ensures given { IfSome result (λ run. IsRemovedRun self.old.line run
             × (self.old.end_pending ≡ true) × (self.new.end_pending ≡ false)
             × (self.old.place ≡ end_place self.old.line)) }
-        ensures left { IsNone result → (self.new.end_pending ≡ self.old.end_pending) ⊎ JoinTheLast self.old.line }
+        ensures pending { IsNone result → (self.new.end_pending ≡ self.old.end_pending) ⊎ JoinTheLast self.old.line }
         ensures ahead { self.new.end_pending ≡ true → self.new.place < end_place self.new.line }
     {
         if !self.end_pending || self.place != self.line.end_place() {

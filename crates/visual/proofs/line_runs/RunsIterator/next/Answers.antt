@@ -11,6 +11,6 @@ pub returns-clause-steps : goal.returns-clause-steps
 returns-clause-steps c =
     let e = c.in_default.ensures in
     let mid = c.next_removed.new.self in
-    next_shown-is c.args.self.now mid _ c.run_from-run.result e.line e.place e.closed (e.left refl)
+    next_shown-is c.args.self.now mid _ c.run_from-run.result e.line e.place e.closed (e.pending refl)
     (mid.begins (omega (arith, mid.inside, c.if-self.false))) c.run_from-run.ensures.run c.run_from-run.ensures.some
     refl refl refl
