@@ -9,8 +9,8 @@ is documents and comments, and in names, split at _ and at capitals. It doesn't 
 judge, such as "by", "where" or "room".
 
 It skips code blocks and what is in backticks (names count where they are declared), strings (printed texts don't
-change), data, expected output, wrong bodies, and names that a file imports from a library of the kit. EXCEPTIONS lists
-what else stays, each with its reason.
+change), data, expected output, wrong bodies, and imports from libraries of the kit, with the names that they bring.
+EXCEPTIONS lists what else stays, each with its reason.
 
 For each word it prints how often it is in prose, in how many names, and how often these are used. With --list it prints
 each place, with --folders the counts of each crate and folder, and with --exceptions the reason of each exception and
@@ -81,11 +81,15 @@ class Stays(NamedTuple):
 
 HEADLINE = "the headline and the ten sentences on what is proved, which don't change"
 ALLOCATOR = "of memory: an allocator refuses it"
+KIT = "a name of the kit or of its libraries"
 WRONG_BODY = "the kit's name of a wrong body: FILE.edit"
 CLAIMED = "`bidi report` prints 'claimed', so fields of C, Python and Rust have this name"
 EXCEPTIONS = (
     Stays("", "^docs/PERF.md", r"^\|", "tables of what was measured and changed, as they were written then"),
     Stays("", "^NOTICES", "", "the text of a licence"),
+    Stays("", "^tools/", "^(FileNotFoundError|get_ready|walk)$", "a name of Python's library"),
+    Stays("", "^crates/(bidi_c|units)/proofs/", "^(TheLaws|the_row_laws|laws|kept|told)$", KIT),
+    Stays("", "^crates/(file_tests|requests|units)/src/", "^(Left|NotFound)$", KIT),
     Stays("answer", "^(README|docs/PROVED)", "judge answers", HEADLINE),
     Stays("hand", "^docs/PROVED", "bytes that it was handed", HEADLINE),
     Stays("held", "^docs/PROVED", "the layout that it held", HEADLINE),
@@ -97,20 +101,19 @@ EXCEPTIONS = (
     Stays("claim", "^crates/", "^claimed$", CLAIMED),
     Stays("edit", r"^(\.ci/|tools/(try_edits|edit_records))", "", WRONG_BODY),
     Stays("edit", "", r"\.edit\b|edits\.rejected|must-fail", WRONG_BODY),
-    Stays("found", "^(bench|python|rust|tools)/", "", "a usual name of a local variable"),
+    Stays("found", "", "^found$", "a usual name of a local variable"),
     Stays("gate", r"^(\.ci/|tools/|CONTRIBUTING|docs/(CHANGING|DECISIONS|ARCHITECTURE))", "", "the gate is .ci/run"),
     Stays("glyph", "", "^glyph$", "the public call of `MirrorTable`, which its users have"),
     Stays("glyph", "^tools/bidi-draw", "", "what is drawn for a character"),
     Stays("left", "", "(?i)cases_?left", "the status of bidi.h, and the error of that name"),
+    Stays("left", "^crates/(lines|visual)/", "^([lL]eft|has_left|left_at|left_from_stand)$", "a side"),
     Stays("left", "^(python|rust|tools)/", "^(left|LEFT|bisect_left)$", "a side"),
-    Stays("ready", "^tools/", "^get_ready$", "a method of Python's graphlib"),
     Stays("refuse", "", "(?i)memory|growth|allocat", ALLOCATOR),
     Stays("refuse", "^tools/(c/refused|refused_growths|growths)", "", ALLOCATOR),
     Stays("refuse", "^(tools/try_edits|docs/PERF)", "'refused", "a word that the kit prints"),
     Stays("refuse", "^(python|docs)", "(Depth|Brackets)Refused", "public exceptions of the module for Python"),
     Stays("walk", "", r"\bWALK\b", "docs/WALK.md takes a text through every rule"),
     Stays("walk", "^docs/WALK.md", "", "docs/WALK.md takes a text through every rule"),
-    Stays("walk", "^tools/", "^walk$", "Python's os.walk"),
 )
 
 # Comments and strings of languages with those of C, and names.
@@ -124,10 +127,12 @@ SHELL = re.compile(r"(?P<comment>(?:^|(?<=\s))#[^\n]*)|(?P<name>^[a-z_]\w*(?=\(\
 LEXERS = {".antt": ANTT, ".sh": SHELL, ".toml": SHELL}
 LEXERS.update(dict.fromkeys((".rt", ".rs", ".c", ".h", ".cc", ".go", ".java"), LIKE_C))
 PROSE = (".md", ".1")
-IMPORT = re.compile(r"\buse (?:Rattle\.)?(\w+)(?:\.|::)[^;\n]*?([\w']+|\{[^}]*\})\s*(?:;|$)", re.MULTILINE)
+IMPORT = re.compile(
+    r"^[ \t]*(?:pub |ghost )?use (?:Rattle\.)?(\w+)(?:\.|::)[^;\n]*?([\w']+|\{[^}]*\})\s*(?:;|$)", re.MULTILINE
+)
 PARTS = re.compile(r"[A-Z]+(?![a-z])|[A-Z]?[a-z]+")
 # In names "left" is mostly a side.
-SIDES = re.compile(r"left_to_right|right_to_left|LEFT_TO_RIGHT|RIGHT_TO_LEFT|LeftToRight|RightToLeft")
+SIDES = re.compile(r"left_?to_?right|right_?to_?left", re.IGNORECASE)
 WORD_OF_PART = {part: name for name, word in WORDS.items() for part in word.parts.split()}
 SEARCHED = [name for name, word in WORDS.items() if word.prose]
 IN_PROSE = re.compile(r"\b(?:%s)\b" % "|".join(f"({WORDS[name].prose})" for name in SEARCHED), re.IGNORECASE)
@@ -138,12 +143,18 @@ def without(pattern, text):
     return re.sub(pattern, lambda match: re.sub(r"[^\n]", " ", match[0]), text, flags=re.DOTALL | re.MULTILINE)
 
 
-def imported(text):
-    """Returns the names that a file imports from libraries of the kit."""
+def without_imports(text):
+    """Returns the text with blanks for the imports from libraries of the kit, and the names that these bring."""
     ours = {path.name for path in (TOP / "crates").iterdir()} | {"crate", "self", "super"}
-    return {
-        name for crate, names in IMPORT.findall(text) if crate not in ours for name in re.findall(r"[\w']+", names)
-    }
+    kit = set()
+
+    def blank(match):
+        if match[1] in ours:
+            return match[0]
+        kit.update(re.findall(r"[\w']+", match[2]))
+        return re.sub(r"[^\n]", " ", match[0])
+
+    return IMPORT.sub(blank, text), kit
 
 
 def of_python(text):
@@ -169,8 +180,8 @@ def pieces(path, text):
     elif path.suffix == ".py" or text.startswith("#!/usr/bin/env python3"):
         yield from of_python(text)
     elif path.suffix in LEXERS or text.startswith("#!"):
-        kit = imported(text)
-        for match in LEXERS.get(path.suffix, SHELL).finditer(text):
+        own_text, kit = without_imports(text)
+        for match in LEXERS.get(path.suffix, SHELL).finditer(own_text):
             if match.lastgroup == "comment":
                 yield "prose", match.start(), match[0]
             elif match.lastgroup == "name" and match[0] not in kit:

@@ -28,7 +28,7 @@ class Worked(unittest.TestCase):
         self.assertEqual(line.runs, [bidi.Run(8, 2, 2, 2), bidi.Run(2, 6, 6, 1), bidi.Run(0, 2, 2, 2)])
         self.assertEqual(layout.display(), [f"12 ({DALET}{GIMEL}) ab"])
 
-    def test_direction_that_is_found(self):
+    def test_automatic_direction(self):
         layout = bidi.lay_out(f"{ALEF}{BET} (cd) 12\n", self.tables)
         self.assertEqual(layout.levels, [1, 1, 1, 1, 2, 2, 1, 1, 2, 2, 1])
         self.assertEqual(layout.display(), [f"12 (cd) {BET}{ALEF}"])
