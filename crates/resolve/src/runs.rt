@@ -36,13 +36,25 @@ pub(crate) fn give_run<L: Ledger>(
     k
 }
 
-/// Does the same as `give_run`, and also gives these positions a level.
+/// How a class resolves (N1 to I2).
+#[derive(Clone, Copy)]
+pub(crate) struct Resolution {
+    /// The class before N1.
+    pub(crate) class: Class,
+
+    /// The class after N2.
+    pub(crate) made: Class,
+
+    /// The resolved level.
+    pub(crate) level: Level,
+}
+
+/// Gives the class `resolution.made` and its level to the positions of a sequence from the index `start` on, as long as
+/// they have the class `resolution.class`. Returns the index after them. Each position is a step.
 pub(crate) fn give_run_levels<L: Ledger>(
     positions: &[u32],
     start: usize,
-    class: Class,
-    made: Class,
-    level: Level,
+    resolution: Resolution,
     classes: &mut [Class],
     levels: &mut [Option<Level>],
     steps: &mut Steps<L>,
@@ -50,11 +62,14 @@ pub(crate) fn give_run_levels<L: Ledger>(
     requires positions { ArePositions positions.now (length classes.old) }
     requires start { start ≤ length positions.now }
     requires levels { length levels.old ≡ length classes.old }
-    ensures run { IsRunOf class positions.now start result classes.old }
-    ensures classes { classes.new ≡ with_along positions.now start (result - start) made classes.old }
-    ensures levels { levels.new ≡ with_along positions.now start (result - start) (Some level) levels.old }
+    ensures run { IsRunOf resolution.class positions.now start result classes.old }
+    ensures classes { classes.new ≡ with_along positions.now start (result - start) resolution.made classes.old }
+    ensures levels { levels.new ≡ with_along positions.now start (result - start) (Some resolution.level) levels.old }
     ensures steps { steps.new + start ≡ steps.old + result }
 {
+    let class = resolution.class;
+    let made = resolution.made;
+    let level = resolution.level;
     let mut k = start;
     while k < positions.len() && is_same(classes[positions[k] as usize], class) {
         steps.tick();
@@ -65,13 +80,12 @@ pub(crate) fn give_run_levels<L: Ledger>(
     k
 }
 
-/// Gives a direction and a level to the positions of a sequence from the index `start` on, as long as they are neutral
-/// or have this direction. Returns the index after them. Each position is a step.
+/// Gives the direction `resolution.made` and its level to the positions of a sequence from the index `start` on, as long
+/// as they are neutral or have this direction. Returns the index after them. Each position is a step.
 pub(crate) fn give_direction<L: Ledger>(
     positions: &[u32],
     start: usize,
-    direction: Class,
-    resolved: Level,
+    resolution: Resolution,
     classes: &mut [Class],
     levels: &mut [Option<Level>],
     steps: &mut Steps<L>,
@@ -79,11 +93,13 @@ pub(crate) fn give_direction<L: Ledger>(
     requires positions { ArePositions positions.now (length classes.old) }
     requires start { start ≤ length positions.now }
     requires levels { length levels.old ≡ length classes.old }
-    ensures neutral_or { AreNeutralOr direction positions.now start result classes.old }
-    ensures classes { classes.new ≡ with_along positions.now start (result - start) direction classes.old }
-    ensures levels { levels.new ≡ with_along positions.now start (result - start) (Some resolved) levels.old }
+    ensures neutral_or { AreNeutralOr resolution.made positions.now start result classes.old }
+    ensures classes { classes.new ≡ with_along positions.now start (result - start) resolution.made classes.old }
+    ensures levels { levels.new ≡ with_along positions.now start (result - start) (Some resolution.level) levels.old }
     ensures steps { steps.new + start ≡ steps.old + result }
 {
+    let direction = resolution.made;
+    let resolved = resolution.level;
     let neutral_or = ClassSet::neutral_or(direction);
     let mut k = start;
     while k < positions.len() && neutral_or.holds(classes[positions[k] as usize]) {

@@ -5,8 +5,8 @@ use Rattle.resolve.proofs.runs.give_direction.Goals as goal
 pub loop-k-init : goal.loop-k-init
 loop-k-init g c = record {
   neutral_or = all_of_none c.requires.start;
-  classes = along_none c.args.positions.now c.args.start c.args.direction c.args.classes.now;
-  levels = along_none c.args.positions.now c.args.start (Some c.args.resolved) c.args.levels.now;
+  classes = along_none c.args.positions.now c.args.start c.args.resolution.made c.args.classes.now;
+  levels = along_none c.args.positions.now c.args.start (Some c.args.resolution.level) c.args.levels.now;
   steps = omega arith;
 }
 

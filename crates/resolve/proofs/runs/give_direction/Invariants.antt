@@ -4,9 +4,9 @@ use Rattle.resolve.proofs.runs.give_direction.Given as goal
 
 abbrev pub invariant-loop-k : goal.invariant-loop-k
 invariant-loop-k g l = record {
-  neutral_or : AreNeutralOr l.direction l.positions l.start l.k l.initial.classes;
-  classes : l.classes ≡ with_along l.positions l.start (l.k - l.start) l.direction l.initial.classes;
-  levels : l.levels ≡ with_along l.positions l.start (l.k - l.start) (Some l.resolved) l.initial.levels;
+  neutral_or : AreNeutralOr l.fn.resolution.made l.positions l.start l.k l.initial.classes;
+  classes : l.classes ≡ with_along l.positions l.start (l.k - l.start) l.fn.resolution.made l.initial.classes;
+  levels : l.levels ≡ with_along l.positions l.start (l.k - l.start) (Some l.fn.resolution.level) l.initial.levels;
   steps : l.steps + l.start ≡ l.initial.steps + l.k;
 }
 

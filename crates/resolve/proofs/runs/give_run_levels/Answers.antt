@@ -5,8 +5,8 @@ use Rattle.resolve.proofs.runs.give_run_levels.Goals as goal
 pub loop-k-init : goal.loop-k-init
 loop-k-init g c = record {
   run = all_of_none c.requires.start;
-  classes = along_none c.args.positions.now c.args.start c.args.made c.args.classes.now;
-  levels = along_none c.args.positions.now c.args.start (Some c.args.level) c.args.levels.now;
+  classes = along_none c.args.positions.now c.args.start c.args.resolution.made c.args.classes.now;
+  levels = along_none c.args.positions.now c.args.start (Some c.args.resolution.level) c.args.levels.now;
   steps = omega arith;
 }
 
