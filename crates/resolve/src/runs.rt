@@ -80,8 +80,8 @@ pub(crate) fn give_run_levels<L: Ledger>(
     k
 }
 
-/// Gives the direction `resolution.made` and its level to the positions of a sequence from the index `start` on, as long
-/// as they are neutral or have this direction. Returns the index after them. Each position is a step.
+/// Gives the direction `resolution.made` and its level to the positions of a sequence from the index `start` on, as
+/// long as they are neutral or have this direction. Returns the index after them. Each position is a step.
 pub(crate) fn give_direction<L: Ledger>(
     positions: &[u32],
     start: usize,
