@@ -115,40 +115,51 @@ fn resolve_each<L: Ledger>(
     }
 }
 
-/// Applies W1 to I2 to a paragraph with these contents, whose sequences are in `found`.
+/// A paragraph whose contents are known.
+#[derive(Clone, Copy)]
+pub struct KnownParagraph<'a> {
+    /// Its units.
+    pub units: &'a [Unit],
+
+    /// Its contents.
+    pub contents: Contents,
+
+    /// How many brackets can be open (BD16).
+    pub limits: Limits,
+}
+
+/// Applies W1 to I2 to a paragraph whose sequences are in `found`.
 pub fn resolve_sequences<L: Ledger>(
-    para: &[Unit],
-    contents: Contents,
+    para: &KnownParagraph,
     found: &RoomToFind,
-    limits: Limits,
     work: &mut RoomToResolve,
     levels: &mut [Option<Level>],
     steps: &mut Steps<L>,
 )
-    requires contents { Describes contents (classes_of para.now) }
-    requires found { length para.now ≤ found.now.room }
-    requires apart { AreDisjoint (length para.now) found.now.sequences }
-    requires own { AreOwn (positions_in found.now.sequences) para.now
-        (classes_before (are_flat (classes_of para.now)) para.now found.now.explicit) }
-    requires room { length para.now ≤ work.old.room }
-    requires levels { length levels.old ≡ length para.now }
-    ensures levels { HasLevelsBy limits.brackets para.now
-        (classes_before (are_flat (classes_of para.now)) para.now found.now.explicit)
+    requires contents { Describes para.now.contents (classes_of para.now.units.now) }
+    requires found { length para.now.units.now ≤ found.now.room }
+    requires apart { AreDisjoint (length para.now.units.now) found.now.sequences }
+    requires own { AreOwn (positions_in found.now.sequences) para.now.units.now
+        (classes_before (are_flat (classes_of para.now.units.now)) para.now.units.now found.now.explicit) }
+    requires room { length para.now.units.now ≤ work.old.room }
+    requires levels { length levels.old ≡ length para.now.units.now }
+    ensures levels { HasLevelsBy para.now.limits.brackets para.now.units.now
+        (classes_before (are_flat (classes_of para.now.units.now)) para.now.units.now found.now.explicit)
         found.now.sequences levels.new }
     ensures room { work.new.room ≡ work.old.room }
-    ensures at_least { steps.old + length para.now ≤ steps.new }
-    ensures at_most { steps.new ≤ steps.old + w_to_i_steps * length para.now }
+    ensures at_least { steps.old + length para.now.units.now ≤ steps.new }
+    ensures at_most { steps.new ≤ steps.old + w_to_i_steps * length para.now.units.now }
 {
-    let flat = contents.is_flat();
-    let openings = begin(para, flat, found, work, levels, steps);
+    let flat = para.contents.is_flat();
+    let openings = begin(para.units, flat, found, work, levels, steps);
     let unresolved = Unresolved {
-        units: para,
-        before: &work.before[..para.len()],
+        units: para.units,
+        before: &work.before[..para.units.len()],
         wanted: Wanted {
-            weak: contents.has_weak(),
+            weak: para.contents.has_weak(),
             openings,
         },
-        limits,
+        limits: para.limits,
     };
     resolve_each(
         &found.sequences,

@@ -8,7 +8,7 @@ ghost use Rattle.paragraph.specs.StepBounds.{driver_steps, paragraph_steps};
 
 use crate::contents::{Contents, FirstParagraph};
 use crate::fast_paths::{find_level, find_sequences, write_level};
-use crate::found::resolve_sequences;
+use crate::found::{KnownParagraph, resolve_sequences};
 use crate::rooms::{RoomToFind, RoomToResolve};
 use std::alloc::Global;
 use std::marker::Model;
@@ -117,15 +117,12 @@ impl Resolver {
         find_sequences(para, contents, level, limits, &mut self.found, steps);
 
         // W1 to W7, BD14 to BD16 and N0, N1 and N2, I1 and I2, sequence by sequence.
-        resolve_sequences(
-            para,
+        let known = KnownParagraph {
+            units: para,
             contents,
-            &self.found,
             limits,
-            &mut self.work,
-            levels,
-            steps,
-        );
+        };
+        resolve_sequences(&known, &self.found, &mut self.work, levels, steps);
         Resolved {
             level,
             uniform: false,
