@@ -116,28 +116,34 @@ fn level_ordinary<L: Ledger>(
     p
 }
 
+/// The levels of a paragraph's statuses: its own level, and the greatest one, which is its depth (BD2).
+#[derive(Clone, Copy)]
+struct LevelRange {
+    base: Level,
+    depth: u8,
+}
+
 // X1 to X9: finds the level and the current class of each position. Successive positions of ordinary classes are
 // written at once; each other position opens and closes what its class says. The stack is empty before and after.
 fn find_explicit<L: Ledger>(
     para: &[Unit],
     map: &IsolateMap,
-    base: Level,
-    depth: u8,
+    range: LevelRange,
     stack: &mut StatusStack,
     explicit: &mut [LeveledClass],
     steps: &mut Steps<L>,
 )
-    requires base { base ≤ 1 }
-    requires within { depth ≤ 125 }
+    requires base { range.base ≤ 1 }
+    requires within { range.depth ≤ 125 }
     requires room { length para.now ≤ length explicit.old }
     requires filled { IsFilledFrom map.now (classes_of para.now) }
     requires empty { entry_count stack.old ≡ 0 }
-    ensures found { HoldsLevels explicit.new depth (classes_of para.now) base }
+    ensures found { HoldsLevels explicit.new range.depth (classes_of para.now) range.base }
     ensures empty { entry_count stack.new ≡ 0 }
     ensures least_steps { steps.old + length para.now ≤ steps.new }
     ensures most_steps { steps.new ≤ steps.old + (2 * length para.now + 1) }
 {
-    stack.begin(base);
+    stack.begin(range.base);
     let mut p = 0;
     while p < para.len() {
         steps.tick();
@@ -146,7 +152,7 @@ fn find_explicit<L: Ledger>(
             p = level_ordinary(para, p, stack.inside(), explicit, steps);
             continue;
         }
-        let leveled = stack.pass(class, map.is_right_to_left(p), base, depth, steps);
+        let leveled = stack.pass(class, map.is_right_to_left(p), range.base, range.depth, steps);
         explicit[p] = leveled;
         p += 1;
     }
@@ -175,8 +181,10 @@ pub fn explicit_levels<L: Ledger>(
     find_explicit(
         para,
         map,
-        level.level(),
-        limits.depth(),
+        LevelRange {
+            base: level.level(),
+            depth: limits.depth(),
+        },
         &mut out.stack,
         &mut out.column,
         steps,

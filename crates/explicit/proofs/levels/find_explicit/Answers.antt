@@ -13,7 +13,7 @@ use Rattle.explicit.proofs.levels.find_explicit.Goals as goal
 pub loop-p-init : goal.loop-p-init
 loop-p-init g c = record {
   within = omega arith;
-  keeps = c.begin.ensures.represents c.args.depth (classes_of c.args.para.now);
+  keeps = c.begin.ensures.represents c.args.range.depth (classes_of c.args.para.now);
   filled = λ k l. absurd (omega arith);
   room = refl;
   least = omega arith;
@@ -24,7 +24,7 @@ pub inside-requires : goal.inside-requires
 inside-requires g c =
     let cs : List Class = classes_of c.args.para.now in
     let k = c.loop-p.invariant.keeps in
-    let some = entries-some c.args.depth cs c.args.base (open_before cs c.loop-p.p) in
+    let some = entries-some c.args.range.depth cs c.args.range.base (open_before cs c.loop-p.p) in
     omega (arith, ap length k.entries, some)
 
 pub loop-p-smaller-then-is_ordinary : goal.loop-p-smaller-then-is_ordinary
@@ -54,13 +54,13 @@ loop-p-preserved-then-is_ordinary g c =
     let end : ℕ = c.level_ordinary-p.result in
     let within = s.within in
     let moves = stretch-moves cs p end s (omega (arith, n)) ordinary in
-    let v = c.inside.ensures c.args.depth cs c.args.base (open_before cs p) i.keeps in
+    let v = c.inside.ensures c.args.range.depth cs c.args.range.base (open_before cs p) i.keeps in
     let written = c.level_ordinary-p.ensures.explicit in
     record {
       within = omega (arith, n, within);
-      keeps = stretch-keeps cs p end s c.args.depth c.args.base c.loop-p.stack i.keeps;
+      keeps = stretch-keeps cs p end s c.args.range.depth c.args.range.base c.loop-p.stack i.keeps;
       filled = stretch-explicit cs p end s c.inside.result c.loop-p.explicit c.level_ordinary-p.new.explicit written
-          c.args.depth c.args.base v.0 v.1 (omega (arith, n, within, c.requires.room, room)) i.filled;
+          c.args.range.depth c.args.range.base v.0 v.1 (omega (arith, n, within, c.requires.room, room)) i.filled;
       room = stretch-room cs p end s c.inside.result c.loop-p.explicit c.level_ordinary-p.new.explicit written ∙ room;
       least = omega (arith, i.least, c.tick.ensures, c.level_ordinary-p.ensures.steps);
       most = omega (arith, moves, i.most, c.tick.ensures, c.level_ordinary-p.ensures.steps);
@@ -68,12 +68,13 @@ loop-p-preserved-then-is_ordinary g c =
 
 pub pass-leveled-requires-clause-retained : goal.pass-leveled-requires-clause-retained
 pass-leveled-requires-clause-retained g c =
-    retained-before c.args.depth (classes_of c.args.para.now) c.args.base c.loop-p.p c.loop-p.stack c.requires.within
-    c.requires.base (omega arith) c.loop-p.invariant.keeps
+    retained-before c.args.range.depth (classes_of c.args.para.now) c.args.range.base c.loop-p.p c.loop-p.stack
+    c.requires.within c.requires.base (omega arith) c.loop-p.invariant.keeps
 
 pub loop-p-preserved : goal.loop-p-preserved
 loop-p-preserved g c =
     let cs : List Class = classes_of c.args.para.now in
+    let range = c.args.range in
     let p : ℕ = c.loop-p.p in
     let n : length cs ≡ length c.args.para.now = length-map _ _ in
     let i = c.loop-p.invariant in
@@ -83,11 +84,11 @@ loop-p-preserved g c =
     let e = sym (class_read c.args.para.now p no_unit c.loop-p-test.true) in
     let passed = c.pass-leveled.ensures.passed cs (open_before cs p) p e (λ f.
     c.is_right_to_left.ensures cs c.requires.filled l (ap is_isolate_initiator (sym e ∙ f))) i.keeps in
-    let found = passed-is c.args.depth cs c.args.base p _ c.pass-leveled.result c.pass-leveled.new.self l e passed in
+    let found = passed-is range.depth cs range.base p _ c.pass-leveled.result c.pass-leveled.new.self l e passed in
     record {
       within = omega arith;
       keeps = found.keeps;
-      filled = explicit-more c.args.depth cs c.args.base p c.loop-p.explicit c.pass-leveled.result short found.found
+      filled = explicit-more range.depth cs range.base p c.loop-p.explicit c.pass-leveled.result short found.found
           i.filled;
       room = length-set c.loop-p.explicit p c.pass-leveled.result ∙ room;
       least = omega (arith, c.tick.ensures, c.pass-leveled.ensures.least_steps, i.least);

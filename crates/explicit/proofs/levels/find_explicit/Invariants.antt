@@ -9,8 +9,8 @@ use Rattle.explicit.proofs.levels.find_explicit.Given as goal
 abbrev pub invariant-loop-p : goal.invariant-loop-p
 invariant-loop-p g l = record {
   within : l.p ≤ length l.para;
-  keeps : Represents l.depth (classes_of l.para) l.base (open_before (classes_of l.para) l.p) l.stack;
-  filled : (k : ℕ) → k < l.p → get_or l.explicit k None ≡ explicit_at l.depth (classes_of l.para) l.base k;
+  keeps : Represents l.range.depth (classes_of l.para) l.range.base (open_before (classes_of l.para) l.p) l.stack;
+  filled : (k : ℕ) → k < l.p → get_or l.explicit k None ≡ explicit_at l.range.depth (classes_of l.para) l.range.base k;
   room : length l.explicit ≡ length l.fn.explicit;
   least : l.fn.steps + l.p ≤ l.steps;
   most : l.steps + entry_count l.stack ≤ l.fn.steps + (2 * l.p + 1);
