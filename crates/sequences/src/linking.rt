@@ -23,6 +23,14 @@ struct Following {
     end: Class,
 }
 
+/// A position that remains (X9), its level, and the eos of its sequence.
+#[derive(Clone, Copy)]
+struct Remaining {
+    position: usize,
+    level: Level,
+    end: Class,
+}
+
 /// How the sequence of a position continues: the next position, if there is one, and the eos of the sequence.
 #[derive(Clone, Copy)]
 struct Continuation {
@@ -130,14 +138,11 @@ fn mark(link: Option<usize>, joined: &mut [bool])
     }
 }
 
-/// Links each position before `from` to the one right after it, from the last one back, as long as they are at this
-/// level. `end` is the eos of their sequence. Returns the first of these positions, or `from` if there is none. Each
-/// linked position is a step.
+/// Links each position before `from` to the one right after it, from the last one back, as long as they are at its
+/// level. Returns the first of these positions, or `from` if there is none. Each linked position is a step.
 fn link_level<L: Ledger>(
     t: &Leveled,
-    from: usize,
-    level: Level,
-    end: Class,
+    from: &Remaining,
     links: &mut [OptionalPosition],
     ends: &mut [Class],
     joined: &mut [bool],
@@ -145,21 +150,21 @@ fn link_level<L: Ledger>(
 ) -> usize
     requires small { size_of t.now < u32.MAX }
     requires leveled { IsLeveled t.now }
-    requires here { from < size_of t.now }
-    requires level { level_of t.now from ≡ Some level }
-    requires end { end ≡ eos_at t.now (last_in (sequence_from t.now from) from) }
-    requires follow { BackwardPass t.now from (Some from) links.old ends.old joined.old }
-    ensures before { result ≤ from }
-    ensures level { level_of t.now result ≡ Some level }
-    ensures end { end ≡ eos_at t.now (last_in (sequence_from t.now result) result) }
+    requires here { from.now.position < size_of t.now }
+    requires level { level_of t.now from.now.position ≡ Some from.now.level }
+    requires end { from.now.end ≡ eos_at t.now (last_in (sequence_from t.now from.now.position) from.now.position) }
+    requires follow { BackwardPass t.now from.now.position (Some from.now.position) links.old ends.old joined.old }
+    ensures before { result ≤ from.now.position }
+    ensures level { level_of t.now result ≡ Some from.now.level }
+    ensures end { from.now.end ≡ eos_at t.now (last_in (sequence_from t.now result) result) }
     ensures follow { BackwardPass t.now result (Some result) links.new ends.new joined.new }
-    ensures steps { steps.new + result ≡ steps.old + from }
+    ensures steps { steps.new + result ≡ steps.old + from.now.position }
 {
-    let mut p = from;
-    while p > 0 && t.is_at(p - 1, level) {
+    let mut p = from.position;
+    while p > 0 && t.is_at(p - 1, from.level) {
         steps.tick();
         links[p - 1] = OptionalPosition::some(p);
-        ends[p - 1] = end;
+        ends[p - 1] = from.end;
         joined[p - 1] = false;
         joined[p] = true;
         p -= 1;
@@ -201,7 +206,12 @@ pub fn link<L: Ledger>(
         joined[p] = false;
         mark(link, joined);
         if let Some(level) = level {
-            p = link_level(t, p, level, end, links, ends, joined, steps);
+            let from = Remaining {
+                position: p,
+                level,
+                end,
+            };
+            p = link_level(t, &from, links, ends, joined, steps);
             following = Following {
                 next: Some(p),
                 level,

@@ -9,7 +9,8 @@ loop-p-preserved g c =
     let p : ℕ = l.p - 1 in
     let one : l.p ≡ p + 1 = omega arith in
     let one_level = sym c.is_at.ensures ∙ c.if-is_at.true in
-    let step = level_step t p l.p one c.args.level l.links l.ends l.joined c.args.end l.invariant.follow
+    let from = c.args.from.now in
+    let step = level_step t p l.p one from.level l.links l.ends l.joined from.end l.invariant.follow
     c.requires.leveled (omega arith) l.invariant.here one_level l.invariant.end in
     record {
       before = omega arith;
