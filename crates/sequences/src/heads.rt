@@ -137,26 +137,33 @@ fn make_head(
     }
 }
 
+/// The positions of a paragraph after linking: the link from each one to the next one of its sequence, the eos of its
+/// sequence, and whether another one is linked to it.
+#[derive(Clone, Copy)]
+pub struct LinkedPositions<'a> {
+    pub links: &'a [OptionalPosition],
+    pub ends: &'a [Class],
+    pub joined: &'a [bool],
+}
+
 /// Writes the heads of the sequences in the order of their first positions, and the positions of each sequence into one
 /// column, both from the front on. Returns the number of sequences. A sequence never begins at a position that another
 /// one is linked to, so the pass skips the positions that are written without a gap. Each position of the paragraph is
 /// a step, and so is each written one.
 pub fn fill_heads<L: Ledger>(
     t: &Leveled,
-    links: &[OptionalPosition],
-    ends: &[Class],
-    joined: &[bool],
+    positions: &LinkedPositions,
     heads: &mut [Head],
     column: &mut [u32],
     steps: &mut Steps<L>,
 ) -> usize
     requires small { size_of t.now < u32.MAX }
-    requires links_fit { length links.now ≡ size_of t.now }
-    requires links { AreSuccessors t.now links.now }
-    requires ends_fit { size_of t.now ≤ length ends.now }
-    requires ends { HasEnds t.now ends.now }
-    requires joined_fit { size_of t.now ≤ length joined.now }
-    requires joined { IsMarked t.now joined.now }
+    requires links_fit { length positions.now.links.now ≡ size_of t.now }
+    requires links { AreSuccessors t.now positions.now.links.now }
+    requires ends_fit { size_of t.now ≤ length positions.now.ends.now }
+    requires ends { HasEnds t.now positions.now.ends.now }
+    requires joined_fit { size_of t.now ≤ length positions.now.joined.now }
+    requires joined { IsMarked t.now positions.now.joined.now }
     requires heads_room { size_of t.now ≤ length heads.old }
     requires column_room { size_of t.now ≤ length column.old }
     ensures count { result ≡ length (heads_of t.now) }
@@ -170,9 +177,9 @@ pub fn fill_heads<L: Ledger>(
     let mut p = 0;
     while p < t.len() {
         steps.tick();
-        if begins(t, joined, p) {
-            let written = write_linked(links, p, column, end, steps);
-            heads[count] = make_head(t, ends, last, p, end, written.end);
+        if begins(t, positions.joined, p) {
+            let written = write_linked(positions.links, p, column, end, steps);
+            heads[count] = make_head(t, positions.ends, last, p, end, written.end);
             count += 1;
             end = written.end;
             // The loop skips these positions, but each position of the paragraph counts as a step.

@@ -15,7 +15,7 @@ ghost use Rattle.sequences.specs.Heads.{sequence_of_head, column_of, AreFilled};
 ghost use Rattle.sequences.specs.Once.{HoldsOnce};
 ghost use Rattle.sequences.specs.Room.{HasRoomForSequences};
 
-use crate::heads::{Head, fill_heads};
+use crate::heads::{Head, LinkedPositions, fill_heads};
 use crate::leveled::Leveled;
 use crate::linking::link;
 use crate::one_sequence::fill_one_sequence;
@@ -84,7 +84,12 @@ fn fill_columns<L: Ledger>(
     let size = t.len();
     let links = &mut links[..size];
     link(t, links, ends, joined, steps);
-    fill_heads(t, links, ends, joined, heads, column, steps)
+    let positions = LinkedPositions {
+        links,
+        ends,
+        joined,
+    };
+    fill_heads(t, &positions, heads, column, steps)
 }
 
 fn column<T: Copy>(alloc: Global, value: T, n: usize) -> Result<BoxedSlice<T>, Memory>

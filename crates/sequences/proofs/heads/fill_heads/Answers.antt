@@ -12,11 +12,13 @@ use Rattle.sequences.proofs.heads.fill_heads.Goals.{then-begins, else-begins, th
 
 pub write_linked-written-requires-clause-linked : goal.write_linked-written-requires-clause-linked
 write_linked-written-requires-clause-linked g c =
-    links_lead_on c.args.t.now c.args.links.now c.requires.links_fit c.requires.links c.len.ensures.leveled
+    let links = c.args.positions.now.links.now in
+    links_lead_on c.args.t.now links c.requires.links_fit c.requires.links c.len.ensures.leveled
 
 pub write_linked-written-requires-clause-room : goal.write_linked-written-requires-clause-room
 write_linked-written-requires-clause-room g c =
-    let follow = linked_is c.args.t.now c.args.links.now c.requires.links_fit c.requires.links c.loop-p.p in
+    let links = c.args.positions.now.links.now in
+    let follow = linked_is c.args.t.now links c.requires.links_fit c.requires.links c.loop-p.p in
     omega (
       arith,
       ap length follow,
@@ -27,7 +29,8 @@ write_linked-written-requires-clause-room g c =
 
 pub make_head-requires-clause-small : goal.make_head-requires-clause-small
 make_head-requires-clause-small g c =
-    let follow = linked_is c.args.t.now c.args.links.now c.requires.links_fit c.requires.links c.loop-p.p in
+    let links = c.args.positions.now.links.now in
+    let follow = linked_is c.args.t.now links c.requires.links_fit c.requires.links c.loop-p.p in
     omega (
       arith,
       ap length follow,
@@ -38,13 +41,14 @@ make_head-requires-clause-small g c =
 
 pub make_head-requires-clause-positions : goal.make_head-requires-clause-positions
 make_head-requires-clause-positions g c =
-    let follow = linked_is c.args.t.now c.args.links.now c.requires.links_fit c.requires.links c.loop-p.p in
+    let links = c.args.positions.now.links.now in
+    let follow = linked_is c.args.t.now links c.requires.links_fit c.requires.links c.loop-p.p in
     omega (arith, ap length follow)
 
 pub loop-p-preserved : goal.loop-p-preserved
 loop-p-preserved g c =
     let t = c.args.t.now in
-    let links = c.args.links.now in
+    let links = c.args.positions.now.links.now in
     let p : ℕ = c.loop-p.p in
     let next : ℕ = c.if-begins.p in
     let column : List ℕ = take c.loop-p.end c.loop-p.column in
