@@ -147,35 +147,44 @@ fn link_written<L: Ledger>(
     link_all(positions, links, steps);
 }
 
+/// A paragraph of this level in which nothing begins an embedding or an isolate. All its positions remain (X9) if
+/// `all_remain`.
+#[derive(Clone, Copy)]
+pub struct FlatParagraph<'a> {
+    pub units: &'a [Unit],
+    pub all_remain: bool,
+    pub level: ParaLevel,
+}
+
 /// Fills the columns from the front on, and returns the number of sequences: 1, or 0 if no position remains.
 pub fn fill_one_sequence<L: Ledger>(
-    para: &[Unit],
-    all_remain: bool,
-    level: ParaLevel,
+    para: &FlatParagraph,
     links: &mut [OptionalPosition],
     heads: &mut [Head],
     column: &mut [u32],
     steps: &mut Steps<L>,
 ) -> usize
-    requires flat { IsFlat (classes_of para.now) }
-    requires all_remain { all_remain ≡ true → HasNone is_removed (classes_of para.now) }
-    requires small { length para.now < u32.MAX }
-    requires links { length para.now ≤ length links.old }
-    requires heads { length para.now ≤ length heads.old }
-    requires column { length para.now ≤ length column.old }
-    ensures filled { HoldSequencesOf para.now (level_of_para level) result links.new heads.new column.new }
-    ensures steps { steps.new ≡ steps.old + length para.now + length (remaining_of (classes_of para.now)) }
+    requires flat { IsFlat (classes_of para.now.units.now) }
+    requires all_remain { para.now.all_remain ≡ true → HasNone is_removed (classes_of para.now.units.now) }
+    requires small { length para.now.units.now < u32.MAX }
+    requires links { length para.now.units.now ≤ length links.old }
+    requires heads { length para.now.units.now ≤ length heads.old }
+    requires column { length para.now.units.now ≤ length column.old }
+    ensures filled { HoldSequencesOf
+        para.now.units.now (level_of_para para.now.level) result links.new heads.new column.new }
+    ensures steps { steps.new
+        ≡ steps.old + length para.now.units.now + length (remaining_of (classes_of para.now.units.now)) }
 {
-    let count = write_positions(para, all_remain, column, steps);
+    let count = write_positions(para.units, para.all_remain, column, steps);
     if count == 0 {
         return 0;
     }
     link_written(
         &column[..count],
-        all_remain,
-        &mut links[..para.len()],
+        para.all_remain,
+        &mut links[..para.units.len()],
         steps,
     );
-    heads[0] = only_head(level.level(), count);
+    heads[0] = only_head(para.level.level(), count);
     1
 }

@@ -18,7 +18,7 @@ ghost use Rattle.sequences.specs.Room.{HasRoomForSequences};
 use crate::heads::{Head, LinkedPositions, fill_heads};
 use crate::leveled::Leveled;
 use crate::linking::link;
-use crate::one_sequence::fill_one_sequence;
+use crate::one_sequence::{FlatParagraph, fill_one_sequence};
 use crate::sequence::Sequence;
 use explicit::isolates::IsolateMap;
 use explicit::levels::Explicit;
@@ -222,10 +222,13 @@ impl Sequences {
         ensures room { self.new.room ≡ self.old.room }
         ensures steps { steps.new ≡ steps.old + length para.now + length (remaining_of (classes_of para.now)) }
     {
-        self.count = fill_one_sequence(
-            para,
+        let flat = FlatParagraph {
+            units: para,
             all_remain,
             level,
+        };
+        self.count = fill_one_sequence(
+            &flat,
             &mut self.links,
             &mut self.heads,
             &mut self.column,
