@@ -11,7 +11,7 @@ ghost use Rattle.sequences.specs.FilledFrom.{AreExplicitLevels};
 ghost use Rattle.sequences.specs.View.{SequencesView};
 ghost use Rattle.explicit.specs.Flat.{IsFlat, remaining_of};
 ghost use Rattle.explicit.specs.IdleRules.{HasNone};
-ghost use Rattle.sequences.specs.Heads.{sequence_of_head, column_of, AreFilled};
+ghost use Rattle.sequences.specs.Heads.{sequence_of_head};
 ghost use Rattle.sequences.specs.Once.{HoldsOnce};
 ghost use Rattle.sequences.specs.Room.{HasRoomForSequences};
 
@@ -60,36 +60,6 @@ impl Model for Sequences {
 
     ghost invariant = { λ s. HasRoomForSequences (boxed_slice_items s.links) (boxed_slice_items s.ends)
         (boxed_slice_items s.joined) (boxed_slice_items s.heads) (boxed_slice_items s.column) s.count s.size };
-}
-
-/// Fills the columns from the front on, and returns the number of sequences.
-fn fill_columns<L: Ledger>(
-    t: &Leveled,
-    links: &mut [OptionalPosition],
-    ends: &mut [Class],
-    joined: &mut [bool],
-    heads: &mut [Head],
-    column: &mut [u32],
-    steps: &mut Steps<L>,
-) -> usize
-    requires small { size_of t.now < u32.MAX }
-    requires links { size_of t.now ≤ length links.old }
-    requires ends { size_of t.now ≤ length ends.old }
-    requires joined { size_of t.now ≤ length joined.old }
-    requires heads { size_of t.now ≤ length heads.old }
-    requires column { size_of t.now ≤ length column.old }
-    ensures filled { AreFilled t.now result links.new heads.new column.new }
-    ensures steps { steps.new ≡ steps.old + 2 * size_of t.now + length (column_of t.now) }
-{
-    let size = t.len();
-    let links = &mut links[..size];
-    link(t, links, ends, joined, steps);
-    let positions = LinkedPositions {
-        links,
-        ends,
-        joined,
-    };
-    fill_heads(t, &positions, heads, column, steps)
 }
 
 fn column<T: Copy>(alloc: Global, value: T, n: usize) -> Result<BoxedSlice<T>, Memory>
@@ -163,16 +133,15 @@ impl Sequences {
         ensures fit { sum_by (λ s. length s.positions) self.new.all ≤ size_of t.now }
         ensures steps { steps.new ≡ steps.old + 2 * size_of t.now + sum_by (λ s. length s.positions) self.new.all }
     {
-        self.count = fill_columns(
-            t,
-            &mut self.links,
-            &mut self.ends,
-            &mut self.joined,
-            &mut self.heads,
-            &mut self.column,
-            steps,
-        );
-        self.size = t.len();
+        let size = t.len();
+        link(t, &mut self.links, &mut self.ends, &mut self.joined, steps);
+        let positions = LinkedPositions {
+            links: &self.links[..size],
+            ends: &self.ends,
+            joined: &self.joined,
+        };
+        self.count = fill_heads(t, &positions, &mut self.heads, &mut self.column, steps);
+        self.size = size;
     }
 
     /// Finds the sequences of a paragraph of this level, from its isolates (BD9) and its explicit levels (X1 to X9),

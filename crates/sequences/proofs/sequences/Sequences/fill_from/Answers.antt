@@ -14,11 +14,12 @@ use Rattle.sequences.proofs.sequences.Sequences.fill_from.Goals as goal
 pub invariant_of-self : goal.invariant_of-self
 invariant_of-self g c =
     let t = c.args.t.now in
-    let f = c.fill_columns-self-inside in
+    let k = c.link in
+    let f = c.fill_heads-self-inside in
     let old = c.self.inside in
-    let l : length f.new.links ≡ boxed_slice_len old.links = f.auto.links ∙ c.deref_mut.ensures.len in
-    let e : length f.new.ends ≡ boxed_slice_len old.ends = f.auto.ends ∙ c.deref_mut-2.ensures.len in
-    let j : length f.new.joined ≡ boxed_slice_len old.joined = f.auto.joined ∙ c.deref_mut-3.ensures.len in
+    let l : length k.new.links ≡ boxed_slice_len old.links = k.auto.links ∙ c.deref_mut.ensures.len in
+    let e : length k.new.ends ≡ boxed_slice_len old.ends = k.auto.ends ∙ c.deref_mut-2.ensures.len in
+    let j : length k.new.joined ≡ boxed_slice_len old.joined = k.auto.joined ∙ c.deref_mut-3.ensures.len in
     let d : length f.new.heads ≡ boxed_slice_len old.heads = f.auto.heads ∙ c.deref_mut-4.ensures.len in
     let n : length f.new.column ≡ boxed_slice_len old.column = f.auto.column ∙ c.deref_mut-5.ensures.len in
     let l' : length (boxed_slice_items old.links) ≡ boxed_slice_len old.links =
@@ -31,7 +32,7 @@ invariant_of-self g c =
     sym (ap length c.deref_mut-4.ensures.value) ∙ c.deref_mut-4.ensures.len in
     let n' : length (boxed_slice_items old.column) ≡ boxed_slice_len old.column =
     sym (ap length c.deref_mut-5.ensures.value) ∙ c.deref_mut-5.ensures.len in
-    let unchanged : HaveLength (boxed_slice_len old.links) f.new.links f.new.ends f.new.joined f.new.heads f.new.column
+    let unchanged : HaveLength (boxed_slice_len old.links) k.new.links k.new.ends k.new.joined f.new.heads f.new.column
     = record {
       small = omega (arith, c.self.invariant.small);
       links_fit = l;
@@ -41,14 +42,14 @@ invariant_of-self g c =
       column_fit = omega (arith, c.self.invariant.column_fit);
     } in
     rw (
-      put_back _ f.new.links (boxed_slice_items old.links) l,
-      put_back _ f.new.ends (boxed_slice_items old.ends) e,
-      put_back _ f.new.joined (boxed_slice_items old.joined) j,
+      put_back _ k.new.links (boxed_slice_items old.links) l,
+      put_back _ k.new.ends (boxed_slice_items old.ends) e,
+      put_back _ k.new.joined (boxed_slice_items old.joined) j,
       put_back _ f.new.heads (boxed_slice_items old.heads) d,
       put_back _ f.new.column (boxed_slice_items old.column) n,
-      c.len-self-inside.ensures.value,
-    ) (filled_room f.ensures.filled c.len-self-inside.ensures.leveled
-    (boxed_slice_len old.links) f.new.ends f.new.joined unchanged (omega (
+      c.len-size.ensures.value,
+    ) (filled_room t f.result f.new.heads f.new.column f.ensures.heads f.ensures.column c.len-size.ensures.leveled
+    f.ensures.count (boxed_slice_len old.links) k.new.links k.new.ends k.new.joined k.ensures.linked unchanged (omega (
       arith,
       c.requires,
       ap (λ (s : SequencesView). s.room) c.self.view_is,
@@ -56,27 +57,27 @@ invariant_of-self g c =
 
 pub returns-clause-all : goal.returns-clause-all
 returns-clause-all g c =
-    let f = c.fill_columns-self-inside in
+    let f = c.fill_heads-self-inside in
     let old = c.self.inside in
     rw (
       put_back _ f.new.heads (boxed_slice_items old.heads) (f.auto.heads ∙ c.deref_mut-4.ensures.len),
       put_back _ f.new.column (boxed_slice_items old.column) (f.auto.column ∙ c.deref_mut-5.ensures.len),
-      c.len-self-inside.ensures.value,
-    ) (filled_views f.ensures.filled)
+      c.len-size.ensures.value,
+    ) (filled_views c.args.t.now f.result f.new.heads f.new.column f.ensures.heads f.ensures.column)
 
 pub returns-clause-once : goal.returns-clause-once
 returns-clause-once g c =
     let t = c.args.t.now in
     let P : List SequenceView → Type 0 = λ all. HoldsOnce t all in
     subst P (sym (returns-clause-all g c))
-    (sequences_hold_once t c.len-self-inside.ensures.leveled c.len-self-inside.ensures.nested)
+    (sequences_hold_once t c.len-size.ensures.leveled c.len-size.ensures.nested)
 
 pub returns-clause-fit : goal.returns-clause-fit
 returns-clause-fit g c =
     let t = c.args.t.now in
     let P : List SequenceView → Type 0 = λ all. sum_by (λ (s : SequenceView). length s.positions) all ≤ size_of t in
     subst P (sym (returns-clause-all g c))
-    (sequences_fit t c.len-self-inside.ensures.leveled c.len-self-inside.ensures.nested)
+    (sequences_fit t c.len-size.ensures.leveled c.len-size.ensures.nested)
 
 pub returns-clause-steps : goal.returns-clause-steps
 returns-clause-steps g c =
