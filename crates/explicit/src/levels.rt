@@ -12,7 +12,7 @@ ghost use Rattle.explicit.specs.Stretches.{IsStretch, with_leveled};
 use crate::isolates::IsolateMap;
 use crate::leveled_class::LeveledClass;
 use crate::roles::is_ordinary;
-use crate::status::{Status, StatusStack};
+use crate::status::{LevelRange, Status, StatusStack};
 use std::alloc::Global;
 use std::boxed::BoxedSlice;
 use std::marker::Model;
@@ -116,29 +116,22 @@ fn level_ordinary<L: Ledger>(
     p
 }
 
-/// The levels of a paragraph's statuses: its own level, and the greatest one, which is its depth (BD2).
-#[derive(Clone, Copy)]
-struct LevelRange {
-    base: Level,
-    depth: u8,
-}
-
 // X1 to X9: finds the level and the current class of each position. Successive positions of ordinary classes are
 // written at once; each other position opens and closes what its class says. The stack is empty before and after.
 fn find_explicit<L: Ledger>(
     para: &[Unit],
     map: &IsolateMap,
-    range: LevelRange,
+    range: &LevelRange,
     stack: &mut StatusStack,
     explicit: &mut [LeveledClass],
     steps: &mut Steps<L>,
 )
-    requires base { range.base ≤ 1 }
-    requires within { range.depth ≤ 125 }
+    requires base { range.now.base ≤ 1 }
+    requires within { range.now.depth ≤ 125 }
     requires room { length para.now ≤ length explicit.old }
     requires filled { IsFilledFrom map.now (classes_of para.now) }
     requires empty { entry_count stack.old ≡ 0 }
-    ensures found { HoldsLevels explicit.new range.depth (classes_of para.now) range.base }
+    ensures found { HoldsLevels explicit.new range.now.depth (classes_of para.now) range.now.base }
     ensures empty { entry_count stack.new ≡ 0 }
     ensures least_steps { steps.old + length para.now ≤ steps.new }
     ensures most_steps { steps.new ≤ steps.old + (2 * length para.now + 1) }
@@ -149,10 +142,10 @@ fn find_explicit<L: Ledger>(
         steps.tick();
         let class = para[p].class;
         if is_ordinary(class) {
-            p = level_ordinary(para, p, stack.inside(), explicit, steps);
+            p = level_ordinary(para, p, stack.current(), explicit, steps);
             continue;
         }
-        let leveled = stack.pass(class, map.is_right_to_left(p), range.base, range.depth, steps);
+        let leveled = stack.pass(class, map.is_right_to_left(p), range, steps);
         explicit[p] = leveled;
         p += 1;
     }
@@ -181,7 +174,7 @@ pub fn explicit_levels<L: Ledger>(
     find_explicit(
         para,
         map,
-        LevelRange {
+        &LevelRange {
             base: level.level(),
             depth: limits.depth(),
         },

@@ -46,6 +46,13 @@ impl Default for Status {
     }
 }
 
+/// The levels of a paragraph's statuses: its own level, and the greatest one, which is its depth (BD2).
+#[derive(Clone, Copy)]
+pub struct LevelRange {
+    pub base: Level,
+    pub depth: u8,
+}
+
 /// The stack of directional statuses (X1): one entry for the paragraph and one for each open valid initiator, and the
 /// counts of overflow isolates, of overflow embeddings and of valid isolates. Each entry has a higher level than the
 /// one before it, from 0 or 1 to at most 125, the greatest allowed depth, so there are at most 126 entries. The
@@ -96,20 +103,13 @@ impl StatusStack {
         self.entries.clear();
     }
 
-    // Returns the status of the innermost valid initiator.
-    fn current(&self) -> Status
+    /// Returns the status of the innermost valid initiator, which applies until an initiator is opened or closed.
+    pub fn current(&self) -> Status
         requires { 0 < entry_count self.now }
-        ensures { result ≡ slice_index_or self.now.entries.items (entry_count self.now - 1) result }
+        ensures value { result ≡ slice_index_or self.now.entries.items (entry_count self.now - 1) result }
+        ensures innermost { IsInnermost self.now result }
     {
         self.entries[self.entries.len() - 1]
-    }
-
-    /// Returns the status of the innermost valid initiator, which applies until an initiator is opened or closed.
-    pub fn inside(&self) -> Status
-        requires { 0 < entry_count self.now }
-        ensures { IsInnermost self.now result }
-    {
-        self.current()
     }
 
     // X5a to X6a: returns the level and the current class of a position of this class, which is neither removed nor a
@@ -235,20 +235,19 @@ impl StatusStack {
     }
 
     /// Closes and opens what a position of this class closes and opens (X2 to X9). Returns the level and the current
-    /// class of that position, or none if it is removed. An initiator that asks for a level above this depth, 1 to 125,
+    /// class of that position, or none if it is removed. An initiator that asks for a level above the depth, 1 to 125,
     /// is an overflow initiator. `right_to_left` says whether the content of an FSI begins right to left. Each entry
     /// that is dropped is a step.
     pub fn pass<L: Ledger>(
         &mut self,
         class: Class,
         right_to_left: bool,
-        base: Level,
-        depth: u8,
+        range: &LevelRange,
         steps: &mut Steps<L>,
     ) -> LeveledClass
         requires retained { IsReachedStack self.old }
-        requires within { depth ≤ 125 }
-        ensures passed { Passes depth base class right_to_left result self.old self.new }
+        requires within { range.now.depth ≤ 125 }
+        ensures passed { Passes range.now.depth range.now.base class right_to_left result self.old self.new }
         ensures least_steps { steps.old ≤ steps.new }
         ensures most_steps { steps.new + entry_count self.new ≤ steps.old + (entry_count self.old + 1) }
     {
@@ -263,15 +262,15 @@ impl StatusStack {
             }
             Class::LRI | Class::RLI | Class::FSI => {
                 let leveled = self.leveled_inside(class);
-                self.open(class, right_to_left, depth);
+                self.open(class, right_to_left, range.depth);
                 leveled
             }
             Class::LRE | Class::LRO | Class::RLE | Class::RLO => {
-                self.open(class, right_to_left, depth);
+                self.open(class, right_to_left, range.depth);
                 LeveledClass::none()
             }
             Class::BN => LeveledClass::none(),
-            Class::B => LeveledClass::some(base, class),
+            Class::B => LeveledClass::some(range.base, class),
             _ => self.leveled_inside(class),
         }
     }

@@ -13,18 +13,18 @@ use Rattle.explicit.proofs.levels.find_explicit.Goals as goal
 pub loop-p-init : goal.loop-p-init
 loop-p-init g c = record {
   within = omega arith;
-  keeps = c.begin.ensures.represents c.args.range.depth (classes_of c.args.para.now);
+  keeps = c.begin.ensures.represents c.args.range.now.depth (classes_of c.args.para.now);
   filled = λ k l. absurd (omega arith);
   room = refl;
   least = omega arith;
   most = omega (arith, c.begin.ensures.size);
 }
 
-pub inside-requires : goal.inside-requires
-inside-requires g c =
+pub current-requires : goal.current-requires
+current-requires g c =
     let cs : List Class = classes_of c.args.para.now in
     let k = c.loop-p.invariant.keeps in
-    let some = entries-some c.args.range.depth cs c.args.range.base (open_before cs c.loop-p.p) in
+    let some = entries-some c.args.range.now.depth cs c.args.range.now.base (open_before cs c.loop-p.p) in
     omega (arith, ap length k.entries, some)
 
 pub loop-p-smaller-then-is_ordinary : goal.loop-p-smaller-then-is_ordinary
@@ -43,6 +43,7 @@ loop-p-smaller-then-is_ordinary g c =
 pub loop-p-preserved-then-is_ordinary : goal.loop-p-preserved-then-is_ordinary
 loop-p-preserved-then-is_ordinary g c =
     let cs : List Class = classes_of c.args.para.now in
+    let range = c.args.range.now in
     let p : ℕ = c.loop-p.p in
     let n : length cs ≡ length c.args.para.now = length-map _ _ in
     let i = c.loop-p.invariant in
@@ -54,27 +55,27 @@ loop-p-preserved-then-is_ordinary g c =
     let end : ℕ = c.level_ordinary-p.result in
     let within = s.within in
     let moves = stretch-moves cs p end s (omega (arith, n)) ordinary in
-    let v = c.inside.ensures c.args.range.depth cs c.args.range.base (open_before cs p) i.keeps in
+    let v = c.current.ensures.innermost range.depth cs range.base (open_before cs p) i.keeps in
     let written = c.level_ordinary-p.ensures.explicit in
     record {
       within = omega (arith, n, within);
-      keeps = stretch-keeps cs p end s c.args.range.depth c.args.range.base c.loop-p.stack i.keeps;
-      filled = stretch-explicit cs p end s c.inside.result c.loop-p.explicit c.level_ordinary-p.new.explicit written
-          c.args.range.depth c.args.range.base v.0 v.1 (omega (arith, n, within, c.requires.room, room)) i.filled;
-      room = stretch-room cs p end s c.inside.result c.loop-p.explicit c.level_ordinary-p.new.explicit written ∙ room;
+      keeps = stretch-keeps cs p end s range.depth range.base c.loop-p.stack i.keeps;
+      filled = stretch-explicit cs p end s c.current.result c.loop-p.explicit c.level_ordinary-p.new.explicit written
+          range.depth range.base v.0 v.1 (omega (arith, n, within, c.requires.room, room)) i.filled;
+      room = stretch-room cs p end s c.current.result c.loop-p.explicit c.level_ordinary-p.new.explicit written ∙ room;
       least = omega (arith, i.least, c.tick.ensures, c.level_ordinary-p.ensures.steps);
       most = omega (arith, moves, i.most, c.tick.ensures, c.level_ordinary-p.ensures.steps);
     }
 
 pub pass-leveled-requires-clause-retained : goal.pass-leveled-requires-clause-retained
 pass-leveled-requires-clause-retained g c =
-    retained-before c.args.range.depth (classes_of c.args.para.now) c.args.range.base c.loop-p.p c.loop-p.stack
+    retained-before c.args.range.now.depth (classes_of c.args.para.now) c.args.range.now.base c.loop-p.p c.loop-p.stack
     c.requires.within c.requires.base (omega arith) c.loop-p.invariant.keeps
 
 pub loop-p-preserved : goal.loop-p-preserved
 loop-p-preserved g c =
     let cs : List Class = classes_of c.args.para.now in
-    let range = c.args.range in
+    let range = c.args.range.now in
     let p : ℕ = c.loop-p.p in
     let n : length cs ≡ length c.args.para.now = length-map _ _ in
     let i = c.loop-p.invariant in

@@ -17,12 +17,13 @@ returns-else-len-ge2-clause-closed c =
     λ depth cs para qs r. pdf-retained depth cs para qs c.args.self.now r (omega arith) (omega arith)
     (elim c.else-len-ge2.branch [
       | else-len-ge2-via-then-len-ge2+else-not-current w ↦
-          inr (w.current.result, ap (λ e. e.is_isolate) (sym w.current.ensures) ∙ not-false _ w.if-not-current.false)
+          inr (w.current.result, ap (λ e. e.is_isolate) (sym w.current.ensures.value) ∙
+          not-false _ w.if-not-current.false)
       | else-len-ge2-via-else-len-ge2 w ↦ inl (omega arith)
     ])
 
 pub returns-then-not-current-clause-closed : goal.returns-then-not-current-clause-closed
 returns-then-not-current-clause-closed c =
     λ depth cs para qs r. pdf-popped depth cs para qs c.args.self.now _ c.current.result r (omega arith) (omega arith)
-    (omega arith) (ap (λ e. e.is_isolate) (sym c.current.ensures) ∙
+    (omega arith) (ap (λ e. e.is_isolate) (sym c.current.ensures.value) ∙
     not-true _ c.if-not-current.true) c.pop.ensures.rest refl refl refl

@@ -10,4 +10,5 @@ current-current-requires c = let b = retained-bounded c.args.self.now c.requires
 pub returns : goal.returns
 returns c = λ depth cs base qs u v r. c.some.ensures ∙
     ap (λ (x : Class). Some (c.current-current.result.level, x)) c.unwrap_or.ensures ∙
-    leveled_in-by depth cs base qs c.args.self.now c.args.class c.current-current.result r u v c.current-current.ensures
+    leveled_in-by depth cs base qs c.args.self.now c.args.class c.current-current.result r u v
+    c.current-current.ensures.value

@@ -10,7 +10,7 @@ pub returns-then-get-by-clause-opened : goal.returns-then-get-by-clause-opened
 returns-then-get-by-clause-opened c = λ cs para qs p e o r.
     let read = ap (λ n. n + c.rise-by.result) c.get.ensures.value in
     let l = asked-is c.args.depth cs para qs p c.args.self.now c.args.class c.args.odd c.current-level.result _ r e o
-    c.current-level.ensures (read ∙ c.rise-by.ensures.value) in
+    c.current-level.ensures.value (read ∙ c.rise-by.ensures.value) in
     let t = sound-taken c.args.depth cs para qs p c.args.self.now r _ l c.requires.sound c.if-get-by.true in
     c.take.ensures.opened c.args.depth cs para qs p t
     (entry-is c.args.depth cs para qs p c.args.class c.raised.result c.overridden_by.result
@@ -21,7 +21,7 @@ pub returns-else-get-by-clause-opened : goal.returns-else-get-by-clause-opened
 returns-else-get-by-clause-opened c = λ cs para qs p e o r.
     let read = ap (λ n. n + c.rise-by.result) c.get.ensures.value in
     let l = asked-is c.args.depth cs para qs p c.args.self.now c.args.class c.args.odd c.current-level.result _ r e o
-    c.current-level.ensures (read ∙ c.rise-by.ensures.value) in
+    c.current-level.ensures.value (read ∙ c.rise-by.ensures.value) in
     let t = sound-rejected c.args.depth cs para qs p c.args.self.now r _ l c.requires.sound c.if-get-by.false in
     c.reject.ensures.opened c.args.depth cs para qs p t (c.is_isolate_initiator-else-get-by.ensures ∙
     ap is_isolate_initiator e) r
