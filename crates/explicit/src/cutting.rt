@@ -12,7 +12,7 @@ use units::bracket::Unit;
 /// The paragraphs of a text that are still to come, in order. Contracts see the list of these paragraphs.
 #[derive(Drop)]
 pub struct Paragraphs<'a> {
-    rest: &'a [Unit],
+    pub(crate) rest: &'a [Unit],
 }
 
 impl<'a> Model for Paragraphs<'a> {
@@ -23,16 +23,6 @@ impl<'a> Model for Paragraphs<'a> {
     ghost Value = { List (List BidiUnit) };
 
     ghost view = { λ s. paragraphs_of s.rest.now };
-}
-
-impl<'a> Paragraphs<'a> {
-    #[tactic(auto, using(crate::proofs::LevelsComputed::OneCutting::no_more_paragraphs))]
-    pub(crate) fn new(text: &'a [Unit]) -> Paragraphs<'a>
-        ensures pieces { result ≡ paragraphs_of text.now }
-        ensures no_more { length result ≤ length text.now }
-    {
-        Paragraphs { rest: text }
-    }
 }
 
 /// A text is cut into paragraphs in exactly one way (P1). No piece is empty, a unit of class B can only be the last one

@@ -20,9 +20,10 @@ use units::bracket::Unit;
 
 /// Cuts a text into its paragraphs (P1), in order. Each paragraph is a piece of the text, its only unit of class B is
 /// the last one, and only the last paragraph may have none. Nothing is copied.
+#[tactic(auto, using(crate::proofs::LevelsComputed::OneCutting::no_more_paragraphs))]
 pub fn paragraphs(text: &[Unit]) -> Paragraphs<'_>
     ensures pieces { result ≡ paragraphs_of text.now }
     ensures no_more { length result ≤ length text.now }
 {
-    Paragraphs::new(text)
+    Paragraphs { rest: text }
 }
