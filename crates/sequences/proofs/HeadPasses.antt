@@ -1,5 +1,5 @@
 -- The heads and the column, filled from the first position on.
-use Rattle.std.specs.Prelude.{Option, Some, ℕ, zero, suc, true, false, ◌+◌, ◌-◌, ◌<◌, ◌≤◌, ◌≡◌, List, [], ◌∷◌, ◌++◌, length, IfSome, if◌then◌else◌}
+use Rattle.std.specs.Prelude.{Option, Some, ℕ, zero, suc, true, false, ◌+◌, ◌-◌, ◌<◌, ◌≤◌, ◌≡◌, List, [], ◌∷◌, ◌++◌, length, IfSome}
 use Rattle.std.proofs.Common.{arith, ap, sym, subst, take, refl, ◌∙◌, ◌⊎◌, inl, inr}
 use Rattle.std.proofs.lemmas.Bool.{cond-true, cond-false, false≢true}
 use Rattle.std.proofs.lemmas.List.{length_push, length-take-le}
