@@ -17,8 +17,11 @@ returns-else-len-ge2-clause-closed c =
     λ depth cs para qs r. pdf-retained depth cs para qs c.args.self.now r (omega arith) (omega arith)
     (elim c.else-len-ge2.branch [
       | else-len-ge2-via-then-len-ge2+else-not-current w ↦
-          inr (w.current.result, ap (λ e. e.is_isolate) (sym w.current.ensures.value) ∙
-          not-false _ w.if-not-current.false)
+          inr (
+            w.current.result,
+            ap (λ e. e.is_isolate) (sym w.current.ensures.value) ∙
+                not-false _ w.if-not-current.false,
+          )
       | else-len-ge2-via-else-len-ge2 w ↦ inl (omega arith)
     ])
 
