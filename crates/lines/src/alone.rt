@@ -15,6 +15,7 @@ use crate::order::write_order;
 use crate::resets::reset_text;
 use crate::runs::Run;
 use crate::spans::LineSpan;
+use std::ops::Range;
 use std::sync::ledger::Ledger;
 use units::bracket::Unit;
 use units::level::{Level, ParaLevel};
@@ -107,30 +108,30 @@ pub fn reset_line<L: Ledger>(
 /// then changes no level.
 pub(crate) fn reset_line_unless_uniform<L: Ledger>(
     text: &[Unit],
-    start: usize,
-    end: usize,
+    line: Range<usize>,
     level: ParaLevel,
     uniform: bool,
     levels: &mut [Option<Level>],
     steps: &mut Steps<L>,
 )
-    requires forward { start < end }
-    requires within { end ≤ length text.now }
-    requires paragraph { IsWithinParagraph text.now start end }
-    requires levels { length levels.old ≡ end - start }
+    requires forward { line.start < line.end }
+    requires within { line.end ≤ length text.now }
+    requires paragraph { IsWithinParagraph text.now line.start line.end }
+    requires levels { length levels.old ≡ line.end - line.start }
     ensures levels { uniform ≡ false → (breaks : List ℕ) (paras : List Para) (all : List (Option ℕ))
-        → IsLineIn text.now breaks start end → HasParaLevel text.now paras start (level_of_para level)
-        → length all ≡ length text.now → slice_range all start end ≡ levels.old
-        → levels.new ≡ slice_range (levels_reset text.now breaks paras all) start end }
+        → IsLineIn text.now breaks line.start line.end
+        → HasParaLevel text.now paras line.start (level_of_para level)
+        → length all ≡ length text.now → slice_range all line.start line.end ≡ levels.old
+        → levels.new ≡ slice_range (levels_reset text.now breaks paras all) line.start line.end }
     ensures same { IsTrue uniform → levels.new ≡ levels.old }
     ensures at_least { steps.old ≤ steps.new }
-    ensures at_most { steps.new ≤ steps.old + (end - start) }
+    ensures at_most { steps.new ≤ steps.old + (line.end - line.start) }
     ensures if_uniform { IsTrue uniform → steps.new ≡ steps.old }
 {
     if uniform {
         return;
     }
-    reset_line(text, start, end, level, levels, steps);
+    reset_line(text, line.start, line.end, level, levels, steps);
 }
 
 /// Adds `start`, the position at which a line begins in its text, to each position of the line. Takes one step for

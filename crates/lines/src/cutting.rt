@@ -7,6 +7,7 @@ ghost use Rattle.lines.specs.LineBreaks.{AreBreaks};
 ghost use Rattle.lines.specs.LineEnds.{AreLineEnds, BreaksArePassed, IsParagraphAt};
 
 use crate::bounds::Bound;
+use std::ops::Range;
 use std::sync::ledger::Ledger;
 use units::steps::Steps;
 
@@ -50,29 +51,30 @@ pub(crate) fn start_cut(bounds: &mut [Bound]) -> Cut
 pub(crate) fn cut_paragraph<L: Ledger>(
     at: &[usize],
     len: usize,
-    start: usize,
-    end: usize,
+    paragraph: Range<usize>,
     cut: Cut,
     bounds: &mut [Bound],
     steps: &mut Steps<L>,
 ) -> Cut
     requires breaks { AreBreaks at.now len }
-    requires some { start < end }
-    requires within { end ≤ len }
-    requires small { end < 2 ^ 32 }
-    requires bounds { end < length bounds.old }
-    requires passed { BreaksArePassed at.now cut.passed start }
-    requires few_passed { cut.passed ≤ start }
-    requires few_lines { cut.lines ≤ start }
-    ensures ends { (own : List BidiClass) → length own ≡ len → IsParagraphAt own start end
-        → AreLineEnds own at.now cut.lines start bounds.old
-        → AreLineEnds own at.now result.lines end bounds.new }
-    ensures passed { BreaksArePassed at.now result.passed end }
-    ensures few_passed { result.passed ≤ end }
+    requires some { paragraph.start < paragraph.end }
+    requires within { paragraph.end ≤ len }
+    requires small { paragraph.end < 2 ^ 32 }
+    requires bounds { paragraph.end < length bounds.old }
+    requires passed { BreaksArePassed at.now cut.passed paragraph.start }
+    requires few_passed { cut.passed ≤ paragraph.start }
+    requires few_lines { cut.lines ≤ paragraph.start }
+    ensures ends { (own : List BidiClass) → length own ≡ len → IsParagraphAt own paragraph.start paragraph.end
+        → AreLineEnds own at.now cut.lines paragraph.start bounds.old
+        → AreLineEnds own at.now result.lines paragraph.end bounds.new }
+    ensures passed { BreaksArePassed at.now result.passed paragraph.end }
+    ensures few_passed { result.passed ≤ paragraph.end }
     ensures more_lines { cut.lines < result.lines }
-    ensures few_lines { result.lines ≤ cut.lines + (end - start) }
+    ensures few_lines { result.lines ≤ cut.lines + (paragraph.end - paragraph.start) }
     ensures steps { steps.new ≡ steps.old + (result.lines - cut.lines) }
 {
+    let start = paragraph.start;
+    let end = paragraph.end;
     let mut passed = cut.passed;
     let mut lines = cut.lines;
     let mut position = start;

@@ -34,7 +34,7 @@ pub(crate) fn cut_text<L: Ledger>(
     for paragraph in 0..para_ends.len() {
         steps.tick();
         let end = para_ends[paragraph] as usize;
-        cut = cut_paragraph(at, text.len(), start, end, cut, bounds, steps);
+        cut = cut_paragraph(at, text.len(), start..end, cut, bounds, steps);
         start = end;
     }
     cut.lines

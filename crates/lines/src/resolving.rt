@@ -127,7 +127,7 @@ fn resolve_paragraphs<L: Ledger>(
         // P1.
         let first = FirstParagraph::of(&text[start..], steps);
         let end = start + first.length;
-        cut = cut_paragraph(at, text.len(), start, end, cut, bounds, steps);
+        cut = cut_paragraph(at, text.len(), start..end, cut, bounds, steps);
 
         // P2 to I2.
         let resolved = resolver.resolve_known(

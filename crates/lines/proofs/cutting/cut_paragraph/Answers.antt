@@ -24,7 +24,7 @@ loop-position-preserved g c =
     limit_above at l.passed len l.position limit l.invariant.passed (omega arith) is_limit in
     let above : l.position < end = omega arith in
     let within : end ≤ limit = omega arith in
-    let inside : end ≤ c.args.end = omega arith in
+    let inside : end ≤ c.args.paragraph.end = omega arith in
     let step : l.passed + c.from-passed.result ≡ l.passed + cond (end == limit) 1 0 =
     ap (λ n. l.passed + n) (c.from-passed.ensures ∙ bool_byte-is (end == limit)) in
     record {
@@ -41,7 +41,7 @@ loop-position-preserved g c =
             arith,
             l.auto.bounds,
           ))
-          (ends_line own at l.passed c.args.start l.position limit c.args.end end
+          (ends_line own at l.passed c.args.paragraph.start l.position limit c.args.paragraph.end end
           (subst (AreBreaks at) (sym same) breaks) l.invariant.passed
           (subst (λ n. IsLimit at l.passed n limit) (sym same) is_limit) paragraph l.invariant.from above within
           inside (λ short. omega arith))
