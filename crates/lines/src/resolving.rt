@@ -34,6 +34,17 @@ pub struct ResolvedText {
     pub segmented: bool,
 }
 
+/// How a text is laid out.
+#[derive(Drop)]
+pub struct LayoutOptions<'a> {
+    /// The direction of its paragraphs (P2, P3).
+    pub direction: Direction,
+    /// Where its lines begin, besides after separators.
+    pub breaks: &'a Breaks<'a>,
+    /// The limits of explicit levels (BD2) and of open brackets (BD16).
+    pub limits: Limits,
+}
+
 /// Writes the level and the end of the paragraph, the level of its only unit and the end of its line to the fronts of
 /// their columns.
 fn write_unit(unchanged: RemainingUnit, columns: &mut TextColumns, bounds: &mut [Bound])
@@ -91,22 +102,21 @@ fn resolve_unit<L: Ledger>(
 /// Does what `resolve_text` does, for any text.
 fn resolve_paragraphs<L: Ledger>(
     text: &[Unit],
-    direction: Direction,
-    breaks: &Breaks,
-    limits: Limits,
+    options: &LayoutOptions<'_>,
     resolver: &mut Resolver,
     columns: &mut TextColumns,
     bounds: &mut [Bound],
     steps: &mut Steps<L>,
 ) -> ResolvedText
-    requires len { breaks.now.len ≡ length text.now }
+    requires len { options.now.breaks.now.len ≡ length text.now }
     requires small { length text.now < 2 ^ 32 }
     requires resolver { length text.now ≤ resolver.old }
     requires room { HasTextRoom columns.old (length text.now) }
     requires bounds { length text.now < length bounds.old }
     ensures resolver { resolver.new ≡ resolver.old }
     ensures room { KeepsTextRoom columns.old columns.new }
-    ensures resolved { IsResolved limits text.now direction breaks.now.positions result columns.new bounds.new }
+    ensures resolved { IsResolved options.now.limits text.now options.now.direction
+        options.now.breaks.now.positions result columns.new bounds.new }
     ensures segments { result.segmented ≡ has_segments text.now }
     ensures at_least { steps.old + 2 * length text.now + result.paragraphs + result.lines ≤ steps.new }
     ensures at_most { steps.new ≤ steps.old + text_steps * length text.now }
@@ -115,7 +125,7 @@ fn resolve_paragraphs<L: Ledger>(
     let paras: &mut [ParaLevel] = &mut columns.paras;
     let para_ends: &mut [u32] = &mut columns.para_ends;
     let levels: &mut [Option<Level>] = &mut columns.levels;
-    let at = breaks.positions();
+    let at = options.breaks.positions();
     let mut cut = start_cut(bounds);
     let mut paragraphs = 0;
     let mut uniform = true;
@@ -133,8 +143,8 @@ fn resolve_paragraphs<L: Ledger>(
         let resolved = resolver.resolve_known(
             &text[start..end],
             first.contents,
-            direction,
-            limits,
+            options.direction,
+            options.limits,
             &mut levels[start..end],
             steps,
         );
@@ -154,32 +164,31 @@ fn resolve_paragraphs<L: Ledger>(
 }
 
 /// Writes the levels of a text's paragraphs, their ends, and the resolved levels of its positions to the fronts of
-/// their columns, paragraph by paragraph, with these limits. Writes the ends of its lines to the front of `bounds`;
+/// their columns, paragraph by paragraph, with these options. Writes the ends of its lines to the front of `bounds`;
 /// each paragraph ends a line.
 pub(crate) fn resolve_text<L: Ledger>(
     text: &[Unit],
-    direction: Direction,
-    breaks: &Breaks,
-    limits: Limits,
+    options: &LayoutOptions<'_>,
     resolver: &mut Resolver,
     columns: &mut TextColumns,
     bounds: &mut [Bound],
     steps: &mut Steps<L>,
 ) -> ResolvedText
-    requires len { breaks.now.len ≡ length text.now }
+    requires len { options.now.breaks.now.len ≡ length text.now }
     requires small { length text.now < 2 ^ 32 }
     requires resolver { length text.now ≤ resolver.old }
     requires room { HasTextRoom columns.old (length text.now) }
     requires bounds { length text.now < length bounds.old }
     ensures resolver { resolver.new ≡ resolver.old }
     ensures room { KeepsTextRoom columns.old columns.new }
-    ensures resolved { IsResolved limits text.now direction breaks.now.positions result columns.new bounds.new }
+    ensures resolved { IsResolved options.now.limits text.now options.now.direction
+        options.now.breaks.now.positions result columns.new bounds.new }
     ensures segments { result.segmented ≡ false → HasNoSegments text.now }
     ensures at_least { steps.old + 2 * length text.now + result.paragraphs + result.lines ≤ steps.new }
     ensures at_most { steps.new ≤ steps.old + text_steps * length text.now }
     ensures if_uniform { result.uniform ≡ true → steps.new ≤ steps.old + uniform_text_steps * length text.now }
 {
-    if text.len() == 1 && resolve_unit(text, direction, columns, bounds, steps) {
+    if text.len() == 1 && resolve_unit(text, options.direction, columns, bounds, steps) {
         return ResolvedText {
             paragraphs: 1,
             lines: 1,
@@ -187,7 +196,5 @@ pub(crate) fn resolve_text<L: Ledger>(
             segmented: true,
         };
     }
-    resolve_paragraphs(
-        text, direction, breaks, limits, resolver, columns, bounds, steps,
-    )
+    resolve_paragraphs(text, options, resolver, columns, bounds, steps)
 }

@@ -37,11 +37,12 @@ next_piece text start n lt e =
 
 pub loop-start-init : goal.loop-start-init
 loop-start-init g c = record {
-  written = written_none c.args.limits c.args.text.now c.args.direction c.deref_mut-levels.result.now;
+  written = written_none c.args.options.now.limits c.args.text.now c.args.options.now.direction
+      c.deref_mut-levels.result.now;
   known = refl;
   segments = refl;
   passed = subst (λ n. BreaksArePassed c.positions-at.result.now n 0) (sym c.start_cut-cut.ensures.passed)
-      (passed_none c.positions-at.result.now c.args.breaks.now.len c.positions-at.ensures.breaks);
+      (passed_none c.positions-at.result.now c.args.options.now.breaks.now.len c.positions-at.ensures.breaks);
   ends =
       subst (λ n. AreLineEnds (classes_of c.args.text.now) c.positions-at.result.now n 0 c.start_cut-cut.new.bounds)
       (sym c.start_cut-cut.ensures.lines)
@@ -73,7 +74,8 @@ resolve_known-resolved-requires-clause-separators g c =
     let text : List BidiUnit = c.args.text.now in
     let n : ℕ = c.of-first.result.length in
     let P : List (List BidiUnit) → Type 0 =
-    λ pieces. IsWritten c.args.limits text c.args.direction l.start (take l.paragraphs l.paras) l.levels pieces in
+    λ pieces. IsWritten c.args.options.now.limits text c.args.options.now.direction l.start (take l.paragraphs l.paras)
+    l.levels pieces in
     let w : P (take n (drop l.start text) ∷ paragraphs_of (drop (l.start + n) text)) =
     subst P (next_piece text l.start n c.loop-start-test.true (c.of-first.ensures.first.length ∙
     ap first_length (take_rest text l.start))) l.invariant.written in
@@ -83,7 +85,7 @@ pub loop-start-preserved : goal.loop-start-preserved
 loop-start-preserved g c =
     let l = c.loop-start in
     let text : List BidiUnit = c.args.text.now in
-    let direction : Direction = c.args.direction in
+    let direction : Direction = c.args.options.now.direction in
     let n : ℕ = c.of-first.result.length in
     let end : ℕ = l.start + n in
     let para : List BidiUnit = slice_range text l.start end in
@@ -106,7 +108,7 @@ loop-start-preserved g c =
     let long : length para ≡ n = ap length (piece_is text l.start n end refl) ∙
     length-take-le n (drop l.start text) (omega (arith, length-drop l.start text)) in
     let P : List (List BidiUnit) → Type 0 =
-    λ pieces. IsWritten c.args.limits text direction l.start (take l.paragraphs l.paras) l.levels pieces in
+    λ pieces. IsWritten c.args.options.now.limits text direction l.start (take l.paragraphs l.paras) l.levels pieces in
     let w : P (para ∷ paragraphs_of (drop end text)) = subst P split l.invariant.written in
     let room : l.paragraphs < length l.paras =
     omega (
@@ -183,12 +185,12 @@ pub returns-clause-resolved : goal.returns-clause-resolved
 returns-clause-resolved g c =
     let l = c.loop-start in
     let text : List BidiUnit = c.args.text.now in
-    let direction : Direction = c.args.direction in
+    let direction : Direction = c.args.options.now.direction in
     let room = c.args.columns.now in
     let at_end : l.start ≡ length text = omega arith in
     let done : drop l.start text ≡ [] = drop_all l.start text (omega arith) in
     let P : List (List BidiUnit) → Type 0 =
-    λ pieces. IsWritten c.args.limits text direction l.start (take l.paragraphs l.paras) l.levels pieces in
+    λ pieces. IsWritten c.args.options.now.limits text direction l.start (take l.paragraphs l.paras) l.levels pieces in
     let w : P [] = subst P (ap paragraphs_of done) l.invariant.written in
     let as_paras : length l.paras ≡ room.paras.items.len = search rules in
     let as_ends : length l.para_ends ≡ room.para_ends.items.len = search rules in
@@ -199,7 +201,8 @@ returns-clause-resolved g c =
           (subst (AreParagraphEnds (classes_of text) (take l.paragraphs l.para_ends)) at_end l.invariant.para_ends);
       few = omega (arith, l.invariant.few, l.invariant.inside);
       levels = rw (with_items_is room.levels.items l.levels as_levels) (written_levels w);
-      ends = subst (λ n. AreLineEnds (classes_of text) c.args.breaks.now.positions l.cut.lines n l.bounds) at_end
+      ends = subst (λ n.
+          AreLineEnds (classes_of text) c.args.options.now.breaks.now.positions l.cut.lines n l.bounds) at_end
           (subst (λ at. AreLineEnds (classes_of text) at l.cut.lines l.start l.bounds) c.positions-at.ensures.positions
           l.invariant.ends);
       few_lines = omega (arith, l.invariant.few_lines, l.invariant.inside);

@@ -12,10 +12,10 @@ use Rattle.lines.proofs.resolving.resolve_paragraphs.Given as goal
 
 abbrev pub invariant-loop-start : goal.invariant-loop-start
 invariant-loop-start g l = record {
-  written : IsWritten l.limits l.text l.direction l.start (take l.paragraphs l.paras) l.levels
+  written : IsWritten l.options.limits l.text l.options.direction l.start (take l.paragraphs l.paras) l.levels
       (paragraphs_of (drop l.start l.text));
-  known : (l.uniform && list_all (keeps_own_level l.direction) (paragraphs_of (drop l.start l.text))) ≡
-      each_keeps_level l.text l.direction;
+  known : (l.uniform && list_all (keeps_own_level l.options.direction) (paragraphs_of (drop l.start l.text))) ≡
+      each_keeps_level l.text l.options.direction;
   segments : l.segmented ≡ has_segments (take l.start l.text);
   passed : BreaksArePassed l.at l.cut.passed l.start;
   ends : AreLineEnds (classes_of l.text) l.at l.cut.lines l.start l.bounds;
