@@ -2,6 +2,7 @@
 #![tactic(auto)]
 
 pub mod alone;
+mod arranging;
 mod bounds;
 pub mod breaks;
 mod columns;

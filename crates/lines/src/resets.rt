@@ -8,7 +8,7 @@ ghost use Rattle.lines.specs.LineEnds.{AreAllParagraphEnds, paragraph_start};
 ghost use Rattle.lines.specs.Spaces.{HasNoSegments, PassesBack, StaysAtParas, levels_reset, resets_before};
 
 use crate::breaks::Breaks;
-use crate::resolving::ResolvedText;
+use crate::resolving::{ResolvedText, TextWithParagraphs};
 use std::sync::ledger::Ledger;
 use units::bracket::Unit;
 use units::class::Class;
@@ -227,38 +227,43 @@ fn reset_unsegmented<L: Ledger>(
 }
 
 /// Does what `reset_text` does, unless each remaining position is known to have the level of its paragraph. L1 then
-/// changes no level. `para_ends` has the ends of the paragraphs.
+/// changes no level.
 // Inlined, a short text takes fewer instructions.
 #[inline(always)]
 pub(crate) fn reset_unless_uniform<L: Ledger>(
-    own: &[Unit],
+    text: TextWithParagraphs<'_>,
     breaks: &Breaks,
-    para_ends: &[u32],
-    paras: &[ParaLevel],
     resolved: ResolvedText,
     levels: &mut [Option<Level>],
     steps: &mut Steps<L>,
 )
-    requires len { breaks.now.len ≡ length own.now }
-    requires levels { length levels.old ≡ length own.now }
-    requires paras { length paras.now ≡ length (paragraphs_of own.now) }
-    requires ends { AreAllParagraphEnds own.now para_ends.now }
-    requires each { length para_ends.now ≡ length paras.now }
-    requires uniform { IsTrue resolved.uniform → StaysAtParas own.now paras.now levels.old }
-    requires none { resolved.segmented ≡ false → HasNoSegments own.now }
-    ensures levels { levels.new ≡ levels_reset own.now breaks.now.positions paras.now levels.old }
+    requires len { breaks.now.len ≡ length text.units.now }
+    requires levels { length levels.old ≡ length text.units.now }
+    requires paras { length text.paras.now ≡ length (paragraphs_of text.units.now) }
+    requires ends { AreAllParagraphEnds text.units.now text.para_ends.now }
+    requires each { length text.para_ends.now ≡ length text.paras.now }
+    requires uniform { IsTrue resolved.uniform → StaysAtParas text.units.now text.paras.now levels.old }
+    requires none { resolved.segmented ≡ false → HasNoSegments text.units.now }
+    ensures levels { levels.new
+        ≡ levels_reset text.entry.units.now breaks.now.positions text.entry.paras.now levels.old }
     ensures same { IsTrue resolved.uniform → levels.new ≡ levels.old }
-    ensures uniform { IsTrue resolved.uniform → StaysAtParas own.now paras.now levels.new }
+    ensures uniform { IsTrue resolved.uniform
+        → StaysAtParas text.entry.units.now text.entry.paras.now levels.new }
     ensures at_least { steps.old ≤ steps.new }
-    ensures at_most { steps.new ≤ steps.old + length own.now }
+    ensures at_most { steps.new ≤ steps.old + length text.entry.units.now }
     ensures if_uniform { IsTrue resolved.uniform → steps.new ≡ steps.old }
 {
     if resolved.uniform {
         return;
     }
+    let TextWithParagraphs {
+        units,
+        para_ends,
+        paras,
+    } = text;
     if resolved.segmented {
-        reset_text(own, breaks, paras, levels, steps);
+        reset_text(units, breaks, paras, levels, steps);
     } else {
-        reset_unsegmented(own, breaks, para_ends, paras, levels, steps);
+        reset_unsegmented(units, breaks, para_ends, paras, levels, steps);
     }
 }

@@ -34,6 +34,17 @@ pub struct ResolvedText {
     pub segmented: bool,
 }
 
+/// A text and its paragraphs (P1 to P3).
+#[derive(Clone, Copy)]
+pub struct TextWithParagraphs<'a> {
+    /// The units of the text, with their own classes.
+    pub units: &'a [Unit],
+    /// The end of each paragraph, rising.
+    pub para_ends: &'a [u32],
+    /// The level of each paragraph.
+    pub paras: &'a [ParaLevel],
+}
+
 /// How a text is laid out.
 #[derive(Drop)]
 pub struct LayoutOptions<'a> {

@@ -7,5 +7,5 @@ use Rattle.lines.proofs.resets.reset_unless_uniform.Goals as goal
 
 pub returns-then-resolved-clause-levels : goal.returns-then-resolved-clause-levels
 returns-then-resolved-clause-levels g c =
-    sym (levels_unchanged (classes_of c.args.own.now) c.args.breaks.now.positions
-    (map level_of_para c.args.paras.now) c.args.levels.now (c.requires.uniform c.if-resolved.true))
+    sym (levels_unchanged (classes_of c.args.text.units.now) c.args.breaks.now.positions
+    (map level_of_para c.args.text.paras.now) c.args.levels.now (c.requires.uniform c.if-resolved.true))
