@@ -117,7 +117,7 @@ impl Room {
     /// Writes the level of each unit of the line to the front of `levels`, and the offsets of its shown characters,
     /// from left to right, to the front of `order`. Returns how many offsets there are. Both lists need an item for
     /// each unit of the line. Fails with `TooSmall` if one has fewer, and else with the first reason why there is no
-    /// such line; then the lists are unchanged.
+    /// such line. If it fails, the lists are unchanged.
     pub fn line_of(
         &mut self,
         start: usize,

@@ -82,9 +82,9 @@ impl Room {
     /// Writes the level of each character after L1, 0 to 126, to the front of `out`, if all fit there; else nothing is
     /// written. Returns how many characters there are.
     ///
-    /// A character that X9 removes is given the level of the character before it. It is given the level of its
-    /// paragraph if it begins the paragraph. It also is if only white space, isolate formatting characters and others
-    /// that X9 removes come between it and the next separator or the text's end.
+    /// A character that X9 removes is given the level of the character before it, but the level of its paragraph in two
+    /// cases: it begins the paragraph, or between it and the next separator or the text's end there are only white
+    /// space, isolate formatting characters and others that X9 removes.
     pub fn whole_levels(&self, out: &mut [u8]) -> usize
         ensures { WritesWholeLevels self.now result out.old out.new }
     {
