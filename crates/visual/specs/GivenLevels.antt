@@ -9,7 +9,7 @@ use Rattle.units.specs.declared.class.Class.{Class}
 abbrev pub all_present : List ℕ → List (Option ℕ)
 all_present levels = map (λ level. Some level) levels
 
--- positions from left to right, as read in the direction of a level: rising if it is even, falling if it is odd
+-- positions from left to right, as read in the direction of a level: unchanged if it is even, reversed if it is odd
 abbrev pub read_at : ℕ → List ℕ → List ℕ
 read_at level order = if level % 2 == 0 then order else reverse order
 
