@@ -22,7 +22,7 @@ in_utf16 c = record { code = c; width = length (encode_utf16 c) }
 abbrev pub utf16_text : List ℕ → List Spelled
 utf16_text units = map in_utf16 (utf16_lossy_chars units)
 
--- the character with the index k is not an unpaired surrogate
+-- there is a character with the index k, and it is not an unpaired surrogate
 abbrev pub IsPaired : List ℕ → ℕ → Type 0
 IsPaired units k = slice_index_or (utf16_chars units) k None ≢ None
 

@@ -29,7 +29,7 @@ pub record AreIndicesOf (starts breaks indices : List ℕ) : Type 0 where
   pub found : map (slice_index starts) indices ≡ breaks
   pub inside : All (λ k. k < length starts) indices
 
--- the offset is inside the character with the index k
+-- the offset is from that of the character with the index k on, and before that of the next one or of the end
 pub record IsBetween (starts : List ℕ) (at k : ℕ) : Type 0 where
   pub inside : k + 1 < length starts
   pub from : slice_index starts k ≤ at

@@ -73,8 +73,8 @@ fn ascii_end(bytes: &[u8], from: usize) -> usize
     at
 }
 
-/// Tests the characters that begin between the offsets `from` and `end`, and returns the end of the last one. Fails
-/// with the offset of the first fault if there is one.
+/// Tests the characters that begin from the offset `from` on and before `end`, and returns the end of the last one.
+/// Fails with the offset of the first fault if there is one.
 #[inline(always)]
 fn test_chars(bytes: &[u8], from: usize, end: usize) -> Result<usize, usize>
     requires bounds { (from ≤ end) × (end ≤ length bytes.now) }
