@@ -35,8 +35,8 @@ impl<V> Model for TwoStage<V> {
     ghost invariant = { λ t. AreStages (record { numbers = t.numbers.items; values = t.values.items }) };
 }
 
-// Of `len` code points from `first` on, returns the range of those that the span contains: its start and its end,
-// which is not included.
+// Returns which of the `len` code points from `first` on the span contains: the index of the first one, and the index
+// after the last one. Indices are counted from `first`.
 fn covered_range<V>(span: &Span<V>, first: u32, len: usize) -> (usize, usize)
     ensures bound { result.1 ≤ len }
     ensures before { (k : ℕ) → k < result.0 → holds (first + k) span.now ≡ false }
