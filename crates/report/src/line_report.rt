@@ -62,7 +62,7 @@ impl LineReport {
     ghost use Rattle.bidtests.specs.LineReadings.{finding_after};
     ghost use Rattle.report.specs.Reporting.{IsAtStart, IsAfterLine, HasNothingNew, cause_of, forgotten};
 
-    /// Makes a report before its first line. Fails with `Memory`.
+    /// Makes a report before its first line. Fails with `Memory` if memory is refused.
     pub fn new(alloc: Global, terms: Terms) -> Result<Self, Memory>
         ensures { IfOk result (IsAtStart terms) }
     {

@@ -37,7 +37,7 @@ impl<'t> Model for Report<'t> {
 
 impl<'t> Report<'t> {
     /// Makes a report on a file of this kind, before its first byte, with these terms. It takes all of its memory here.
-    /// Fails with `Memory`.
+    /// Fails with `Memory` if some of it is refused.
     pub fn new(alloc: Global, kind: Kind<'t>, terms: Terms) -> Result<Report<'t>, Memory>
         ensures represents { IfOk result (λ report. Reports terms kind.entry report [] []) }
         ensures none { IfOk result (λ report. report.lines.found ≡ []) }

@@ -82,7 +82,7 @@ fn report_last(
 
 impl ReportState {
     /// Makes the state before the first byte of a file of either kind, with these terms. It takes all of its memory
-    /// here. Fails with `Memory`.
+    /// here. Fails with `Memory` if some of it is refused.
     pub fn new(alloc: Global, terms: Terms) -> Result<ReportState, Memory>
         ensures represents { IfOk result (λ state. (tables : Option TablesOf) →
             HasReportedFor terms tables state [] []) }
