@@ -73,8 +73,8 @@ pub enum Fault<'a> {
         line: u64,
     },
     /// The file of this name can't be opened, a read of it failed, or it has more than `most` bytes. `unread` is the
-    /// reason. For a table's file, `folder` is the folder that was searched. All output up to that place was written,
-    /// unless an earlier write failed.
+    /// reason. For a table's file, `folder` is the folder that was searched. All output up to the failed read was
+    /// written, unless an earlier write failed.
     CannotRead {
         name: &'a str,
         folder: Option<&'a str>,

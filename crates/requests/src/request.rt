@@ -46,7 +46,7 @@ pub enum RowLetters<'a> {
 /// Which texts over their letters rows have.
 #[derive(Clone, Copy, Debug, PartialEq, Eq)]
 pub enum RowsForm {
-    /// All texts of the lengths, in the order of their length.
+    /// All texts of the lengths, the shorter ones first.
     Exhaustive,
     /// `count` texts, drawn with a seed.
     Random { seed: u64, count: u64 },
