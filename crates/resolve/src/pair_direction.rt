@@ -50,7 +50,7 @@ pub(crate) struct Nearest {
 }
 
 impl Nearest {
-    /// Returns sos, before the first index.
+    /// Returns the state before the first index, where sos is the nearest strong class.
     pub(crate) fn new(sos: Class) -> Self
         ensures index { result.index ≡ 0 }
         ensures class { result.class ≡ sos }
