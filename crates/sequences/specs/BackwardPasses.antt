@@ -7,11 +7,11 @@ use Rattle.units.specs.Runs.{LeveledView, size_of, remains, successor, eos_at, l
 use Rattle.units.specs.declared.class.Class.{Class}
 use Rattle.sequences.specs.Links.{is_joined, link_at}
 
--- one of the count positions from start on leads to q
+-- one of the `count` positions from start on leads to q
 abbrev pub is_led_to : (ℕ → Option ℕ) → ℕ → ℕ → ℕ → Bool
 is_led_to next start count q = list_any (λ p. same_position (next p) (Some q)) (positions_from start count)
 
--- the positions from k on are marked if one of them leads there
+-- each position from k on is marked exactly if a position from k on leads to it
 abbrev pub AreMarked : (ℕ → Option ℕ) → ℕ → ℕ → List Bool → Type 0
 AreMarked next end k joined = (q : ℕ) → k ≤ q → q < end → is_joined joined q ≡ is_led_to next k (end - k) q
 
