@@ -160,7 +160,7 @@ retained-bounded n k =
       );
     }
 
--- a PDI opens no initiator
+-- after a PDI no more initiators are open than before it
 past_isolate-short : (cs : List Class) (qs : List ℕ) → length (past_isolate cs qs) ≤ length qs
 past_isolate-short cs [] = omega arith
 past_isolate-short cs (q ∷ qs) = grind (arith, past_isolate-short cs qs)
