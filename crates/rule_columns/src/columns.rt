@@ -99,14 +99,14 @@ impl Columns {
         &self.classes.resolved.implicit
     }
 
-    /// Returns the levels after L1, by position, if the paragraph is one line. A removed position has none.
+    /// Returns the levels after L1, by position, with the whole paragraph as one line. A removed position has none.
     pub fn levels(&self) -> &[Option<Level>]
         ensures { result.now ≡ self.now.shown.levels }
     {
         &self.shown.levels
     }
 
-    /// Returns the positions that remain, from left to right (L2), if the paragraph is one line.
+    /// Returns the positions that remain, from left to right (L2), with the whole paragraph as one line.
     pub fn order(&self) -> &[usize]
         ensures { result.now ≡ self.now.shown.order }
     {
