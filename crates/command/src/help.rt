@@ -12,9 +12,9 @@ does to a text or to a row of a conformance file, judges conformance files, repo
 them, and prints such files, of hard texts or of the lines of a text.
 
 Ends with status 0 if it succeeds or the verdict is yes, 1 if the verdict is no or a
-report is not right, 2 if the command line is rejected, tables are needed, a line is not
-a row or there are no rows to print, and 3 if a file can't be read, a line of a table is
-faulty, a text is not UTF-8, a write fails or memory runs out.
+reported file is wrong, 2 if the command line is rejected, needed tables are not named,
+a line is not a row or there are no rows to print, and 3 if a file can't be read, a line
+of a table is faulty, a text is not UTF-8, a write fails or memory runs out.
 
 An error is one line on standard error. Each subcommand takes -v, which adds a second
 line with the reason. The first line and the status stay the same.";
@@ -121,9 +121,9 @@ claims and what is defined: the paragraph level, if the row claims one, the leve
 order.
 
 Ends with status 0 if it succeeds, 2 if the command line is rejected, --classes has an item
-that is not a class, --codes has an item that is not a code point, tables are needed or the
-line is not a row, and 3 if a file can't be read, a line of a table or a line up to the row
-is faulty, the text is not UTF-8, a write fails or memory runs out.";
+that is not a class, --codes has an item that is not a code point, needed tables are not
+named or the line is not a row, and 3 if a file can't be read, a line of a table or a line
+up to the row is faulty, the text is not UTF-8, a write fails or memory runs out.";
 
 /// The usage of `explain`.
 pub const EXPLAIN_USAGE: &str = "bidi explain [OPTIONS] <FILE>
@@ -167,8 +167,8 @@ the algorithm gives. Otherwise prints `no`, with the first line that is malforme
 or wrong, and what is wrong there.
 
 Ends with status 0 after a yes, 1 after a no, 2 if the command line is rejected or
-tables are needed, and 3 if a file can't be read, a line of a table is faulty, a
-write fails or memory runs out.";
+needed tables are not named, and 3 if a file can't be read, a line of a table is
+faulty, a write fails or memory runs out.";
 
 /// The usage of `judge`.
 pub const JUDGE_USAGE: &str = "bidi judge [OPTIONS] --kind <KIND> <FILE>";
@@ -195,8 +195,8 @@ With --order or --shown, compares less of each case, for an engine that returns 
 or one that keeps the positions that X9 removes, as the standard allows (UAX #9, 5.2).
 
 Ends with status 0 if no line is malformed and no case is wrong, as when judge prints yes,
-1 if one is, 2 if the command line is rejected or tables are needed, and 3 if a file can't
-be read, a line of a table is faulty, a write fails or memory runs out.";
+1 if one is, 2 if the command line is rejected or needed tables are not named, and 3 if a
+file can't be read, a line of a table is faulty, a write fails or memory runs out.";
 
 /// The usage of `report`.
 pub const REPORT_USAGE: &str = "bidi report [OPTIONS] --kind <KIND> <FILE>";
@@ -233,8 +233,8 @@ has separators and white space. A long text of `nest` exceeds the greatest depth
 long text of `brackets` exceeds the greatest number of open brackets.
 
 With --of, its texts are the lines of a text in UTF-8. A line ends before its LF, and a
-line without a character makes no row. The rows have characters, or with `--kind classes`
-their classes, which lose the brackets.
+line without a character makes no row. The other lines become rows of characters, or
+with `--kind classes` rows of classes, in which the brackets are lost.
 
 Each text has a case for each of the directions. With `--kind classes`, a case is three
 lines: its levels, its order, and a row that names the direction. With `--kind characters`
