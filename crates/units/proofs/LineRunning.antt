@@ -16,7 +16,7 @@ not_later ys os first tail each e long =
     get_or-append_seam os first tail [] in
     omega (arith, (each (length os) [] inside).short, ap length at, long)
 
--- if only one line of a list may be over-long, the lines before it are determined
+-- if all lines of a list but y are short, the lines before an over-long one are those before y
 same_before : (lines others : List (List ℕ)) (y : List ℕ) (ys : List (List ℕ)) (first : List ℕ) (tail : List (List ℕ))
     → All IsLine lines → All IsLine ys → longest_line < length first → lines ++ y ∷ ys ≡ others ++ first ∷ tail →
     others ≡ lines
