@@ -195,7 +195,7 @@ module _ (terms : Terms) (kind : Kind) (cutting : Cutting) (s t : LineReporting)
       (λ e. subst At l.1 (after (ap (malformed_at last.0) e))) (λ c e.
       ended (last.0, c) (malformed-some last.0 cause c e)))
 
--- what holds if there is an error holds here
+-- what holds of a result if it is an error holds, because it is one
 pub if-error : {T E : Type 0} (P : Type 0) (r : Result T E) (e : E) → result_err r ≡ Some e → OnErr r P → P
 if-error P (Ok x) e some holds = absurd cc
 if-error P (Err x) e some holds = holds
