@@ -108,8 +108,8 @@ abbrev pub fault_text : Detail → Fault → List ℕ
 fault_text Brief fault = fault_line fault
 fault_text Verbose fault = fault_line fault ++ reason_line (reason_of fault)
 
--- 2 if an argument is not UTF-8, not allowed or too long, if no tables are named, or if the requested line is not a
--- row; 3 if the run failed
+-- 2 if an argument is not UTF-8, not allowed or too long, if needed tables are not named, if texts can't be enumerated
+-- or drawn, or if the requested line is not a row; 3 if the run failed
 abbrev pub fault_status : Fault → ℕ
 fault_status WordNotUtf8 = 2
 fault_status TablesNeeded = 2

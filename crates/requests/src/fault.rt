@@ -164,8 +164,8 @@ impl<T: Drop> From<AllocFailed<T>> for Fault<'_> {
 }
 
 impl Fault<'_> {
-    /// Returns the exit status: 2 if an argument is not UTF-8, not allowed or too long, if no tables are named, or if
-    /// the requested line is not a row, otherwise 3.
+    /// Returns the exit status: 2 if an argument is not UTF-8, not allowed or too long, if needed tables are not named,
+    /// if texts can't be enumerated or drawn, or if the requested line is not a row, otherwise 3.
     fn status(&self) -> u8
         ensures { result ≡ fault_status self.now }
     {
