@@ -31,8 +31,8 @@ pub fn idle_brackets()
         → HasIdleBrackets most_open s us }
 {}
 
-/// A paragraph without initiators keeps its level at every position that remains (X9), under all limits, if its level
-/// is even and it has no R, AL and AN, or if its level is odd and it has no L, EN and AN (W1 to I2).
+/// A paragraph without initiators keeps its level at every position that remains (X9), under all limits, in two cases
+/// (W1 to I2): its level is even and it has no R, AL or AN, or its level is odd and it has no L, EN or AN.
 pub fn uniform_paragraphs()
     ensures { (limits : LimitsOf) (us : List BidiUnit) (para_level : ℕ) → IsUniform us para_level
         → KeepsItsLevel limits us para_level }

@@ -150,7 +150,7 @@ leveled_in-bounded : (s : State) (para : ℕ) (own : Class) (most : ℕ) → s.l
     IfSome (leveled_in s para own) (λ leveled. leveled.0 ≤ most)
 leveled_in-bounded s para own most a b = grind arith
 
--- no level is above a bound of the depth and of the paragraph's level
+-- a number that is at least the depth and at least the paragraph's level is at least each explicit level
 pub level-at_most : (depth : ℕ) (cs : List Class) (para p most : ℕ) → depth ≤ most → para ≤ most →
     IfSome (explicit_at depth cs para p) (λ leveled. leveled.0 ≤ most)
 level-at_most depth cs para p most d b =
