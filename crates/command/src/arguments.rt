@@ -38,7 +38,7 @@ pub fn file_argument<'a>(alloc: Global) -> Arg<'a>
         .help("The file to read, or `-` for standard input")
 }
 
-/// Returns an optional option with this name, name of its value, and help.
+/// Returns an option that may be left out, with this name, this name of its value, and this help.
 pub fn option_argument<'a>(
     alloc: Global,
     name: &'a str,
@@ -53,7 +53,7 @@ pub fn option_argument<'a>(
         .help(help)
 }
 
-/// Returns an optional option whose value is one of these words.
+/// Returns an option that may be left out, and whose value is one of these words.
 pub fn choice_argument<'a>(
     alloc: Global,
     name: &'a str,
@@ -116,7 +116,7 @@ pub fn directions_argument<'a>(alloc: Global) -> Arg<'a>
     )
 }
 
-/// Returns an optional option of this name, with a number of 64 bits as its value.
+/// Returns an option of this name that may be left out, with a number of 64 bits as its value.
 pub fn number_argument<'a>(alloc: Global, name: &'a str, help: &'a str) -> Arg<'a>
     ensures { rule_of result ≡ number_rule name.now }
 {

@@ -12,9 +12,9 @@ does to a text or to a row of a conformance file, judges conformance files, repo
 them, and prints such files, of hard texts or of the lines of a text.
 
 Ends with status 0 if it succeeds or the verdict is yes, 1 if the verdict is no or a
-reported file is wrong, 2 if the command line is rejected, needed tables are not named,
-a line is not a row or there are no rows to print, and 3 if a file can't be read, a line
-of a table is faulty, a text is not UTF-8, a write fails or memory runs out.
+reported file is wrong, 2 if the command line is rejected, the value of an option is not
+allowed, needed tables are not named or a line is not a row, and 3 if a file can't be
+read, a line of a table is faulty, a text is not UTF-8, a write fails or memory runs out.
 
 An error is one line on standard error. Each subcommand takes -v, which adds a second
 line with the reason. The first line and the status stay the same.";

@@ -124,7 +124,7 @@ fn run_as_read<F: Files, W: Write, E: Write>(
 /// - 0 if a text, an explanation or rows were printed, and after a yes, a report on a right file, help or the version;
 /// - 1 after a no, or after a report on a file that is not right, if it was written;
 /// - 2 if the arguments are rejected, if tables are needed and none are named, if an option's value is not allowed or
-///   too long, if there are no such rows, or if the line that is to be explained is not a row;
+///   too long, if texts can't be enumerated or drawn, or if the line that is to be explained is not a row;
 /// - 3 if a file or standard input can't be read, if a table, the text or a line up to the row is faulty, or if a write
 ///   or an allocation fails.
 ///
