@@ -105,7 +105,7 @@ impl Room {
     /// it has offsets, and texts may be in code units.
     ///
     /// It takes 84 bytes for each unit, and 112 with offsets. Fails with `TooBig` if and only if `n` is greater than
-    /// that, else with `Memory` if there is not enough.
+    /// 16,777,216, else with `Memory` if there is not enough.
     pub fn with_room(alloc: Global, n: usize, encodes: bool) -> Result<Room, RoomFault>
         ensures made { IfOk result (λ room. room ≡ new_room n encodes) }
         ensures too_big { (result ≡ Err RoomFault.TooBig) ↔ (longest_text < n) }
