@@ -15,10 +15,10 @@ ghost use Rattle.bidtests.specs.Headline.{ComeTo, YesIsExact, MalformedIsExact, 
 /// `malformed`: The verdict is `Malformed` with this number and cause exactly if the line of this number is malformed
 /// for this cause, and no earlier line is malformed or wrong.
 ///
-/// `wrong`: The verdict is `Wrong` with this number, direction and place exactly if the line of this number is a
-/// well-formed row that names the direction, and its layout first differs from the expected one at this place. Places
-/// are compared in the order paragraph level, levels, order. No earlier line is malformed or wrong, and the row is
-/// right under its earlier directions, in the order auto, LTR, RTL, AutoRtl.
+/// `wrong`: The verdict is `Wrong` with this number, direction and place exactly if all of these hold. The line of this
+/// number is a well-formed row that names the direction. Its layout under the direction first differs from the expected
+/// one at this place: the paragraph level is compared first, then the levels, then the order. No earlier line is
+/// malformed or wrong. The row is right under its earlier directions, in the order auto, LTR, RTL, AutoRtl.
 ///
 /// `line`: There are as many findings as lines. The finding at an index is that of the line at this index. In a
 /// BidiTest.txt it depends also on the lists in force after the lines before it.
