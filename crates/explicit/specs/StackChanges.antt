@@ -67,7 +67,8 @@ pub record IsPassed (depth : ℕ) (cs : List Class) (para_level : ℕ) (remainin
   pub retained : Represents depth cs para_level (opened cs p remaining) new
   pub found : leveled ≡ leveled_in (state_within depth cs para_level remaining) para_level class
 
--- X2 to X9: the position of this class closes what it closes, and opens what it opens up to this depth
+-- X2 to X9: the initiators that a position of this class closes are closed, and the one that it opens, if it opens
+-- one, is opened up to this depth
 abbrev pub Passes : ℕ → ℕ → Class → Bool → Option (ℕ × Class) → StatusStack → StatusStack → Type 0
 Passes depth para_level class right_to_left leveled old new =
     (cs : List Class) (qs : List ℕ) (p : ℕ) → class ≡ class_at cs p → IsSideOf class cs p right_to_left
