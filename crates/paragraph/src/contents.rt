@@ -186,7 +186,7 @@ fn pass_block(before: ClassSet, text: &[Unit], p: usize) -> Option<ClassSet>
     }
 }
 
-/// Passes units from `start` on, four at a time, until one of the four is a separator. Each unit is a step.
+/// Passes units from `start` on, four at a time, as long as none of the next four is a separator. Each unit is a step.
 fn pass_fours<L: Ledger>(
     text: &[Unit],
     start: usize,
