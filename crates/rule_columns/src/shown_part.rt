@@ -53,7 +53,7 @@ fn shown_by(alloc: Global, layout: &Layout<'_>) -> Result<ShownPart, Memory>
     Ok(ShownPart { levels, order })
 }
 
-/// Lays out a paragraph under a direction, in a `Scratch` with enough capacity.
+/// Returns the levels after L1 and the order of a paragraph under a direction. `room` must have capacity for it.
 fn shown_in<L: Ledger>(
     alloc: Global,
     room: &mut Scratch,
