@@ -115,10 +115,9 @@ after X1 to X8, or `x` if X9 removes the position, the class after X1 to X8, aft
 W1 to W7 and after N0, N1 and N2, the level after I1 and I2, and the level after L1. `.`
 means that a rule changes nothing.
 
-With --row, prints all of this for the row at a line of a conformance file, under each
-direction that the row names, after a line `line N: DIRECTION`. Then prints what the row
-claims and what is defined: the paragraph level, if the row claims one, the levels and the
-order.
+With --row, explains the row at a line of a conformance file. For each direction that the
+row names, prints a line `line N: DIRECTION`, all of the above, and then what the row claims
+and what is defined: the paragraph level, if the row claims one, the levels and the order.
 
 Ends with status 0 if it succeeds, 2 if the command line is rejected, --classes has an item
 that is not a class, --codes has an item that is not a code point, needed tables are not
