@@ -12,7 +12,7 @@ no_level = 127
 abbrev pub leveled_class_of : ℕ → Class → Option (ℕ × Class)
 leveled_class_of number class = if number == no_level then None else Some (number, class)
 
--- the number that encodes a level and a class, or none
+-- the number and the class that encode a level and a class, or none
 abbrev pub number_of_leveled : Option (ℕ × Class) → ℕ
 number_of_leveled leveled = option_map_or (λ x. x.0) leveled no_level
 
