@@ -31,7 +31,7 @@ pub record AreColumnsInOrder (most_open : ℕ) (s : SequenceView) (us : List Bid
   pub neutral : Rewrites (after_neutral (direction_of s.level) s.sos s.eos) s.positions after.paired after.neutral
   pub levels : Raises s.level after.neutral s.positions old_levels after.levels
 
--- the last columns are those of `resolve_sequence`, with the pairs
+-- the last columns are those that `resolve_sequence` gives for the same old columns, with the pairs
 pub record AreResolved (most_open : ℕ) (s : SequenceView) (us : List BidiUnit) (before old_classes : List Class)
     (old_levels : List (Option ℕ)) (after : AfterEach) : Type 0 where
   pub resolved : Resolves most_open s us before old_classes after.neutral old_levels after.levels
