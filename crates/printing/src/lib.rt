@@ -17,5 +17,6 @@ mod position_line;
 pub mod print;
 pub mod reading;
 mod reorder_text;
+mod settings;
 mod waiting;
 pub mod written;

@@ -16,15 +16,14 @@ use crate::fault::PrintStop;
 use crate::form::Form;
 use crate::layout_text::print_one_paragraph;
 use crate::passed::Passed;
-use crate::reorder_text::print_lines;
+use crate::reorder_text::{ShownText, print_lines};
+use crate::settings::Settings;
 use lines::breaks::Breaks;
 use lines::lay_out::lay_out_into;
 use lines::scratch::Scratch;
 use std::alloc::Global;
 use std::io::Write;
 use std::num::NonZeroU16;
-use ucdfiles::mirror_table::MirrorTable;
-use ucdfiles::tables::Tables;
 use units::bracket::Unit;
 use units::level::Direction;
 
@@ -55,22 +54,22 @@ fn print_levels_of<W: Write>(
 fn print_lines_of<W: Write>(
     alloc: Global,
     w: &mut W,
-    mirrors: &MirrorTable,
-    chars: &[char],
-    units: &[Unit],
+    text: &ShownText<'_>,
     direction: Direction,
     columns: Option<NonZeroU16>,
     room: &mut Scratch,
 ) -> Result<(), PrintStop>
-    requires units { length units.now ≡ length chars.now }
-    requires room { length units.now ≤ room_of room.old }
+    requires units { length text.now.units.now ≡ length text.now.chars.now }
+    requires room { length text.now.units.now ≤ room_of room.old }
     ensures { OnOk result (Appends (W.contents w.old) (W.contents w.new)
-        (lines_text (mirror_by mirrors.now) chars.now units.now direction (breaks_of units.now columns))) }
+        (lines_text (mirror_by text.now.mirrors.now) text.now.chars.now text.now.units.now direction
+        (breaks_of text.now.units.now columns))) }
 {
+    let units = text.units;
     let positions = breaks_of(alloc, units, columns)?;
     let breaks = Breaks::new(&positions, units.len()).unwrap();
     lay_out_into(room, units, direction, &breaks).unwrap();
-    print_lines(w, mirrors, chars, units, &room.layout())?;
+    print_lines(w, text, &room.layout())?;
     Ok(())
 }
 
@@ -78,9 +77,7 @@ fn print_lines_of<W: Write>(
 fn print_as<W: Write>(
     alloc: Global,
     w: &mut W,
-    tables: &Tables,
-    direction: Direction,
-    form: Form,
+    settings: &Settings<'_>,
     begun: &mut Begun,
 ) -> Result<(), PrintStop>
     requires len { length begun.old.units.items ≡ length begun.old.chars.items }
@@ -89,22 +86,29 @@ fn print_as<W: Write>(
     requires small { chars_so_far begun.old ≤ longest_text }
     requires room { length begun.old.units.items ≤ room_of begun.old.room }
     ensures printed { OnOk result (Appends (W.contents w.old) (W.contents w.new)
-        (printed_units form begun.old.passed tables.now begun.old.chars.items begun.old.units.items direction)) }
+        (printed_units settings.now.form begun.old.passed settings.now.tables.now
+        begun.old.chars.items begun.old.units.items settings.now.direction)) }
     ensures chars { begun.new.chars.items ≡ begun.old.chars.items }
     ensures units { begun.new.units.items ≡ begun.old.units.items }
     ensures passed { begun.new.passed ≡ begun.old.passed }
 {
-    let Begun {
-        passed,
-        chars,
-        units,
-        room,
-    } = begun;
-    match form {
-        Form::Levels => print_levels_of(w, *passed, chars, units, direction, room),
+    match settings.form {
+        Form::Levels => {
+            let Begun {
+                passed,
+                chars,
+                units,
+                room,
+            } = begun;
+            print_levels_of(w, *passed, chars, units, settings.direction, room)
+        }
         Form::Reorder { columns } => {
-            let mirrors = tables.mirrors();
-            print_lines_of(alloc, w, mirrors, chars, units, direction, columns, room)
+            let text = ShownText {
+                mirrors: settings.tables.mirrors(),
+                chars: &begun.chars,
+                units: &begun.units,
+            };
+            print_lines_of(alloc, w, &text, settings.direction, columns, &mut begun.room)
         }
     }
 }
@@ -114,24 +118,23 @@ fn print_as<W: Write>(
 fn print_begun<W: Write>(
     alloc: Global,
     w: &mut W,
-    tables: &Tables,
-    direction: Direction,
-    form: Form,
+    settings: &Settings<'_>,
     begun: &mut Begun,
 ) -> Result<(), PrintStop>
-    requires units { begun.old.units.items ≡ units_by tables.now begun.old.chars.items }
+    requires units { begun.old.units.items ≡ units_by settings.now.tables.now begun.old.chars.items }
     requires some { 0 < length begun.old.chars.items }
     requires one { SeparatorOnlyLast begun.old.units.items }
     requires small { chars_so_far begun.old ≤ longest_text }
     requires few { begun.old.passed.paragraphs ≤ begun.old.passed.characters }
     ensures printed { OnOk result (Appends (W.contents w.old) (W.contents w.new)
-        (printed_after form begun.old.passed tables.now begun.old.chars.items direction)) }
+        (printed_after settings.now.form begun.old.passed settings.now.tables.now begun.old.chars.items
+        settings.now.direction)) }
     ensures chars { OnOk result (begun.new.chars.items ≡ []) }
     ensures units { OnOk result (begun.new.units.items ≡ []) }
     ensures passed { OnOk result (Follows begun.old.passed (length begun.old.chars.items) begun.new.passed) }
 {
     begun.reserve_one(alloc)?;
-    print_as(alloc, w, tables, direction, form, begun)?;
+    print_as(alloc, w, settings, begun)?;
     begun.pass();
     Ok(())
 }
@@ -141,24 +144,22 @@ fn print_begun<W: Write>(
 pub(crate) fn take_character<W: Write>(
     alloc: Global,
     w: &mut W,
-    tables: &Tables,
-    direction: Direction,
-    form: Form,
+    settings: &Settings<'_>,
     begun: &mut Begun,
     character: char,
     unit: Unit,
 ) -> Result<(), PrintStop>
-    requires begun { IsBegun tables.now begun.old }
+    requires begun { IsBegun settings.now.tables.now begun.old }
     requires small { chars_so_far begun.old < longest_text }
-    requires unit { unit ≡ unit_by tables.now character }
-    ensures begun { OnOk result (IsBegun tables.now begun.new) }
+    requires unit { unit ≡ unit_by settings.now.tables.now character }
+    ensures begun { OnOk result (IsBegun settings.now.tables.now begun.new) }
     ensures passed_in { OnOk result (chars_so_far begun.new ≡ chars_so_far begun.old + 1) }
-    ensures printed { OnOk result (PrintsOn form tables.now direction (character ∷ [])
-        (W.contents w.old) (W.contents w.new) begun.old begun.new) }
+    ensures printed { OnOk result (PrintsOn settings.now.form settings.now.tables.now settings.now.direction
+        (character ∷ []) (W.contents w.old) (W.contents w.new) begun.old begun.new) }
 {
     begun.add(character, unit)?;
     if unit.class.is_separator() {
-        print_begun(alloc, w, tables, direction, form, begun)?;
+        print_begun(alloc, w, settings, begun)?;
     }
     Ok(())
 }
@@ -167,18 +168,17 @@ pub(crate) fn take_character<W: Write>(
 pub(crate) fn print_last<W: Write>(
     alloc: Global,
     w: &mut W,
-    tables: &Tables,
-    direction: Direction,
-    form: Form,
+    settings: &Settings<'_>,
     begun: &mut Begun,
 ) -> Result<(), PrintStop>
-    requires begun { IsBegun tables.now begun.old }
+    requires begun { IsBegun settings.now.tables.now begun.old }
     requires small { chars_so_far begun.old ≤ longest_text }
     ensures { OnOk result (Appends (W.contents w.old) (W.contents w.new)
-        (printed_after form begun.old.passed tables.now begun.old.chars.items direction)) }
+        (printed_after settings.now.form begun.old.passed settings.now.tables.now begun.old.chars.items
+        settings.now.direction)) }
 {
     if begun.chars.is_empty() {
         return Ok(());
     }
-    print_begun(alloc, w, tables, direction, form, begun)
+    print_begun(alloc, w, settings, begun)
 }

@@ -10,6 +10,7 @@ use crate::begun::Begun;
 use crate::fault::{PrintFault, PrintStop};
 use crate::form::Form;
 use crate::paragraphs::{print_last, take_character};
+use crate::settings::Settings;
 use std::alloc::Global;
 use std::io::Write;
 use std::num::NonZeroU16;
@@ -20,26 +21,24 @@ use units::level::Direction;
 fn print_each<W: Write>(
     alloc: Global,
     w: &mut W,
-    tables: &Tables,
+    settings: &Settings<'_>,
     text: &[char],
-    direction: Direction,
-    form: Form,
     begun: &mut Begun,
 ) -> Result<(), PrintStop>
     requires small { length text.now ≤ longest_text }
-    requires begun { IsBegun tables.now begun.old }
+    requires begun { IsBegun settings.now.tables.now begun.old }
     requires empty { begun.old.chars.items ≡ [] }
     requires first { begun.old.passed ≡ record { paragraphs = 0; characters = 0 } }
     ensures { OnOk result (Appends (W.contents w.old) (W.contents w.new)
-        (printed_as form tables.now text.now direction)) }
+        (printed_as settings.now.form settings.now.tables.now text.now settings.now.direction)) }
 {
-    let borrowed = tables.units();
+    let borrowed = settings.tables.units();
     for k in 0..text.len() {
         let character = text[k];
         let unit = borrowed.unit(character);
-        take_character(alloc, w, tables, direction, form, begun, character, unit)?;
+        take_character(alloc, w, settings, begun, character, unit)?;
     }
-    print_last(alloc, w, tables, direction, form, begun)
+    print_last(alloc, w, settings, begun)
 }
 
 /// Writes a text in this form, paragraph by paragraph, as `print_levels` and `print_reorder` describe. Each paragraph
@@ -57,7 +56,12 @@ fn print_chars<W: Write>(
         (printed_as form tables.now text.now direction)) }
 {
     let mut begun = Begun::new(alloc)?;
-    print_each(alloc, w, tables, text, direction, form, &mut begun)?;
+    let settings = Settings {
+        tables,
+        direction,
+        form,
+    };
+    print_each(alloc, w, &settings, text, &mut begun)?;
     Ok(())
 }
 

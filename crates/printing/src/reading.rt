@@ -11,6 +11,7 @@ use crate::fault::PrintStop;
 use crate::form::Form;
 use crate::paragraphs::{print_last, take_character};
 use crate::place::TextPlace;
+use crate::settings::Settings;
 use crate::written::Written;
 use std::alloc::Global;
 use std::io::Write;
@@ -64,23 +65,21 @@ impl From<Memory> for TextFault {
 fn take_text<W: Write>(
     alloc: Global,
     w: &mut W,
-    tables: &Tables,
-    direction: Direction,
-    form: Form,
+    settings: &Settings<'_>,
     begun: &mut Begun,
     text: &str,
 ) -> Result<(), PrintStop>
-    requires begun { IsBegun tables.now begun.old }
+    requires begun { IsBegun settings.now.tables.now begun.old }
     requires small { chars_so_far begun.old + length text.now ≤ longest_text }
-    ensures begun { OnOk result (IsBegun tables.now begun.new) }
+    ensures begun { OnOk result (IsBegun settings.now.tables.now begun.new) }
     ensures passed_in { OnOk result (chars_so_far begun.new ≡ chars_so_far begun.old + length (chars text.now)) }
-    ensures printed { OnOk result (PrintsOn form tables.now direction (chars text.now)
-        (W.contents w.old) (W.contents w.new) begun.old begun.new) }
+    ensures printed { OnOk result (PrintsOn settings.now.form settings.now.tables.now settings.now.direction
+        (chars text.now) (W.contents w.old) (W.contents w.new) begun.old begun.new) }
 {
-    let borrowed = tables.units();
+    let borrowed = settings.tables.units();
     for character in text.chars() {
         let unit = borrowed.unit(character);
-        take_character(alloc, w, tables, direction, form, begun, character, unit)?;
+        take_character(alloc, w, settings, begun, character, unit)?;
     }
     Ok(())
 }
@@ -90,24 +89,22 @@ fn take_text<W: Write>(
 fn take_front<W: Write>(
     alloc: Global,
     w: &mut W,
-    tables: &Tables,
-    direction: Direction,
-    form: Form,
+    settings: &Settings<'_>,
     begun: &mut Begun,
     bytes: &[u8],
 ) -> Result<usize, PrintStop>
-    requires begun { IsBegun tables.now begun.old }
+    requires begun { IsBegun settings.now.tables.now begun.old }
     requires small { chars_so_far begun.old + length bytes.now ≤ longest_text }
     ensures taken { IfOk result (λ taken. taken ≡ length (utf8_front bytes.now)) }
-    ensures begun { OnOk result (IsBegun tables.now begun.new) }
+    ensures begun { OnOk result (IsBegun settings.now.tables.now begun.new) }
     ensures passed_in { OnOk result (chars_so_far begun.new
         ≡ chars_so_far begun.old + length (chars (utf8_front bytes.now))) }
-    ensures printed { OnOk result (PrintsOn form tables.now direction (chars (utf8_front bytes.now))
-        (W.contents w.old) (W.contents w.new) begun.old begun.new) }
+    ensures printed { OnOk result (PrintsOn settings.now.form settings.now.tables.now settings.now.direction
+        (chars (utf8_front bytes.now)) (W.contents w.old) (W.contents w.new) begun.old begun.new) }
 {
     let passed = begun.passed.paragraphs;
     let front = utf8_front(bytes);
-    take_text(alloc, w, tables, direction, form, begun, front)?;
+    take_text(alloc, w, settings, begun, front)?;
     if begun.passed.paragraphs > passed {
         w.flush()?;
     }
@@ -175,21 +172,21 @@ fn end_unwritten<S: ByteSource>(
 fn read_text<S: ByteSource, W: Write>(
     alloc: Global,
     w: &mut W,
-    tables: &Tables,
+    settings: &Settings<'_>,
     source: &mut S,
-    direction: Direction,
-    form: Form,
     begun: &mut Begun,
 ) -> Result<(), TextFault>
     requires bound { S.most_remaining source.old ≤ longest_text }
-    requires begun { IsBegun tables.now begun.old }
+    requires begun { IsBegun settings.now.tables.now begun.old }
     requires empty { begun.old.chars.items ≡ [] }
     requires first { begun.old.passed ≡ record { paragraphs = 0; characters = 0 } }
     ensures whole { OnOk result (S.ended source.new) }
     ensures printed { OnOk result ((given : List ℕ) × S.gives source.old given source.new
-        × IsPrinted form tables.now direction given (W.contents w.old) (W.contents w.new)) }
+        × IsPrinted settings.now.form settings.now.tables.now settings.now.direction given
+        (W.contents w.old) (W.contents w.new)) }
     ensures fault { IfErr result (λ fault. (given : List ℕ) × S.gives source.old given source.new
-        × BreaksOff (S.failures source.new ≡ 1) (S.ended source.new) form tables.now direction given
+        × BreaksOff (S.failures source.new ≡ 1) (S.ended source.new)
+        settings.now.form settings.now.tables.now settings.now.direction given
         (W.contents w.old) (W.contents w.new) fault) }
 {
     let written = Written::Whole;
@@ -202,7 +199,7 @@ fn read_text<S: ByteSource, W: Write>(
             Ok(0) => break,
             Ok(n) => {
                 let filled = stored + n;
-                match take_front(alloc, w, tables, direction, form, begun, &buffer[..filled]) {
+                match take_front(alloc, w, settings, begun, &buffer[..filled]) {
                     Ok(taken) => {
                         place = place.after(&buffer[..taken]);
                         stored = hold(&mut buffer, taken, filled);
@@ -217,7 +214,7 @@ fn read_text<S: ByteSource, W: Write>(
     if stored > 0 {
         return Err(TextFault::NotUtf8 { place, written });
     }
-    print_last(alloc, w, tables, direction, form, begun)?;
+    print_last(alloc, w, settings, begun)?;
     Ok(())
 }
 
@@ -256,5 +253,10 @@ pub fn print_source<S: ByteSource, W: Write>(
         (W.contents w.old) (W.contents w.new) fault) }
 {
     let mut begun = Begun::new(alloc)?;
-    read_text(alloc, w, tables, source, direction, form, &mut begun)
+    let settings = Settings {
+        tables,
+        direction,
+        form,
+    };
+    read_text(alloc, w, &settings, source, &mut begun)
 }

@@ -15,6 +15,14 @@ use ucdfiles::mirror_table::MirrorTable;
 use units::bracket::Unit;
 use units::class::Class;
 
+/// A text to be shown: the table of mirrored characters, its characters, and its units.
+#[derive(Clone, Copy)]
+pub(crate) struct ShownText<'a> {
+    pub(crate) mirrors: &'a MirrorTable,
+    pub(crate) chars: &'a [char],
+    pub(crate) units: &'a [Unit],
+}
+
 /// Writes a character in UTF-8, as it is shown, after the waiting bytes, unless the position is a paragraph separator.
 fn print_shown<W: Write>(
     w: &mut W,
@@ -36,42 +44,38 @@ fn print_shown<W: Write>(
 fn print_line<W: Write>(
     w: &mut W,
     waiting: &mut Waiting,
-    mirrors: &MirrorTable,
-    chars: &[char],
-    text: &[Unit],
+    text: &ShownText<'_>,
     layout: &Layout<'_>,
     k: usize,
 ) -> io::Result<()>
-    requires units { length text.now ≡ length chars.now }
-    requires levels { length (view_of layout.now).levels ≡ length chars.now }
+    requires units { length text.now.units.now ≡ length text.now.chars.now }
+    requires levels { length (view_of layout.now).levels ≡ length text.now.chars.now }
     requires line { k < length (view_of layout.now).lines }
     ensures { OnOk result (Appends (with_waiting (W.contents w.old) waiting.old)
         (with_waiting (W.contents w.new) waiting.new)
-        (text_of_line (mirror_by mirrors.now) chars.now text.now (view_of layout.now) k)) }
+        (text_of_line (mirror_by text.now.mirrors.now) text.now.chars.now text.now.units.now (view_of layout.now) k)) }
 {
     let order = layout.line(k).order;
-    for (position, character) in order.iter().zip(layout.shown(mirrors, chars, k)) {
-        print_shown(w, waiting, text[*position].class, character)?;
+    for (position, character) in order.iter().zip(layout.shown(text.mirrors, text.chars, k)) {
+        print_shown(w, waiting, text.units[*position].class, character)?;
     }
     waiting.print(w, '\n')
 }
 
 /// Writes the lines of a text, each from left to right as it is shown (L2, L4), with LF after each.
-pub fn print_lines<W: Write>(
+pub(crate) fn print_lines<W: Write>(
     w: &mut W,
-    mirrors: &MirrorTable,
-    chars: &[char],
-    text: &[Unit],
+    text: &ShownText<'_>,
     layout: &Layout<'_>,
 ) -> io::Result<()>
-    requires units { length text.now ≡ length chars.now }
-    requires levels { length (view_of layout.now).levels ≡ length chars.now }
+    requires units { length text.now.units.now ≡ length text.now.chars.now }
+    requires levels { length (view_of layout.now).levels ≡ length text.now.chars.now }
     ensures { OnOk result (Appends (W.contents w.old) (W.contents w.new)
-        (reorder_text (mirror_by mirrors.now) chars.now text.now (view_of layout.now))) }
+        (reorder_text (mirror_by text.now.mirrors.now) text.now.chars.now text.now.units.now (view_of layout.now))) }
 {
     let mut waiting = Waiting::new();
     for k in 0..layout.line_count() {
-        print_line(w, &mut waiting, mirrors, chars, text, layout, k)?;
+        print_line(w, &mut waiting, text, layout, k)?;
     }
     waiting.write(w)
 }

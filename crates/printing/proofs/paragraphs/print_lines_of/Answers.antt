@@ -11,7 +11,7 @@ use Rattle.printing.proofs.paragraphs.print_lines_of.Goals as goal
 
 pub unwrap-breaks-requires : goal.unwrap-breaks-requires
 unwrap-breaks-requires g c =
-    let breaks : AreBreaks c.deref.result.now (length c.args.units.now) =
+    let breaks : AreBreaks c.deref.result.now (length c.args.text.now.units.now) =
     rw c.deref.ensures.value c.in_ok-positions.ensures.are in
     breaks_are_taken _ _ _ _ breaks c.new.ensures
 
@@ -22,12 +22,13 @@ print_lines-requires-clause-levels g c =
 
 pub returns : goal.returns
 returns g c =
+    let text = c.args.text.now in
     let laid = c.layout.ensures ∙ rw c.unwrap.ensures at c.lay_out_into.ensures.laid_out in
     let made = rw c.unwrap-breaks.ensures at c.new.ensures in
-    let broken = ap (λ (breaks : BreaksView). layout_of standard c.args.units.now c.args.direction breaks.positions)
+    let broken = ap (λ (breaks : BreaksView). layout_of standard text.units.now c.args.direction breaks.positions)
     made.0 in
-    let at = ap (λ positions. layout_of standard c.args.units.now c.args.direction positions) (c.deref.ensures.value ∙
+    let at = ap (λ positions. layout_of standard text.units.now c.args.direction positions) (c.deref.ensures.value ∙
     c.in_ok-positions.ensures.breaks) in
     subst (λ (layout : TextLayout). Appends (g.W.Write.contents c.args.w.now) (g.W.Write.contents c.print_lines.new.w)
-    (reorder_text (mirror_by c.args.mirrors.now) c.args.chars.now c.args.units.now layout)) (laid ∙ broken ∙
+    (reorder_text (mirror_by text.mirrors.now) text.chars.now text.units.now layout)) (laid ∙ broken ∙
     at) c.in_ok-print_lines.ensures

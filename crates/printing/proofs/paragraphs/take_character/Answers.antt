@@ -14,10 +14,11 @@ print_begun-requires-clause-one g c =
 
 pub returns-in_ok-print_begun-clause-printed : goal.returns-in_ok-print_begun-clause-printed
 returns-in_ok-print_begun-clause-printed g c =
+    let settings = c.args.settings.now in
     let plain = subst ArePlain c.requires.begun.units c.requires.begun.plain in
     let ends = ap (λ (u : BidiUnit). is_separator u.class) (sym c.requires.unit) ∙ sym c.is_separator.ensures ∙
     c.if-is_separator.true in
-    last_came c.args.form c.args.tables.now c.args.direction c.args.character _ _ c.args.begun.now c.add.new.self
+    last_came settings.form settings.tables.now settings.direction c.args.character _ _ c.args.begun.now c.add.new.self
     c.print_begun.new.begun
     c.in_ok-add.ensures.passed c.in_ok-add.ensures.chars plain ends
     c.in_ok-print_begun.ensures.chars c.in_ok-print_begun.ensures.passed c.in_ok-print_begun.ensures.printed
@@ -25,7 +26,7 @@ returns-in_ok-print_begun-clause-printed g c =
 pub returns-else-is_separator-clause-begun : goal.returns-else-is_separator-clause-begun
 returns-else-is_separator-clause-begun g c =
     let old = c.args.begun.now in
-    let tables = c.args.tables.now in
+    let tables = c.args.settings.now.tables.now in
     let added = c.in_ok-add.ensures in
     record {
       units = added.units
@@ -39,5 +40,6 @@ returns-else-is_separator-clause-begun g c =
 
 pub returns-else-is_separator-clause-printed : goal.returns-else-is_separator-clause-printed
 returns-else-is_separator-clause-printed g c =
-    one_came c.args.form c.args.tables.now c.args.direction c.args.character _ _ c.args.begun.now c.add.new.self
+    let settings = c.args.settings.now in
+    one_came settings.form settings.tables.now settings.direction c.args.character _ _ c.args.begun.now c.add.new.self
     c.in_ok-add.ensures.passed c.in_ok-add.ensures.chars refl

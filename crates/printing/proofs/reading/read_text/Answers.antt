@@ -14,8 +14,8 @@ pub loop-n-init : goal.loop-n-init
 loop-n-init g c =
     let begun = c.requires in
     record {
-      read = subst (HasRead g.S.ByteSource.gives g.S.ByteSource.most_remaining c.args.form c.args.tables.now
-          c.args.direction c.args.source.now c.args.source.now
+      read = subst (HasRead g.S.ByteSource.gives g.S.ByteSource.most_remaining c.args.settings.now.form
+          c.args.settings.now.tables.now c.args.settings.now.direction c.args.source.now c.args.source.now
           (g.W.Write.contents c.args.w.now) (g.W.Write.contents c.args.w.now) c.args.begun.now c.args.begun.now [])
           (sym c.start-place.ensures)
           (nothing_read _ _ _ _ _ _ _ _ (g.met.S.ByteSource.gives_nothing _) begun.bound begun.begun begun.empty

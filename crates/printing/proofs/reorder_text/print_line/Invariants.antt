@@ -11,7 +11,7 @@ use Rattle.printing.proofs.reorder_text.print_line.Given as goal
 abbrev pub invariant-loop-position : goal.invariant-loop-position
 invariant-loop-position g l =
     let view = view_of l.fn.layout in
-    HasShown (mirror_by l.fn.mirrors) view.levels l.fn.chars l.fn.text
+    HasShown (mirror_by l.fn.text.mirrors.now) view.levels l.fn.text.chars.now l.fn.text.units.now
     (with_waiting (g.W.Write.contents l.initial.w) l.initial.waiting) (with_waiting (g.W.Write.contents l.w) l.waiting)
     (slice_index_or view.lines l.fn.k no_line).order (iter_rest (zip_first l.position-iterator))
     (remaining_shown (zip_second l.position-iterator))
