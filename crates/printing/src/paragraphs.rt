@@ -108,7 +108,14 @@ fn print_as<W: Write>(
                 chars: &begun.chars,
                 units: &begun.units,
             };
-            print_lines_of(alloc, w, &text, settings.direction, columns, &mut begun.room)
+            print_lines_of(
+                alloc,
+                w,
+                &text,
+                settings.direction,
+                columns,
+                &mut begun.room,
+            )
         }
     }
 }
