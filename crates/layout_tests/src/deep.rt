@@ -1,5 +1,5 @@
 //! Rows of many units: explicit levels and open brackets up to their limits, and nested isolates.
-use crate::given::{append_units, levels, repeated, shows_in_room, unit, units_of};
+use crate::given::{Expected, append_units, levels, repeated, shows_in_room, unit, units_of};
 use lines::breaks::Breaks;
 use lines::lay_out::lay_out_into_with;
 use lines::scratch::Scratch;
@@ -30,9 +30,14 @@ fn write_last_level(levels: &mut Vec<Option<Level>>, end: usize, level: u8) -> R
 fn remains_at(rt: &impl Abort, alloc: Global, text: &[Unit], level: u8) -> Result<(), Fail> {
     assert!(rt; text.len() > 0);
     let end = text.len() - 1;
-    let mut expected = Vec::new(alloc);
-    write_last_level(&mut expected, end, level)?;
-    shows_in_room(rt, alloc, 256, text, Direction::Ltr, &expected, &[end])
+    let mut levels = Vec::new(alloc);
+    write_last_level(&mut levels, end, level)?;
+    let order = [end];
+    let expected = Expected {
+        levels: &levels,
+        order: &order,
+    };
+    shows_in_room(rt, alloc, 256, text, Direction::Ltr, &expected)
 }
 
 /// Lays out RLE and LRE 62 times, then these classes. Only the last unit remains, and its level is compared.
@@ -66,10 +71,14 @@ fn stays_after_embeddings(
 ) -> Result<(), Fail> {
     let mut text = vec![in alloc; unit(Class::LRE); 63]?;
     append_units(&mut text, following)?;
-    let mut expected = Vec::new(alloc);
-    repeated(&mut expected, 63, 127)?;
-    repeated(&mut expected, order.len(), 124)?;
-    shows_in_room(rt, alloc, 128, &text, Direction::Ltr, &expected, order)
+    let mut levels = Vec::new(alloc);
+    repeated(&mut levels, 63, 127)?;
+    repeated(&mut levels, order.len(), 124)?;
+    let expected = Expected {
+        levels: &levels,
+        order,
+    };
+    shows_in_room(rt, alloc, 128, &text, Direction::Ltr, &expected)
 }
 
 /// X5a: an isolate initiator inside an overflow of embeddings overflows too. The units inside it stay at level 124.
@@ -149,11 +158,15 @@ fn shows_turned(
     alloc: Global,
     room: usize,
     text: &[Unit],
-    expected: &[Option<Level>],
+    levels: &[Option<Level>],
     rising: usize,
 ) -> Result<(), Fail> {
     let order = turned(alloc, rising, text.len())?;
-    shows_in_room(rt, alloc, room, text, Direction::Ltr, expected, &order)
+    let expected = Expected {
+        levels,
+        order: &order,
+    };
+    shows_in_room(rt, alloc, room, text, Direction::Ltr, &expected)
 }
 
 /// Lays out the text with `n` brackets of each kind. The last closing ones get the level `closing`.

@@ -91,6 +91,13 @@ pub fn numbers(alloc: Global, text: &str) -> Result<Vec<usize>, Fail> {
     Ok(numbers)
 }
 
+/// The expected levels and order of a text on one line.
+#[derive(Clone, Copy)]
+pub struct Expected<'a> {
+    pub levels: &'a [Option<Level>],
+    pub order: &'a [usize],
+}
+
 /// Compares the levels and the order of a layout of one line.
 fn is_one_line(rt: &impl Abort, layout: &Layout, levels: &[Option<Level>], order: &[usize]) {
     assert_eq!(rt; layout.levels(), levels);
@@ -104,10 +111,9 @@ pub fn shows(
     room: &mut Scratch,
     text: &[Unit],
     direction: Direction,
-    levels: &[Option<Level>],
-    order: &[usize],
+    expected: &Expected,
 ) -> Result<(), Fail> {
-    shows_counting::<Brand>(rt, room, text, direction, levels, order, Blank::new(1))
+    shows_counting::<Brand>(rt, room, text, direction, expected, Blank::new(1))
 }
 
 /// Does the same, with a counter of steps that begins with the blank.
@@ -116,8 +122,7 @@ fn shows_counting<K: Ledger>(
     room: &mut Scratch,
     text: &[Unit],
     direction: Direction,
-    levels: &[Option<Level>],
-    order: &[usize],
+    expected: &Expected,
     blank: Blank,
 ) -> Result<(), Fail>
     requires name { blank.name ≡ K.name }
@@ -127,7 +132,7 @@ fn shows_counting<K: Ledger>(
     let mut steps = Steps::<K>::new(blank);
     let breaks = Breaks::new(&[], text.len())?;
     let layout = lay_out(room, text, direction, &breaks, &mut steps)?;
-    is_one_line(rt, &layout, levels, order);
+    is_one_line(rt, &layout, expected.levels, expected.order);
     Ok(())
 }
 
@@ -138,11 +143,10 @@ pub fn shows_in_room(
     most: usize,
     text: &[Unit],
     direction: Direction,
-    levels: &[Option<Level>],
-    order: &[usize],
+    expected: &Expected,
 ) -> Result<(), Fail> {
     let mut room = Scratch::with_room(alloc, most)?;
-    shows(rt, &mut room, text, direction, levels, order)
+    shows(rt, &mut room, text, direction, expected)
 }
 
 /// Appends the level with this number `count` times, or none if there is no such level.

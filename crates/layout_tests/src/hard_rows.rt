@@ -1,6 +1,6 @@
 //! Small texts that engines got wrong and that no line of BidiCharacterTest.txt has. Each is listed with the rule that
 //! it shows, and uses the built-in tables.
-use crate::given::{levels, numbers, shows_in_room, units_by};
+use crate::given::{Expected, levels, numbers, shows_in_room, units_by};
 use lines::breaks::Breaks;
 use lines::lay_out::lay_out_into;
 use lines::scratch::Scratch;
@@ -276,7 +276,11 @@ fn shows_row(rt: &impl Abort, alloc: Global, tables: &Tables, row: &Row) -> Resu
     let text = units_by(alloc, tables, row.text)?;
     let levels = levels(alloc, row.levels)?;
     let order = numbers(alloc, row.order)?;
-    shows_in_room(rt, alloc, 8, &text, row.direction, &levels, &order)
+    let expected = Expected {
+        levels: &levels,
+        order: &order,
+    };
+    shows_in_room(rt, alloc, 8, &text, row.direction, &expected)
 }
 
 #[test]
@@ -294,15 +298,19 @@ fn embeddings_that_an_engine_missed(rt: HostRuntime) -> Result<(), Fail> {
     let alloc = rt.alloc();
     let tables = standard::tables();
     let mut text = String::new(alloc);
-    let mut expected = Vec::new(alloc);
+    let mut levels = Vec::new(alloc);
     for _ in 0..31 {
         text.push('\u{202A}')?;
-        expected.push(None)?;
+        levels.push(None)?;
     }
     text.push('a')?;
-    expected.push(Level::new(62))?;
+    levels.push(Level::new(62))?;
     let text = units_by(alloc, &tables, &text)?;
-    shows_in_room(&rt, alloc, 32, &text, Direction::Ltr, &expected, &[31])
+    let expected = Expected {
+        levels: &levels,
+        order: &[31],
+    };
+    shows_in_room(&rt, alloc, 32, &text, Direction::Ltr, &expected)
 }
 
 /// Lays out the text of a row on its two lines, and compares its levels and the order of each line.

@@ -2,7 +2,7 @@
 ghost use Rattle.lines.specs.Scratches.{IsFilled};
 ghost use Rattle.std.specs.Prelude.{◌≡◌, OnOk};
 
-use crate::given::{levels, numbers, shows, unit, units_of};
+use crate::given::{Expected, levels, numbers, shows, unit, units_of};
 use lines::alone::{SEARCH_STEPS, SpanFault};
 use lines::breaks::{BreakFault, Breaks};
 use lines::lay_out::{TooLong, lay_out_into, line_alone_into, set_lines_into};
@@ -63,10 +63,14 @@ fn lays_out_broken(rt: &impl Abort, room: &mut Scratch, text: &[Unit]) -> Result
 /// Lays out this text a thousand times, with a break and on one line.
 fn lays_out_often(rt: &impl Abort, room: &mut Scratch) -> Result<(), Fail> {
     let text = [unit(Class::R), unit(Class::WS), unit(Class::R)];
-    let whole = [Level::new(1), Level::new(1), Level::new(1)];
+    let levels = [Level::new(1), Level::new(1), Level::new(1)];
+    let whole = Expected {
+        levels: &levels,
+        order: &[2, 1, 0],
+    };
     for _ in 0..1_000 {
         lays_out_broken(rt, room, &text)?;
-        shows(rt, room, &text, Direction::Ltr, &whole, &[2, 1, 0])?;
+        shows(rt, room, &text, Direction::Ltr, &whole)?;
     }
     Ok(())
 }
@@ -163,8 +167,12 @@ fn fails_then_lays_out(rt: &impl Abort, room: &mut Scratch) -> Result<(), Fail> 
     let outcome = lay_out_into(room, &long, Direction::Ltr, &breaks);
     assert_eq!(rt; outcome, Err(TooLong));
     let text = [unit(Class::L), unit(Class::L)];
-    let expected = [Level::new(0), Level::new(0)];
-    shows(rt, room, &text, Direction::Ltr, &expected, &[0, 1])
+    let levels = [Level::new(0), Level::new(0)];
+    let expected = Expected {
+        levels: &levels,
+        order: &[0, 1],
+    };
+    shows(rt, room, &text, Direction::Ltr, &expected)
 }
 
 #[test]

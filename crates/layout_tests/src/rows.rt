@@ -1,5 +1,5 @@
 //! Rows of one line: their levels and their order.
-use crate::given::{levels, numbers, shows_in_room, units, units_of};
+use crate::given::{Expected, levels, numbers, shows_in_room, units, units_of};
 use std::alloc::Global;
 use std::process::Abort;
 use std::test::Fail;
@@ -19,7 +19,11 @@ struct Row {
 fn shows_row(rt: &impl Abort, alloc: Global, text: &[Unit], row: &Row) -> Result<(), Fail> {
     let levels = levels(alloc, row.levels)?;
     let order = numbers(alloc, row.order)?;
-    shows_in_room(rt, alloc, 8, text, row.direction, &levels, &order)
+    let expected = Expected {
+        levels: &levels,
+        order: &order,
+    };
+    shows_in_room(rt, alloc, 8, text, row.direction, &expected)
 }
 
 /// Texts as characters: brackets that pair.
