@@ -14,6 +14,11 @@ use Rattle.explicit.specs.declared.side.Side.TheVariants.{Unknown}
 use Rattle.room.specs.BaseLevels.{depth_after, first_side}
 use Rattle.room.proofs.BasePass.{HasPassed, side_after, passed_all, passed_more, passed_none}
 
+-- how many units the first paragraph has, depending on its first unit
+pub one_longer : (unit : BidiUnit) (units : List BidiUnit) →
+    first_length (unit ∷ units) ≡ (if is_separator unit.class then 1 else suc (first_length units))
+one_longer unit units = refl
+
 -- the side of the first strong class outside of isolates, up to a separator, if `depth` isolates are open before
 abbrev pub side_from : List BidiUnit → ℕ → Side
 side_from [] depth = Unknown
