@@ -12,6 +12,7 @@ use Rattle.visual.proofs.Passed.{AreGiven}
 use Rattle.room.specs.Looking.{HasParaLevelOf}
 use Rattle.room.specs.Rooms.{RoomOf}
 use Rattle.room.specs.RunsIn.{IsOrderedLine, PutsRuns, WritesRuns, run_in}
+use Rattle.room.specs.Written.{WritesWhole}
 
 -- the next run lies within the line
 pub record IsWithin (line : OrderedLine) (run : VisualRun) : Type 0 where
@@ -27,15 +28,41 @@ run_within line runs old run new order given next =
     record { forward = omega (arith, at.level.some); end = at.level.within }
 
 -- one run more is written
-pub written_run : (room : RoomOf) (runs : List VisualRun) (run : VisualRun) (out out_then : List VisualRun) (count : ℕ)
-    (converted : VisualRun)
-    → length out_then ≡ length out → converted ≡ run_in room run
-    → (count < length out → take (count + 1) out_then ≡ take count out ++ converted ∷ [])
-    → (count ≤ length out → take count out ≡ map (run_in room) runs)
-    → count + 1 ≤ length out_then → take (count + 1) out_then ≡ map (run_in room) (runs ++ run ∷ [])
-written_run room runs run out out_then count converted len is put before le =
-    put (omega (arith, le, len)) ∙ ap (λ (xs : List VisualRun). xs ++ converted ∷ []) (before (omega (arith, le, len)))
-    ∙ ap (λ (x : VisualRun). map (run_in room) runs ++ x ∷ []) is ∙ sym (map-append (run_in room) runs (run ∷ []))
+pub written_run : {T : Type 0} (encode : VisualRun → T) (runs : List VisualRun) (run : VisualRun)
+    (out out_then : List T) (count : ℕ) (encoded : T)
+    → length out_then ≡ length out → encoded ≡ encode run
+    → (count < length out → take (count + 1) out_then ≡ take count out ++ encoded ∷ [])
+    → (count ≤ length out → take count out ≡ map encode runs)
+    → count + 1 ≤ length out_then → take (count + 1) out_then ≡ map encode (runs ++ run ∷ [])
+written_run {T} encode runs run out out_then count encoded len is put before le =
+    put (omega (arith, le, len)) ∙ ap (λ (xs : List T). xs ++ encoded ∷ []) (before (omega (arith, le, len)))
+    ∙ ap (λ (x : T). map encode runs ++ x ∷ []) is ∙ sym (map-append encode runs (run ∷ []))
+
+-- all runs of a line are written, because it has no more than there are places
+pub all_written : {T : Type 0} (encode : VisualRun → T) (line : OrderedLine) (count : ℕ) (old new : List T)
+    (puts : PutsRuns encode line count old new)
+    → length new ≡ length old → HasAtMost line (length old) → WritesWhole (map encode puts.runs) count old new
+all_written encode line count old new puts len few =
+    let n : length (map encode puts.runs) ≡ count = length-map puts.runs encode ∙ sym puts.counted in
+    let fits : length puts.runs ≤ length old = few puts.runs puts.are in
+    record {
+      count = sym n;
+      written = λ _. ap (λ (m : ℕ). take m new) n ∙ puts.written (omega (arith, puts.counted, fits, len));
+      following = ap (λ (m : ℕ). drop m new) n ∙ puts.following ∙ ap (λ (m : ℕ). drop m old) (sym n);
+      unchanged = λ short. absurd (omega (arith, short, fits, puts.counted, n));
+    }
+
+-- none is, because it has more
+pub none_written : {T : Type 0} (encode : VisualRun → T) (line : OrderedLine) (count : ℕ) (old : List T)
+    (has : HasRuns line count) → length old < count → WritesWhole (map encode has.runs) count old old
+none_written encode line count old has few =
+    let n : length (map encode has.runs) ≡ count = length-map has.runs encode ∙ sym has.counted in
+    record {
+      count = sym n;
+      written = λ fits. absurd (omega (arith, few, fits, n));
+      following = refl;
+      unchanged = λ _. refl;
+    }
 
 -- the line has the number k, and is in a paragraph with its level
 pub record IsLineOf (room : RoomOf) (k : ℕ) (line : OrderedLine) : Type 0 where
@@ -53,40 +80,25 @@ line_of_layout room k start para line is begins level = record {
 
 module _ (room : RoomOf) (k : ℕ) (line : OrderedLine) (of : IsLineOf room k line) where
   -- all runs of the line are written
-  pub all_put : (count : ℕ) (old new : List VisualRun) → PutsRuns room line count old new → length new ≡ length old →
-      HasAtMost line (length old) → WritesRuns room k count old new
-  all_put count old new puts len few =
-      let n : length (map (run_in room) puts.runs) ≡ count = length-map puts.runs (run_in room) ∙ sym puts.counted in
-      let fits : length puts.runs ≤ length old = few puts.runs puts.are in
-      record {
-        line = line;
-        is = of.is;
-        para = of.para;
-        runs = puts.runs;
-        are = puts.are;
-        writes = record {
-          count = sym n;
-          written = λ _. ap (λ (m : ℕ). take m new) n ∙ puts.written (omega (arith, puts.counted, fits, len));
-          following = ap (λ (m : ℕ). drop m new) n ∙ puts.following ∙ ap (λ (m : ℕ). drop m old) (sym n);
-          unchanged = λ short. absurd (omega (arith, short, fits, puts.counted, n));
-        };
-      }
+  pub all_put : (count : ℕ) (old new : List VisualRun) → PutsRuns (run_in room) line count old new →
+      length new ≡ length old → HasAtMost line (length old) → WritesRuns room k count old new
+  all_put count old new puts len few = record {
+    line = line;
+    is = of.is;
+    para = of.para;
+    runs = puts.runs;
+    are = puts.are;
+    writes = all_written (run_in room) line count old new puts len few;
+  }
 
   -- none is
   pub none_put : (count : ℕ) (old : List VisualRun) → HasRuns line count → length old < count →
       WritesRuns room k count old old
-  none_put count old has few =
-      let n : length (map (run_in room) has.runs) ≡ count = length-map has.runs (run_in room) ∙ sym has.counted in
-      record {
-        line = line;
-        is = of.is;
-        para = of.para;
-        runs = has.runs;
-        are = has.are;
-        writes = record {
-          count = sym n;
-          written = λ fits. absurd (omega (arith, few, fits, n));
-          following = refl;
-          unchanged = λ _. refl;
-        };
-      }
+  none_put count old has few = record {
+    line = line;
+    is = of.is;
+    para = of.para;
+    runs = has.runs;
+    are = has.are;
+    writes = none_written (run_in room) line count old has few;
+  }

@@ -21,12 +21,13 @@ abbrev pub run_in : RoomOf → VisualRun → VisualRun
 run_in room run =
     record { start = offset_in room run.start; end = offset_in room run.end; level = run.level; shown = run.shown }
 
--- L2: the runs of a line are counted, and written so if all fit; what comes after them is unchanged
-pub record PutsRuns (room : RoomOf) (line : OrderedLine) (count : ℕ) (old new : List VisualRun) : Type 0 where
+-- L2: the runs of a line are counted, and written encoded if all fit; what comes after them is unchanged
+pub record PutsRuns {T : Type 0} (encode : VisualRun → T) (line : OrderedLine) (count : ℕ) (old new : List T) :
+    Type 0 where
   pub runs : List VisualRun
   pub are : AreRunsOf line runs
   pub counted : count ≡ length runs
-  pub written : count ≤ length new → take count new ≡ map (run_in room) runs
+  pub written : count ≤ length new → take count new ≡ map encode runs
   pub following : drop count new ≡ drop count old
 
 -- L2: the runs of the line with the number k, in its paragraph, are counted, and written so whole or not at all

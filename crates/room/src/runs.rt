@@ -54,7 +54,7 @@ impl Room {
         requires order { IsInOrder line.now }
         requires inside { line.now.end ≤ characters_in self.now }
         ensures len { length out.new ≡ length out.old }
-        ensures runs { PutsRuns self.now line.now result out.old out.new }
+        ensures runs { PutsRuns (run_in self.now) line.now result out.old out.new }
     {
         let mut count = 0;
         for run in Runs::of(*line) {

@@ -1,8 +1,8 @@
 use Rattle.std.proofs.Common.{◌++◌, ◌∷◌, [], arith, ◌∙◌}
 use Rattle.visual.proofs.Converted.{converted-following, converted-len, converted-rest}
 use Rattle.visual.proofs.Passed.{all_given, given_more, length_more}
-use Rattle.room.proofs.RunLists.{run_within}
-use Rattle.room.proofs.RunLists.{written_run}
+use Rattle.room.specs.RunsIn.{run_in}
+use Rattle.room.proofs.RunLists.{run_within, written_run}
 use Rattle.room.proofs.room.Room.put_runs.Goals as goal
 
 pub loop-run-preserved : goal.loop-run-preserved
@@ -20,8 +20,8 @@ loop-run-preserved c =
         runs ++ run ∷ [],
         given_more c.args.line.now runs c.loop-run.run-iterator run c.next.new.self i.3.1 c.in-Some.ensures.steps,
         omega (arith, n, i.3.2),
-        written_run c.args.self.now runs run c.loop-run.out c.put.new.out c.loop-run.count c.in_units.result len
-            c.in_units.ensures put i.3.3,
+        written_run (run_in c.args.self.now) runs run c.loop-run.out c.put.new.out c.loop-run.count c.in_units.result
+            len c.in_units.ensures put i.3.3,
         converted-rest c.args.out.now c.loop-run.out c.put.new.out c.loop-run.count c.in_units.result c.put.ensures
             i.3.4,
       ),
