@@ -1,38 +1,35 @@
-use Rattle.std.specs.Prelude.{slice_set}
-use Rattle.std.proofs.Common.{◌≡◌, ◌∙◌, ◌<◌, ℕ, List, Option, None, ap, arith, get_or, inl, inr, length, subst, sym}
-use Rattle.std.proofs.lemmas.Bool.{cases_eq}
-use Rattle.std.proofs.lemmas.List.{get_or_default, get_or-set_other, get_or-set_same}
+use Rattle.std.proofs.Common.{◌≡◌, ◌∙◌, ◌<◌, ◌≤◌, ◌+◌, ℕ, List, Option, None, ap, arith, get_or, inl, inr, length, sym}
+use Rattle.std.proofs.lemmas.Bool.{cases_lt}
+use Rattle.std.proofs.lemmas.List.{get_or_default}
 use Rattle.units.specs.Layout.{TextLayout}
-use Rattle.room.specs.Looking.{IsAt, size_in}
-use Rattle.room.specs.Rooms.{offset_by}
-use Rattle.room.proofs.LevelPass.{at_inside, at_position, one_character}
+use Rattle.room.specs.Looking.{size_in}
+use Rattle.room.specs.Rooms.{characters_in, offset_by, offset_in}
+use Rattle.room.proofs.LevelPass.{at_inside, at_position, one_more}
 use Rattle.room.proofs.room.Room.fill_levels.Goals as goal
 
-pub loop-at-preserved : goal.loop-at-preserved
-loop-at-preserved c =
+pub loop-k-preserved : goal.loop-k-preserved
+loop-k-preserved c =
     let room = c.args.self.now in
-    let l = c.loop-at in
-    let here = c.next_at-k.result in
-    let is = c.next_at-k.ensures in
-    let lt : l.at < length l.out = omega (arith, l.auto.out, c.loop-at-test.true) in
+    let l = c.loop-k in
     let levels : c.levels-levels.result.now ≡ room.layout.levels = c.levels-levels.ensures ∙
     ap (λ (v : TextLayout). v.levels) c.layout-layout.ensures.layout in
-    let inside : here < length c.levels-levels.result.now = omega (arith, ap length levels, is.inside) in
-    let level = c.index-levels-k.is ∙
-    get_or_default c.levels-levels.result.now here c.index-levels-k.result None inside ∙
-    ap (λ (vs : List (Option ℕ)). get_or vs here None) levels in (
-      λ more. (is.inside, omega (arith, is.from), omega (arith, is.before)),
-      λ i j before of. elim (cases_eq i l.at) [
-        | inl last ↦
-            let character : j ≡ here =
-            one_character room c.offsets_rise.ensures.rising l.at j here (subst (λ (n : ℕ). IsAt room n j) last of)
-            is in
-            ap (λ (n : ℕ). get_or (slice_set l.out l.at c.index-levels-k.result) n None) last ∙
-            get_or-set_same l.out l.at c.index-levels-k.result None lt ∙ level
-            ∙ ap (λ (n : ℕ). get_or room.layout.levels n None) (sym character)
-        | inr other ↦ get_or-set_other l.out l.at i c.index-levels-k.result None other ∙
-            l.invariant.1 i j (omega (arith, before, other)) of
-      ],
+    let within : l.k < length c.levels-levels.result.now = omega (arith, c.loop-k-test.true, l.auto.k-end) in
+    let inside : l.k < characters_in room = omega (arith, ap length levels, within) in
+    let whole : offset_in room (l.k + 1) ≤ size_in room = elim (cases_lt (l.k + 1) (characters_in room)) [
+      | inl lt ↦ let up = c.offsets_rise.ensures.rising (l.k + 1) (characters_in room) lt (omega arith) in
+          omega (arith, up)
+      | inr ge ↦ let same = ap (offset_in room) {x = l.k + 1} {y = characters_in room} (omega (arith, ge, inside)) in
+          omega (arith, same)
+    ] in
+    let fits : c.offset_of-to.result ≤ length l.out =
+    omega (arith, whole, c.offset_of-to.ensures, l.auto.out, c.requires) in
+    let level : c.index-levels-k.result ≡ get_or room.layout.levels l.k None = c.index-levels-k.is ∙
+    get_or_default c.levels-levels.result.now l.k c.index-levels-k.result None within ∙
+    ap (λ (vs : List (Option ℕ)). get_or vs l.k None) levels in (
+      c.offset_of-to.ensures,
+      one_more room c.offsets_rise.ensures.rising (λ (level : Option ℕ). level) None l.out c.put.new.out l.k l.from
+          c.offset_of-to.result c.index-levels-k.result l.invariant.0 c.offset_of-to.ensures inside fits level
+          c.put.ensures.put c.put.ensures.others l.invariant.1,
     )
 
 pub copy_from_slice-requires : goal.copy_from_slice-requires
@@ -53,6 +50,11 @@ returns-then-is_plain-clause-levels c at k is =
 
 pub returns-clause-levels : goal.returns-clause-levels
 returns-clause-levels c at k is =
-    let l = c.loop-at in
-    let inside = at_inside c.args.self.now c.offsets_rise.ensures.rising at k is in
-    l.invariant.1 at k (omega (arith, inside, l.auto.out, c.loop-at-test.false, c.requires)) is
+    let room = c.args.self.now in
+    let l = c.loop-k in
+    let levels : c.levels-levels.result.now ≡ room.layout.levels = c.levels-levels.ensures ∙
+    ap (λ (v : TextLayout). v.levels) c.layout-layout.ensures.layout in
+    let all : l.k ≡ characters_in room = omega (arith, ap length levels, c.loop-k-test.false, l.auto.k-end) in
+    let end = ap (offset_in room) {x = l.k} {y = characters_in room} all in
+    let inside = at_inside room c.offsets_rise.ensures.rising at k is in
+    l.invariant.1 at k (omega (arith, inside, end, l.invariant.0)) is
