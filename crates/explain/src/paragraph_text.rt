@@ -19,6 +19,15 @@ use units::bracket::Unit;
 use units::class::Class;
 use units::level::Direction;
 
+/// Where a paragraph is in its text.
+#[derive(Clone, Copy)]
+pub struct ParagraphPlace {
+    /// The number of the paragraph, counted from 0.
+    pub number: usize,
+    /// The position of the text at which the paragraph begins.
+    pub start: usize,
+}
+
 /// Returns the class of the position `p` after a rule.
 fn class_after(columns: &Columns, rule: Rule, p: usize, size: usize) -> Class
     requires length { HaveLength columns.now size }
@@ -175,26 +184,24 @@ fn print_foot<W: Write>(w: &mut W, columns: &Columns, start: usize, size: usize)
 
 /// Writes the text of a paragraph: its heading, the lines of its positions, and its foot.
 ///
-/// `columns` are the results of each rule, and `chars` are the characters of the whole text, if they are known. The
-/// paragraph has the number `number`, counted from 0, and begins at `start` of the text.
+/// `columns` are the results of each rule, and `chars` are the characters of the whole text, if they are known.
 pub fn print_paragraph<W: Write>(
     w: &mut W,
     chars: &[char],
     para: &[Unit],
     columns: &Columns,
     direction: Direction,
-    start: usize,
-    number: usize,
+    place: ParagraphPlace,
 ) -> io::Result<()>
-    requires start { start ≤ longest_text }
+    requires start { place.start ≤ longest_text }
     requires small { length para.now ≤ longest_text }
     requires length { HaveLength columns.now (length para.now) }
     requires inside { NamesInside columns.now (length para.now) }
     ensures { OnOk result (Appends (W.contents w.old) (W.contents w.new)
-        (paragraph_explained chars.now para.now columns.now direction start number)) }
+        (paragraph_explained chars.now para.now columns.now direction place.start place.number)) }
 {
-    let decider = decider_of(direction, para, start, columns.first_strong());
-    print_heading(w, number, columns.para_level(), decider)?;
-    print_position_lines(w, chars, para, columns, start)?;
-    print_foot(w, columns, start, para.len())
+    let decider = decider_of(direction, para, place.start, columns.first_strong());
+    print_heading(w, place.number, columns.para_level(), decider)?;
+    print_position_lines(w, chars, para, columns, place.start)?;
+    print_foot(w, columns, place.start, para.len())
 }

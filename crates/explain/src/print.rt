@@ -7,7 +7,7 @@ ghost use Rattle.ucdfiles.specs.Tables.{units_by};
 ghost use Rattle.printing.specs.Fronts.{FaultLeavesFront};
 ghost use Rattle.explain.specs.Explained.{explained, explained_classes, explained_from, explained_units, plain_unit};
 
-use crate::paragraph_text::print_paragraph;
+use crate::paragraph_text::{ParagraphPlace, print_paragraph};
 use explicit::paragraphs;
 use printing::fault::PrintFault;
 use rule_columns::columns::columns_of;
@@ -52,27 +52,25 @@ fn written(outcome: io::Result<()>) -> Result<(), PrintFault>
     Ok(outcome?)
 }
 
-/// Writes what the rules do to a paragraph. It has the number `number` and begins at `start` of the text. `chars` are
-/// the characters of the text, if they are known.
+/// Writes what the rules do to a paragraph. `chars` are the characters of the text, if they are known.
 fn explain_paragraph<W: Write>(
     alloc: Global,
     w: &mut W,
     chars: &[char],
     para: &[Unit],
     direction: Direction,
-    start: usize,
-    number: usize,
+    place: ParagraphPlace,
 ) -> Result<(), PrintFault>
     requires separators { SeparatorOnlyLast para.now }
-    requires start { start ≤ longest_text }
+    requires start { place.start ≤ longest_text }
     requires small { length para.now ≤ longest_text }
     ensures text { OnOk result (Appends (W.contents w.old) (W.contents w.new)
-        (explained_from chars.now para.now direction start number)) }
+        (explained_from chars.now para.now direction place.start place.number)) }
     ensures fault { IfErr result (FaultLeavesFront
-        (explained_from chars.now para.now direction start number) (W.contents w.old) (W.contents w.new)) }
+        (explained_from chars.now para.now direction place.start place.number) (W.contents w.old) (W.contents w.new)) }
 {
     let columns = columns_of(alloc, para, direction)?;
-    written(print_paragraph(w, chars, para, &columns, direction, start, number))
+    written(print_paragraph(w, chars, para, &columns, direction, place))
 }
 
 /// Writes what `print_explained` writes, for a text of the given units. `chars` are the characters of the text. If they
@@ -93,7 +91,8 @@ pub fn print_units<W: Write>(
 {
     let mut start = 0;
     for (number, para) in paragraphs(text).enumerate() {
-        explain_paragraph(alloc, w, chars, para, direction, start, number)?;
+        let place = ParagraphPlace { number, start };
+        explain_paragraph(alloc, w, chars, para, direction, place)?;
         start += para.len();
     }
     Ok(())
