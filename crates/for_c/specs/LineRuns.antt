@@ -1,5 +1,5 @@
 -- All visual runs of a line, as C gets them.
-use Rattle.std.specs.Prelude.{ℕ, Bool, true, false, ◌≡◌, ◌<◌, ◌≤◌, List, [], length, map, take}
+use Rattle.std.specs.Prelude.{ℕ, Bool, true, false, ◌≡◌, ◌<◌, ◌≤◌, List, [], length, map}
 use Rattle.visual.specs.LineRuns.{AreRunsOf}
 use Rattle.visual.specs.declared.line.OrderedLine.{OrderedLine}
 use Rattle.visual.specs.declared.runs.VisualRun.{VisualRun}
@@ -14,14 +14,6 @@ use Rattle.for_c.specs.declared.runs.BidiRun.{BidiRun}
 abbrev pub returned_run : RoomOf → Bool → VisualRun → BidiRun
 returned_run room true run = run_for_c (run_in room run)
 returned_run room false run = run_for_c run
-
--- L2: the runs of a line are counted, and written so if all fit
-pub record PutsRuns (room : RoomOf) (in_units : Bool) (line : OrderedLine) (count : ℕ) (out : List BidiRun) :
-    Type 0 where
-  pub runs : List VisualRun
-  pub are : AreRunsOf line runs
-  pub counted : count ≡ length runs
-  pub written : count ≤ length out → take count out ≡ map (returned_run room in_units) runs
 
 -- L2: these are the runs of the line with the number k, in its paragraph
 pub record AreRunsAt (room : RoomOf) (k : ℕ) (runs : List VisualRun) : Type 0 where

@@ -2,13 +2,14 @@
 ghost use Rattle.std.specs.Prelude.{◌≡◌, ◌≤◌, length};
 ghost use Rattle.visual.specs.VisualRuns.{IsInOrder};
 ghost use Rattle.room.specs.Rooms.{characters_in};
-ghost use Rattle.for_c.specs.LineRuns.{PutsRuns, WritesRuns, returned_run};
+ghost use Rattle.room.specs.RunsIn.{PutsRuns};
+ghost use Rattle.for_c.specs.LineRuns.{WritesRuns, returned_run};
 
 use crate::runs::{BidiRun, run_for_c};
 use room::room::Room;
 use room::runs::ordered_line;
 use visual::line::OrderedLine;
-use visual::line_runs::{Runs, put};
+use visual::line_runs::{Runs, put, runs_above};
 use visual::runs::VisualRun;
 
 /// Returns a run as C gets it, in units of the text's source or in positions of its characters.
@@ -31,7 +32,7 @@ fn put_runs(room: &Room, line: &OrderedLine<'_>, in_units: bool, out: &mut [Bidi
     requires order { IsInOrder line.now }
     requires inside { line.now.end ≤ characters_in room.now }
     ensures len { length out.new ≡ length out.old }
-    ensures runs { PutsRuns room.now in_units line.now result out.new }
+    ensures runs { PutsRuns (returned_run room.now in_units) line.now result out.old out.new }
 {
     let mut count = 0;
     for run in Runs::of(*line) {
@@ -54,9 +55,8 @@ pub fn write_runs(room: &Room, k: usize, in_units: bool, out: &mut [BidiRun]) ->
     }
     let start = layout.line(k).start;
     let line = ordered_line(&layout, k, room.para_level_of(start));
-    let count = put_runs(room, &line, in_units, &mut []);
-    if count <= out.len() {
-        put_runs(room, &line, in_units, &mut out[..count]);
+    if let Some(count) = runs_above(&line, out.len()) {
+        return count;
     }
-    count
+    put_runs(room, &line, in_units, out)
 }

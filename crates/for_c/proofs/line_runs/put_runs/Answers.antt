@@ -1,8 +1,7 @@
 use Rattle.std.proofs.Common.{◌++◌, ◌∷◌, [], arith, ◌∙◌}
-use Rattle.visual.proofs.Converted.{converted-following, converted-len}
+use Rattle.visual.proofs.Converted.{converted-following, converted-len, converted-rest}
 use Rattle.visual.proofs.Passed.{all_given, given_more, length_more}
-use Rattle.room.proofs.RunLists.{run_within}
-use Rattle.for_c.proofs.LineRunLists.{written_run}
+use Rattle.room.proofs.RunLists.{run_within, written_run}
 use Rattle.for_c.specs.LineRuns.{returned_run}
 use Rattle.for_c.proofs.line_runs.put_runs.Goals as goal
 
@@ -23,6 +22,8 @@ loop-run-preserved c =
         omega (arith, n, i.3.2),
         written_run (returned_run c.args.room.now c.args.in_units) runs run c.loop-run.out c.put.new.out
             c.loop-run.count c.returned_run.result len c.returned_run.ensures put i.3.3,
+        converted-rest c.args.out.now c.loop-run.out c.put.new.out c.loop-run.count c.returned_run.result c.put.ensures
+            i.3.4,
       ),
     )
 
@@ -48,4 +49,5 @@ returns-clause-runs c =
       are = all_given c.args.line.now i.3.0 c.loop-run.run-iterator i.3.1 c.in-None.ensures.steps c.requires.order;
       counted = i.3.2;
       written = i.3.3;
+      following = i.3.4;
     }
