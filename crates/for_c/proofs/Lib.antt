@@ -3,6 +3,5 @@ pub mod CasesReturned
 mod FileFaults
 mod LineLengths
 mod VerdictsBy
-pub mod LevelBytesWritten
 pub mod LineRunLists
 pub mod LinesInBytes

@@ -42,7 +42,7 @@ pub fn level_byte_at(room: &Room, at: usize) -> u8
 }
 
 /// Writes the level of each unit as a byte to `out`, which has as many items.
-#[tactic(auto, using(crate::proofs::LevelBytesWritten::one_more))]
+#[tactic(auto, using(room::proofs::LevelPass::one_more))]
 fn fill_level_bytes(room: &Room, out: &mut [u8])
     requires { length out.old ≡ size_in room.now }
     ensures len { length out.new ≡ length out.old }

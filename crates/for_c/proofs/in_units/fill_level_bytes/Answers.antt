@@ -4,9 +4,8 @@ use Rattle.std.proofs.lemmas.List.{get_or_default}
 use Rattle.units.specs.Layout.{TextLayout}
 use Rattle.room.specs.Rooms.{characters_in, offset_in}
 use Rattle.room.specs.Looking.{size_in}
-use Rattle.room.proofs.LevelPass.{at_inside}
+use Rattle.room.proofs.LevelPass.{at_inside, one_more}
 use Rattle.for_c.specs.LevelBytes.{level_byte}
-use Rattle.for_c.proofs.LevelBytesWritten.{one_more}
 use Rattle.for_c.proofs.in_units.fill_level_bytes.Goals as goal
 
 pub loop-k-preserved : goal.loop-k-preserved
@@ -31,7 +30,7 @@ loop-k-preserved c =
     let level : c.byte_of.result ≡ level_byte (get_or room.layout.levels l.k None) =
     c.byte_of.ensures ∙ ap level_byte item in (
       c.offset_of-to.ensures,
-      one_more room c.offsets_rise.ensures.rising l.out c.put.new.out l.k l.from c.offset_of-to.result
+      one_more room c.offsets_rise.ensures.rising level_byte 0 l.out c.put.new.out l.k l.from c.offset_of-to.result
           c.byte_of.result l.invariant.0 c.offset_of-to.ensures inside fits level c.put.ensures.put c.put.ensures.others
           l.invariant.1,
     )
