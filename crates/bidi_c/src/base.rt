@@ -136,8 +136,8 @@ pub extern "C" fn bidi_base_level_utf8(
         (PutsBaseLevelAt (tables_at tables.old) (Utf8 text.now Rejected) direction
         level.old level.new) result place.old place.new }
 {
-    let source = Source::Utf8(text, Faults::Rejected);
-    status_and_place(base_level(tables, source, direction, level), place)
+    let utf8 = Source::Utf8(text, Faults::Rejected);
+    status_and_place(base_level(tables, utf8, direction, level), place)
 }
 
 /// Writes the level of each paragraph of a text of bytes of UTF-8 under a direction (P1 to P3), in their order, to
@@ -156,8 +156,8 @@ pub extern "C" fn bidi_base_levels_utf8(
     ensures levels { ReturnsStatusNaming place_named (PutsBaseLevelsAt (tables_at tables.old) (Utf8 text.now Rejected)
         direction levels.old levels.new count.old count.new) result place.old place.new }
 {
-    let source = Source::Utf8(text, Faults::Rejected);
-    status_and_place(base_levels(tables, source, direction, levels, count), place)
+    let utf8 = Source::Utf8(text, Faults::Rejected);
+    status_and_place(base_levels(tables, utf8, direction, levels, count), place)
 }
 
 /// Writes 1 to `stays` if a text of bytes of UTF-8 has only classes that stay at level 0, else 0. If it writes 1, all
@@ -174,8 +174,8 @@ pub extern "C" fn bidi_is_left_to_right_utf8(
     ensures stays { ReturnsStatusNaming place_named (PutsLeftToRightAt (tables_at tables.old) (Utf8 text.now Rejected)
         stays.old stays.new) result place.old place.new }
 {
-    let source = Source::Utf8(text, Faults::Rejected);
-    status_and_place(is_left_to_right(tables, source, stays), place)
+    let utf8 = Source::Utf8(text, Faults::Rejected);
+    status_and_place(is_left_to_right(tables, utf8, stays), place)
 }
 
 /// Writes the level of the first paragraph of a text of code units of UTF-16 under a direction (P1 to P3) to `level`.
@@ -193,8 +193,8 @@ pub extern "C" fn bidi_base_level_utf16(
         (PutsBaseLevelAt (tables_at tables.old) (Utf16 text.now Rejected) direction
         level.old level.new) result place.old place.new }
 {
-    let source = Source::Utf16(text, Faults::Rejected);
-    status_and_place(base_level(tables, source, direction, level), place)
+    let utf16 = Source::Utf16(text, Faults::Rejected);
+    status_and_place(base_level(tables, utf16, direction, level), place)
 }
 
 /// Writes the level of each paragraph of a text of code units of UTF-16 under a direction (P1 to P3), in their order,
@@ -213,8 +213,8 @@ pub extern "C" fn bidi_base_levels_utf16(
     ensures levels { ReturnsStatusNaming place_named (PutsBaseLevelsAt (tables_at tables.old) (Utf16 text.now Rejected)
         direction levels.old levels.new count.old count.new) result place.old place.new }
 {
-    let source = Source::Utf16(text, Faults::Rejected);
-    status_and_place(base_levels(tables, source, direction, levels, count), place)
+    let utf16 = Source::Utf16(text, Faults::Rejected);
+    status_and_place(base_levels(tables, utf16, direction, levels, count), place)
 }
 
 /// Writes 1 to `stays` if a text of code units of UTF-16 has only classes that stay at level 0, else 0. If it writes 1,
@@ -231,6 +231,6 @@ pub extern "C" fn bidi_is_left_to_right_utf16(
     ensures stays { ReturnsStatusNaming place_named (PutsLeftToRightAt (tables_at tables.old) (Utf16 text.now Rejected)
         stays.old stays.new) result place.old place.new }
 {
-    let source = Source::Utf16(text, Faults::Rejected);
-    status_and_place(is_left_to_right(tables, source, stays), place)
+    let utf16 = Source::Utf16(text, Faults::Rejected);
+    status_and_place(is_left_to_right(tables, utf16, stays), place)
 }
