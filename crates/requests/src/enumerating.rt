@@ -26,38 +26,46 @@ use std::alloc::Global;
 use std::io::Write;
 use units::level::Direction;
 
-/// Prints the texts of this form with the given lengths and letters, each under the given directions.
+/// The lengths of the texts, and the directions of each text.
+#[derive(Clone, Copy)]
+struct RowOptions<'d> {
+    lengths: Lengths,
+    directions: &'d [Direction],
+}
+
+/// Prints the texts of this form over the given letters, with these options.
 fn print_form<'a, W: Write>(
     alloc: Global,
     kind: Kind<'_>,
     form: RowsForm,
     letters: &[Letter],
-    lengths: Lengths,
-    directions: &[Direction],
+    options: RowOptions<'_>,
     out: &mut W,
 ) -> Result<(), Fault<'a>>
     requires { All (IsLetterOf kind) letters.now }
-    ensures printed { OnOk result (HasPrintedTexts kind.entry form directions.now
-        (texts_over letters.now lengths.least lengths.greatest) (W.contents out.old) (W.contents out.new)) }
+    ensures printed { OnOk result (HasPrintedTexts kind.entry form options.entry.directions.now
+        (texts_over letters.now options.entry.lengths.least options.entry.lengths.greatest)
+        (W.contents out.old) (W.contents out.new)) }
     ensures fault { IfErr result (FailsIn (making_part form
-        (texts_over letters.now lengths.least lengths.greatest) ∷ []) (W.contents out.old) (W.contents out.new)) }
+        (texts_over letters.now options.entry.lengths.least options.entry.lengths.greatest) ∷ [])
+        (W.contents out.old) (W.contents out.new)) }
     ensures memory { IfErr result (MemoryLeaves (W.contents out.old) (W.contents out.new)) }
 {
+    let Lengths { least, greatest } = options.lengths;
     match form {
         RowsForm::Exhaustive => {
-            let texts = match Exhaustive::new(letters, lengths.least, lengths.greatest) {
+            let texts = match Exhaustive::new(letters, least, greatest) {
                 Ok(texts) => texts,
                 Err(fault) => return Err(Fault::NoRows(fault)),
             };
-            print_exhaustive(alloc, out, kind, &texts, directions)?;
+            print_exhaustive(alloc, out, kind, &texts, options.directions)?;
         }
         RowsForm::Random { seed, count } => {
-            let Lengths { least, greatest } = lengths;
             let texts = match Random::new(letters, least, greatest, seed, count as usize) {
                 Ok(texts) => texts,
                 Err(fault) => return Err(Fault::NoRows(fault)),
             };
-            print_random(alloc, out, kind, &texts, directions)?;
+            print_random(alloc, out, kind, &texts, options.directions)?;
         }
     }
     Ok(())
@@ -79,21 +87,20 @@ fn letters_of_classes<'a>(alloc: Global, letters: RowLetters<'a>) -> Result<Vec<
     }
 }
 
-/// Prints the requested rows of characters, after it has read their tables. `characters`, `lengths` and `directions`
-/// are those of the request.
+/// Prints the requested rows of characters, after it has read their tables. `characters` and `options` are those of the
+/// request.
 fn print_of_characters<'a, F: Files, W: Write>(
     alloc: Global,
     asked: AskedRows<'a>,
     characters: &[char],
-    lengths: Lengths,
-    directions: &[Direction],
+    options: RowOptions<'_>,
     files: &F,
     out: &mut W,
 ) -> Result<(), Fault<'a>>
     requires kind { asked.kind ≡ FileKind.Characters }
     requires characters { chars_asked asked.letters ≡ Some characters.now }
-    requires lengths { lengths_named asked.lengths.now ≡ Some (lengths.least, lengths.greatest) }
-    requires directions { SaysDirections asked.directions.now directions.now }
+    requires lengths { lengths_named asked.lengths.now ≡ Some (options.lengths.least, options.lengths.greatest) }
+    requires directions { SaysDirections asked.directions.now options.directions.now }
     ensures printed { OnOk result
         (HasPrintedRows (F.facts files.now) asked.entry (W.contents out.old) (W.contents out.new)) }
     ensures fault { IfErr result
@@ -107,8 +114,7 @@ fn print_of_characters<'a, F: Files, W: Write>(
         Kind::Characters(&tables),
         asked.form,
         &letters,
-        lengths,
-        directions,
+        options,
         out,
     )
 }
@@ -131,27 +137,23 @@ pub fn print_rows<'a, F: Files, W: Write>(
 {
     let lengths = lengths_in(asked.lengths)?;
     let directions = directions_in(alloc, asked.directions)?;
+    let options = RowOptions {
+        lengths,
+        directions: &directions,
+    };
     match asked.kind {
         FileKind::Classes => {
             let letters = letters_of_classes(alloc, asked.letters)?;
-            print_form(
-                alloc,
-                Kind::Classes,
-                asked.form,
-                &letters,
-                lengths,
-                &directions,
-                out,
-            )
+            print_form(alloc, Kind::Classes, asked.form, &letters, options, out)
         }
         FileKind::Characters => match asked.letters {
             RowLetters::Alphabet(codes) => {
                 let characters = read_all(alloc, &CodePoints, codes)?;
-                print_of_characters(alloc, asked, &characters, lengths, &directions, files, out)
+                print_of_characters(alloc, asked, &characters, options, files, out)
             }
             RowLetters::OfForm(form) => {
                 let characters = form.characters();
-                print_of_characters(alloc, asked, characters, lengths, &directions, files, out)
+                print_of_characters(alloc, asked, characters, options, files, out)
             }
         },
     }

@@ -32,10 +32,10 @@ returns-in_err-letters-in-Classes-clause-fault g c =
 
 pub returns-in-Classes-clause-fault : goal.returns-in-Classes-clause-fault
 returns-in-Classes-clause-fault g c =
-    let are : letters_asked file.Classes c.args.asked.letters ≡ Some c.deref.result.now = search rules in
+    let are : letters_asked file.Classes c.args.asked.letters ≡ Some c.deref-in-Classes.result.now = search rules in
     of_classes_fail (g.F.Files.facts c.args.files.now) c.args.asked c.in_ok-lengths.lengths.least
     c.in_ok-lengths.lengths.greatest _
-    c.in_ok-lengths.ensures.lengths c.in_ok-directions.ensures.directions _ _ c.deref.result.now
+    c.in_ok-lengths.ensures.lengths c.in_ok-directions.ensures.directions _ _ c.deref-in-Classes.result.now
     c.in-Classes.is are c.print_form.result c.print_form.ensures.fault
 
 pub returns-in_err-characters-in-Alphabet-clause-fault : goal.returns-in_err-characters-in-Alphabet-clause-fault
