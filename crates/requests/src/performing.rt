@@ -12,11 +12,11 @@ use crate::items::{chars_in, classes_in};
 use crate::judging::judge_file;
 use crate::outcome::Outcome;
 use crate::reading::text_in_file;
-use crate::reporting::report_file;
+use crate::reporting::{AskedReport, report_file};
 use crate::request::{Print, Request, TableSource};
 use crate::row_explaining::explain_row;
 use crate::table_source::tables_by;
-use crate::text_printing::print_text;
+use crate::text_printing::{AskedText, print_text};
 use crate::text_rows::print_text_rows;
 use explain::print::{print_explained, print_explained_classes};
 use printing::form::Form;
@@ -24,48 +24,44 @@ use std::alloc::Global;
 use std::io::Write;
 use units::level::Direction;
 
-/// Prints what each rule does to the text of FILE, with the tables of this source. The tables are read first.
+/// Prints what each rule does to the text of FILE, with the requested tables. The tables are read first.
 fn explain_file<'a, F: Files, W: Write>(
     alloc: Global,
-    source: TableSource<'a>,
-    direction: Direction,
-    file: &'a str,
+    asked: AskedText<'a>,
     files: &F,
     out: &mut W,
 ) -> Result<(), Fault<'a>>
-    ensures printed { OnOk result (HasPrinted (F.facts files.now) (printed_text Print.Explained direction)
-        source.entry file.now (W.contents out.old) (W.contents out.new)) }
-    ensures fault { IfErr result (FailsIn (whole_parts (F.facts files.now) source.entry file.now)
+    ensures printed { OnOk result (HasPrinted (F.facts files.now) (printed_text Print.Explained asked.entry.direction)
+        asked.entry.tables asked.entry.file.now (W.contents out.old) (W.contents out.new)) }
+    ensures fault { IfErr result (FailsIn (whole_parts (F.facts files.now) asked.entry.tables asked.entry.file.now)
         (W.contents out.old) (W.contents out.new)) }
 {
-    let tables = tables_by(alloc, files, source)?;
-    let text = text_in_file(alloc, file, files)?;
-    print_explained(alloc, out, &tables, &text, direction)?;
+    let tables = tables_by(alloc, files, asked.tables)?;
+    let text = text_in_file(alloc, asked.file, files)?;
+    print_explained(alloc, out, &tables, &text, asked.direction)?;
     Ok(())
 }
 
-/// Prints the text of FILE as requested, with the tables of this source. The tables are read first.
+/// Prints the text of FILE as requested, with the requested tables. The tables are read first.
 fn print_file<'a, F: Files, W: Write>(
     alloc: Global,
-    source: TableSource<'a>,
-    direction: Direction,
-    file: &'a str,
+    asked: AskedText<'a>,
     print: Print,
     files: &F,
     out: &mut W,
 ) -> Result<(), Fault<'a>>
-    ensures printed { OnOk result (HasPrinted (F.facts files.now) (printed_text print direction)
-        source.entry file.now (W.contents out.old) (W.contents out.new)) }
-    ensures fault { IfErr result (Fails (F.facts files.now)
-        (W.contents out.old) (W.contents out.new) (TextOf source.entry direction file.entry print)) }
+    ensures printed { OnOk result (HasPrinted (F.facts files.now) (printed_text print asked.entry.direction)
+        asked.entry.tables asked.entry.file.now (W.contents out.old) (W.contents out.new)) }
+    ensures fault { IfErr result (Fails (F.facts files.now) (W.contents out.old) (W.contents out.new)
+        (TextOf asked.entry.tables asked.entry.direction asked.entry.file print)) }
 {
     match print {
-        Print::Levels => print_text(alloc, source, direction, file, Form::Levels, files, out),
+        Print::Levels => print_text(alloc, asked, Form::Levels, files, out),
         Print::Reorder { columns } => {
             let form = Form::Reorder { columns };
-            print_text(alloc, source, direction, file, form, files, out)
+            print_text(alloc, asked, form, files, out)
         }
-        Print::Explained => explain_file(alloc, source, direction, file, files, out),
+        Print::Explained => explain_file(alloc, asked, files, out),
     }
 }
 
@@ -125,7 +121,14 @@ pub fn perform<'a, F: Files, W: Write>(
             direction,
             file,
             print,
-        } => print_file(alloc, tables, direction, file, print, files, out)?,
+        } => {
+            let asked = AskedText {
+                tables,
+                direction,
+                file,
+            };
+            print_file(alloc, asked, print, files, out)?
+        }
         Request::ExplainClasses { classes, direction } => {
             explain_classes(alloc, classes, direction, out)?
         }
@@ -143,7 +146,15 @@ pub fn perform<'a, F: Files, W: Write>(
             tables,
             file,
             options,
-        } => return report_file(alloc, kind, tables, file, options, files, out),
+        } => {
+            let asked = AskedReport {
+                kind,
+                tables,
+                file,
+                options,
+            };
+            return report_file(alloc, asked, files, out);
+        }
         Request::Rows(asked) => print_rows(alloc, asked, files, out)?,
         Request::RowsOf(asked) => print_text_rows(alloc, asked, files, out)?,
     }

@@ -65,23 +65,38 @@ fn report_as<'a, F: Files, W: Write>(
     }
 }
 
-/// Reports on FILE as a file of this kind. If tables are needed and none are named, nothing is opened.
+/// The report that is to be printed.
+#[derive(Clone, Copy)]
+pub struct AskedReport<'a> {
+    /// The kind of the file.
+    pub kind: FileKind,
+    /// The tables. Only a file of characters needs them.
+    pub tables: Option<TableSource<'a>>,
+    pub file: &'a str,
+    pub options: ReportOptions,
+}
+
+/// Reports on FILE as a file of the requested kind. If tables are needed and none are named, nothing is opened.
 pub fn report_file<'a, F: Files, W: Write>(
     alloc: Global,
-    kind: FileKind,
-    tables: Option<TableSource<'a>>,
-    file: &'a str,
-    options: ReportOptions,
+    asked: AskedReport<'a>,
     files: &F,
     out: &mut W,
 ) -> Result<Outcome, Fault<'a>>
-    ensures done { IfOk result (IsDone (F.facts files.now)
-        (W.contents out.old) (W.contents out.new) (ReportOf kind tables.entry file.entry options)) }
-    ensures fault { IfErr result (Fails (F.facts files.now)
-        (W.contents out.old) (W.contents out.new) (ReportOf kind tables.entry file.entry options)) }
+    ensures done { IfOk result (IsDone (F.facts files.now) (W.contents out.old) (W.contents out.new)
+        (ReportOf asked.entry.kind asked.entry.tables asked.entry.file asked.entry.options)) }
+    ensures fault { IfErr result (Fails (F.facts files.now) (W.contents out.old) (W.contents out.new)
+        (ReportOf asked.entry.kind asked.entry.tables asked.entry.file asked.entry.options)) }
     ensures memory { IfErr result (MemoryLeaves (W.contents out.old) (W.contents out.new)) }
 {
-    let tables = row_tables(alloc, files, kind, tables)?;
-    let status = report_as(alloc, rows_by(&tables), file, options, files, out)?;
+    let tables = row_tables(alloc, files, asked.kind, asked.tables)?;
+    let status = report_as(
+        alloc,
+        rows_by(&tables),
+        asked.file,
+        asked.options,
+        files,
+        out,
+    )?;
     Ok(Outcome::Judged(status))
 }

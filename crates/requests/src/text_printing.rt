@@ -15,7 +15,15 @@ use std::alloc::Global;
 use std::io::Write;
 use units::level::Direction;
 
-/// Prints the text of FILE in this form, with the tables of this source. The tables are read first. Each paragraph is
+/// The text that is to be printed.
+#[derive(Clone, Copy)]
+pub struct AskedText<'a> {
+    pub tables: TableSource<'a>,
+    pub direction: Direction,
+    pub file: &'a str,
+}
+
+/// Prints the text of FILE in this form, with the requested tables. The tables are read first. Each paragraph is
 /// printed and flushed as soon as its end is read.
 ///
 /// Fails:
@@ -25,35 +33,33 @@ use units::level::Direction;
 /// - at once, if nobody reads the output any more, or if an allocation fails.
 pub fn print_text<'a, F: Files, W: Write>(
     alloc: Global,
-    source: TableSource<'a>,
-    direction: Direction,
-    file: &'a str,
+    asked: AskedText<'a>,
     form: Form,
     files: &F,
     out: &mut W,
 ) -> Result<(), Fault<'a>>
     ensures printed { OnOk result (HasPrinted (F.facts files.now)
-        (λ tables text. printed_as form tables text direction) source.entry file.now
+        (λ tables text. printed_as form tables text asked.entry.direction) asked.entry.tables asked.entry.file.now
         (W.contents out.old) (W.contents out.new)) }
-    ensures fault { IfErr result (FailsToPrint (F.facts files.now) form direction source.entry
-        file.now (W.contents out.old) (W.contents out.new)) }
+    ensures fault { IfErr result (FailsToPrint (F.facts files.now) form asked.entry.direction asked.entry.tables
+        asked.entry.file.now (W.contents out.old) (W.contents out.new)) }
 {
-    let tables = tables_by(alloc, files, source)?;
-    let mut opened = open(alloc, files, file, MOST_TEXT_BYTES)?;
-    match print_source(alloc, out, &tables, &mut opened, direction, form) {
+    let tables = tables_by(alloc, files, asked.tables)?;
+    let mut opened = open(alloc, files, asked.file, MOST_TEXT_BYTES)?;
+    match print_source(alloc, out, &tables, &mut opened, asked.direction, form) {
         Ok(()) => Ok(()),
         Err(TextFault::Write) => Err(Fault::CannotWrite),
         Err(TextFault::NobodyReads) => Err(Fault::NobodyReads),
         Err(TextFault::Memory) => Err(Fault::OutOfMemory),
         Err(TextFault::NotUtf8 { place, written }) => Err(Fault::NotUtf8 {
-            name: file,
+            name: asked.file,
             place,
             written,
         }),
         Err(TextFault::Read { written }) => {
             let unread = files.unread(&opened);
             Err(Fault::CannotRead {
-                name: file,
+                name: asked.file,
                 folder: None,
                 most: MOST_TEXT_BYTES,
                 unread,

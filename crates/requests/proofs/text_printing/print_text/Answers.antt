@@ -36,7 +36,7 @@ pub returns-in-Err-Write-clause-fault : goal.returns-in-Err-Write-clause-fault
 returns-in-Err-Write-clause-fault g c =
     let given = rw c.in-Err-Write.field-0-is at c.in-Err-Write.ensures.fault in
     let opened = c.in_ok-opened.ensures.opened in
-    write_fails _ c.args.form c.args.direction _ _ _ _ c.in_ok-tables.ensures.tables _ given.0
+    write_fails _ c.args.form c.args.asked.direction _ _ _ _ c.in_ok-tables.ensures.tables _ given.0
     (g.met.F.Files.gave _ _ _ _ _ _ opened given.1)
     (g.met.F.Files.gave_all _ _ _ _ _ _ opened given.1 given.2.0) given.2.1
 
