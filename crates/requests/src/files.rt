@@ -68,7 +68,7 @@ pub trait Files {
 
     ghost gave: { (files : Self) (origin : Origin) (most : ℕ) (opened now : Self.Source) (bytes : List ℕ)
         → opens files origin most opened → Self.Source.gives opened bytes now →
-            (facts files).Begins origin most bytes };
+        (facts files).Begins origin most bytes };
 
     ghost gave_all: { (files : Self) (origin : Origin) (most : ℕ) (opened now : Self.Source) (bytes : List ℕ)
         → opens files origin most opened → Self.Source.gives opened bytes now → Self.Source.ended now
