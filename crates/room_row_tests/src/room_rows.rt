@@ -1,5 +1,5 @@
 //! Texts of every kind in a room: the levels, lines, orders, places and runs, in the units of the source.
-use crate::given::{Fixture, lays_out};
+use crate::given::{lay_out, tables};
 use decoding::fault::Faults;
 use room::lookups::Line;
 use room::places::NOWHERE;
@@ -7,6 +7,7 @@ use room::room::Room;
 use sources::source::Source;
 use std::process::Abort;
 use std::test::Fail;
+use ucdfiles::tables::Tables;
 use units::level::{Direction, Level, ParaLevel};
 use visual::runs::VisualRun;
 
@@ -314,21 +315,23 @@ fn holds(rt: &impl Abort, room: &Room, row: &Row) {
 }
 
 /// Lays out a text, and compares what the room returns for it.
-fn is_laid_out(rt: &impl Abort, fixture: &mut Fixture, row: &Row) {
-    lays_out(rt, fixture, row.source, row.direction, row.breaks);
-    holds(rt, &fixture.room, row);
+fn is_laid_out(rt: &impl Abort, room: &mut Room, tables: &Tables, row: &Row) {
+    let done = lay_out(room, tables, row.source, row.direction, row.breaks);
+    assert_eq!(rt; done, Ok(()));
+    holds(rt, room, row);
 }
 
 /// Lays out and compares each text, one after another in one room.
-fn are_laid_out(rt: &impl Abort, fixture: &mut Fixture) {
+fn are_laid_out(rt: &impl Abort, room: &mut Room, tables: &Tables) {
     for row in &ROWS {
-        is_laid_out(rt, fixture, row);
+        is_laid_out(rt, room, tables, row);
     }
 }
 
 #[test]
 fn lays_out_each_source(rt: HostRuntime) -> Result<(), Fail> {
-    let mut fixture = Fixture::new(rt.alloc(), 13, true)?;
-    are_laid_out(&rt, &mut fixture);
+    let tables = tables(rt.alloc())?;
+    let mut room = Room::with_room(rt.alloc(), 13, true)?;
+    are_laid_out(&rt, &mut room, &tables);
     Ok(())
 }

@@ -1,5 +1,5 @@
 //! Lines of a text in a room as they are shown: code points, bytes and code units of 16 bits.
-use crate::given::{Fixture, lays_out};
+use crate::given::{lay_out, tables};
 use decoding::fault::Faults;
 use room::room::Room;
 use sources::source::Source;
@@ -17,61 +17,44 @@ fn shows(rt: &impl Abort, room: &Room, tables: &Tables, codes: &[u32], k: usize,
     assert_eq!(rt; out.get(..count), Some(shown), "line {k}");
 }
 
-/// Lays out these code points in two lines, and compares both shown lines.
-fn shows_codes(rt: &impl Abort, fixture: &mut Fixture, codes: &[u32]) {
-    let text = Source::Codes(codes);
-    lays_out(rt, fixture, text, Direction::Rtl, &[2]);
-    let (room, tables) = (&fixture.room, &fixture.tables);
-    shows(rt, room, tables, codes, 0, &[0x3E, 0x5D0]);
-    shows(rt, room, tables, codes, 1, &[0x5D1, 0x61]);
-}
-
 #[test]
 fn shows_code_points(rt: HostRuntime) -> Result<(), Fail> {
-    let mut fixture = Fixture::new(rt.alloc(), 4, false)?;
-    shows_codes(&rt, &mut fixture, &[0x5D0, 0x3C, 0x61, 0x5D1]);
+    let tables = tables(rt.alloc())?;
+    let mut room = Room::with_room(rt.alloc(), 4, false)?;
+    let codes = [0x5D0, 0x3C, 0x61, 0x5D1];
+    lay_out(
+        &mut room,
+        &tables,
+        Source::Codes(&codes),
+        Direction::Rtl,
+        &[2],
+    )?;
+    shows(&rt, &room, &tables, &codes, 0, &[0x3E, 0x5D0]);
+    shows(&rt, &room, &tables, &codes, 1, &[0x5D1, 0x61]);
     Ok(())
-}
-
-/// Lays out classes, and compares the shown line of numbers with these classes.
-fn shows_classes(rt: &impl Abort, fixture: &mut Fixture, codes: &[u32]) {
-    let text = Source::Classes(&[1, 13, 1]);
-    lays_out(rt, fixture, text, Direction::Ltr, &[]);
-    let (room, tables) = (&fixture.room, &fixture.tables);
-    shows(rt, room, tables, codes, 0, &[0x110000, 0x3E, 0xD800]);
 }
 
 /// A number that is no scalar value is shown unchanged.
 #[test]
 fn shows_numbers(rt: HostRuntime) -> Result<(), Fail> {
-    let mut fixture = Fixture::new(rt.alloc(), 3, false)?;
-    shows_classes(&rt, &mut fixture, &[0xD800, 0x3C, 0x110000]);
+    let tables = tables(rt.alloc())?;
+    let mut room = Room::with_room(rt.alloc(), 3, false)?;
+    let codes = [0xD800, 0x3C, 0x110000];
+    lay_out(
+        &mut room,
+        &tables,
+        Source::Classes(&[1, 13, 1]),
+        Direction::Ltr,
+        &[],
+    )?;
+    shows(&rt, &room, &tables, &codes, 0, &[0x110000, 0x3E, 0xD800]);
     Ok(())
 }
 
-/// Bytes, a break, and the two shown lines.
-#[derive(Clone, Copy)]
-struct Utf8Row {
-    bytes: &'static [u8],
-    at: usize,
-    first: &'static [u8],
-    second: &'static [u8],
-}
-
-/// The text of the last row is not well formed.
-const UTF8: [Utf8Row; 2] = [
-    Utf8Row {
-        bytes: b"\xD7\x90<a\xD7\x91",
-        at: 3,
-        first: b">\xD7\x90",
-        second: b"\xD7\x91a",
-    },
-    Utf8Row {
-        bytes: b"\xD7\x90 \xF1\x80",
-        at: 3,
-        first: b" \xD7\x90",
-        second: b"\xEF\xBF\xBD",
-    },
+/// Bytes, a break, and the two shown lines. The text of the last row is not well formed.
+const UTF8: [(&[u8], usize, &[u8], &[u8]); 2] = [
+    (b"\xD7\x90<a\xD7\x91", 3, b">\xD7\x90", b"\xD7\x91a"),
+    (b"\xD7\x90 \xF1\x80", 3, b" \xD7\x90", b"\xEF\xBF\xBD"),
 ];
 
 /// Compares a shown line of bytes.
@@ -92,25 +75,21 @@ fn shows_bytes(
 }
 
 /// Lays out bytes in two lines, and compares both shown lines.
-fn shows_two(rt: &impl Abort, fixture: &mut Fixture, row: &Utf8Row) {
-    let text = Source::Utf8(row.bytes, Faults::Replaced);
-    lays_out(rt, fixture, text, Direction::Rtl, &[row.at]);
-    let (room, tables) = (&fixture.room, &fixture.tables);
-    shows_bytes(rt, room, tables, row.bytes, 0, row.first);
-    shows_bytes(rt, room, tables, row.bytes, 1, row.second);
-}
-
-/// Lays out and compares each row, one after another in one room.
-fn show_two(rt: &impl Abort, fixture: &mut Fixture) {
-    for row in &UTF8 {
-        shows_two(rt, fixture, row);
-    }
+fn shows_two(rt: &impl Abort, room: &mut Room, tables: &Tables, row: (&[u8], usize, &[u8], &[u8])) {
+    let (bytes, at, first, second) = row;
+    let text = Source::Utf8(bytes, Faults::Replaced);
+    assert_eq!(rt; lay_out(room, tables, text, Direction::Rtl, &[at]), Ok(()));
+    shows_bytes(rt, room, tables, bytes, 0, first);
+    shows_bytes(rt, room, tables, bytes, 1, second);
 }
 
 #[test]
 fn shows_utf8(rt: HostRuntime) -> Result<(), Fail> {
-    let mut fixture = Fixture::new(rt.alloc(), 6, true)?;
-    show_two(&rt, &mut fixture);
+    let tables = tables(rt.alloc())?;
+    let mut room = Room::with_room(rt.alloc(), 6, true)?;
+    for row in UTF8 {
+        shows_two(&rt, &mut room, &tables, row);
+    }
     Ok(())
 }
 
@@ -131,9 +110,10 @@ fn shows_units(rt: &impl Abort, room: &Room, tables: &Tables, units: &[u16], sho
 
 #[test]
 fn shows_utf16(rt: HostRuntime) -> Result<(), Fail> {
-    let mut fixture = Fixture::new(rt.alloc(), 5, true)?;
+    let tables = tables(rt.alloc())?;
+    let mut room = Room::with_room(rt.alloc(), 5, true)?;
     let text = Source::Utf16(&UTF16, Faults::Replaced);
-    lays_out(&rt, &mut fixture, text, Direction::Rtl, &[]);
-    shows_units(&rt, &fixture.room, &fixture.tables, &UTF16, &UTF16_SHOWN);
+    lay_out(&mut room, &tables, text, Direction::Rtl, &[])?;
+    shows_units(&rt, &room, &tables, &UTF16, &UTF16_SHOWN);
     Ok(())
 }
