@@ -18,47 +18,33 @@ const TABLES: &str = "t/DerivedBidiClass.txt\nt/BidiBrackets.txt\nt/BidiMirrorin
 /// The record of an access to standard input.
 const INPUT: &str = "standard input\n";
 
-/// The expected status, and the names that are to be opened: first those of the tables and then the others, each with
-/// an LF after it.
-#[derive(Clone, Copy)]
-struct Expected<'a> {
-    status: u8,
-    tables: &'a str,
-    others: &'a str,
-}
-
 /// Runs with these arguments, these files and an empty standard input. Compares the status and the names that were
-/// opened.
+/// opened: first those of the tables and then the others, each with an LF after it.
 fn assert_opens(
     rt: &impl Abort,
     alloc: Global,
     words: &[&str],
     files: &[MemoryFile<'_>],
-    expected: &Expected,
+    status: u8,
+    tables: &str,
+    others: &str,
 ) {
     let asked = RefCell::new(String::new(alloc));
     let files = MemoryFiles::new(files).with_input(whole("", b""));
     let files = RecordingFiles::new(files, &asked);
     let (mut out, mut err) = (FixedWriter::new(), FixedWriter::new());
     let ended = run(alloc, words, &files, &mut out, &mut err);
-    assert_eq!(rt; ended.status, expected.status, "{words:?}");
+    assert_eq!(rt; ended.status, status, "{words:?}");
     let Ok(asked) = asked.try_borrow() else {
         return assert!(rt; false, "{words:?}");
     };
-    let rest = asked
-        .strip_prefix(expected.tables)
-        .unwrap_or("other tables");
-    assert_eq!(rt; rest, expected.others, "{words:?}");
+    let rest = asked.strip_prefix(tables).unwrap_or("other tables");
+    assert_eq!(rt; rest, others, "{words:?}");
 }
 
 /// Runs over the tables of the folder `t` and an empty `FILE`, and compares what a successful run opens.
 fn assert_reads(rt: &impl Abort, alloc: Global, words: &[&str], tables: &str, others: &str) {
-    let expected = Expected {
-        status: 0,
-        tables,
-        others,
-    };
-    assert_opens(rt, alloc, words, &tables_and(b""), &expected);
+    assert_opens(rt, alloc, words, &tables_and(b""), 0, tables, others);
 }
 
 #[test]
@@ -75,19 +61,11 @@ fn opens_the_tables_and_then_the_file(rt: HostRuntime) {
 fn opens_the_file_of_a_row(rt: HostRuntime) {
     let alloc = rt.alloc();
     let row = tables_and(b"0061;0;0;0;0\n");
-    let found = Expected {
-        status: 0,
-        tables: TABLES,
-        others: "FILE\n",
-    };
-    assert_opens(&rt, alloc, &EXPLAIN_ROW_OF_CHARACTERS, &row, &found);
+    let words = &EXPLAIN_ROW_OF_CHARACTERS;
+    assert_opens(&rt, alloc, words, &row, 0, TABLES, "FILE\n");
     let none = tables_and(b"");
-    let missing = Expected {
-        status: 2,
-        tables: "",
-        others: "FILE\n",
-    };
-    assert_opens(&rt, alloc, &EXPLAIN_ROW_OF_CLASSES, &none, &missing);
+    let words = &EXPLAIN_ROW_OF_CLASSES;
+    assert_opens(&rt, alloc, words, &none, 2, "", "FILE\n");
 }
 
 /// The arguments for rows of characters, with the tables after all others.
@@ -160,14 +138,9 @@ fn opens_nothing(rt: HostRuntime) {
     let unnamed = ["bidi", "judge", "--kind", "characters", "FILE"];
     let files = tables_and(b"");
     let faulty = ["bidi", "explain", "--tables", "t", "--codes", "05D0 x"];
-    let rejected = Expected {
-        status: 2,
-        tables: "",
-        others: "",
-    };
-    assert_opens(&rt, rt.alloc(), &unnamed, &files, &rejected);
-    assert_opens(&rt, rt.alloc(), &faulty, &files, &rejected);
-    assert_opens(&rt, rt.alloc(), &["bidi", "levels"], &files, &rejected);
+    assert_opens(&rt, rt.alloc(), &unnamed, &files, 2, "", "");
+    assert_opens(&rt, rt.alloc(), &faulty, &files, 2, "", "");
+    assert_opens(&rt, rt.alloc(), &["bidi", "levels"], &files, 2, "", "");
 }
 
 #[test]
@@ -180,22 +153,13 @@ fn opens_the_classes_of_the_folder_extracted(rt: HostRuntime) {
     ];
     let tables =
         "t/DerivedBidiClass.txt\nt/extracted/DerivedBidiClass.txt\nt/BidiBrackets.txt\nt/BidiMirroring.txt\n";
-    let expected = Expected {
-        status: 0,
-        tables,
-        others: "FILE\n",
-    };
-    assert_opens(&rt, rt.alloc(), &LEVELS, &files, &expected);
+    assert_opens(&rt, rt.alloc(), &LEVELS, &files, 0, tables, "FILE\n");
 }
 
 #[test]
 fn opens_no_file_after_a_fault(rt: HostRuntime) {
     let words = ["bidi", "levels", "--tables", "none", "FILE"];
+    let asked = "none/DerivedBidiClass.txt\nnone/extracted/DerivedBidiClass.txt\n";
     let files = tables_and(b"");
-    let expected = Expected {
-        status: 3,
-        tables: "none/DerivedBidiClass.txt\nnone/extracted/DerivedBidiClass.txt\n",
-        others: "",
-    };
-    assert_opens(&rt, rt.alloc(), &words, &files, &expected);
+    assert_opens(&rt, rt.alloc(), &words, &files, 3, asked, "");
 }
