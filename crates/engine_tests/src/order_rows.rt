@@ -25,47 +25,34 @@ use units::limits::Limits;
 use units::memory::Memory;
 use units::steps::Steps;
 
-/// A paragraph: its units, and their classes before W1.
-#[derive(Clone, Copy)]
-struct Paragraph<'a> {
-    units: &'a [Unit],
-    before: &'a [Class],
-}
-
-/// Applies W1 to I2 to a sequence of a paragraph, rule by rule, and counts steps from the blank. `classes` are those to
-/// work on.
+/// Applies W1 to I2 to a sequence, rule by rule, and counts steps from the blank. `before` are the classes of its
+/// paragraph's units, and `classes` those to work on.
 fn resolve_in_order<L: Ledger>(
     s: &Sequence,
-    para: &Paragraph,
+    para: &[Unit],
+    before: &[Class],
     pairs: &mut Pairs,
     classes: &mut [Class],
     levels: &mut [Option<Level>],
     blank: Blank,
 )
-    requires units { length para.now.units.now ≡ s.now.extent }
-    requires before { para.now.before.now ≡ classes_of para.now.units.now }
+    requires units { length para.now ≡ s.now.extent }
+    requires before { before.now ≡ classes_of para.now }
     requires classes { length classes.old ≡ s.now.extent }
     requires levels { length levels.old ≡ s.now.extent }
     requires room { s.now.extent ≤ length pairs.old }
     requires name { blank.name ≡ L.name }
     requires parts { blank.parts ≡ L.parts }
     requires some { 0 < blank.parts }
-    requires copy { classes.old ≡ para.now.before.now }
-    ensures levels { HasLevels standard.brackets s.now para.now.units.now para.now.before.now levels.new }
+    requires copy { classes.old ≡ before.now }
+    ensures levels { HasLevels standard.brackets s.now para.now before.now levels.new }
     ensures other_levels { KeepsOtherLevels s.now.positions levels.old levels.new }
 {
     rules_in_order();
     let mut steps = Steps::<L>::new(blank);
     weak(s, classes, &mut steps);
-    bracket_pairs(
-        s,
-        para.units,
-        classes,
-        Limits::standard(),
-        pairs,
-        &mut steps,
-    );
-    paired(s, para.before, pairs, classes, &mut steps);
+    bracket_pairs(s, para, classes, Limits::standard(), pairs, &mut steps);
+    paired(s, before, pairs, classes, &mut steps);
     neutral(s, classes, &mut steps);
     implicit(s, classes, levels, &mut steps);
 }
@@ -77,20 +64,17 @@ fn classes_of(alloc: Global, para: &[Unit]) -> Result<Vec<Class>, Memory>
 }
 
 /// Returns the resolved levels of a sequence that contains its whole paragraph.
-fn levels_of(alloc: Global, s: &Sequence, units: &[Unit]) -> Result<Vec<Option<Level>>, Memory>
-    requires { length units.now ≡ s.now.extent }
+fn levels_of(alloc: Global, s: &Sequence, para: &[Unit]) -> Result<Vec<Option<Level>>, Memory>
+    requires { length para.now ≡ s.now.extent }
 {
-    let before = classes_of(alloc, units)?;
+    let before = classes_of(alloc, para)?;
     let mut classes = Vec::from_slice(alloc, &before)?;
-    let mut pairs = Pairs::with_room(alloc, units.len())?;
-    let mut levels = vec![in alloc; None; units.len()]?;
-    let para = Paragraph {
-        units,
-        before: &before,
-    };
+    let mut pairs = Pairs::with_room(alloc, para.len())?;
+    let mut levels = vec![in alloc; None; para.len()]?;
     resolve_in_order::<Brand>(
         s,
-        &para,
+        para,
+        &before,
         &mut pairs,
         &mut classes,
         &mut levels,

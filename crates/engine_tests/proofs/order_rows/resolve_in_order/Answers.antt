@@ -8,7 +8,7 @@ use Rattle.engine_tests.proofs.order_rows.resolve_in_order.Goals as goal
 pub paired-requires-clause-filled : goal.paired-requires-clause-filled
 paired-requires-clause-filled g c = record {
   most_open = standard.brackets;
-  units = c.args.para.now.units.now;
+  units = c.args.para.now;
   enough = omega arith;
   pairs = search rules;
   marks = λ p h e. rw (← c.requires.before) e;
@@ -23,8 +23,8 @@ returns-clause-levels g c =
       neutral = c.neutral.new.classes;
       levels = c.implicit.new.levels;
     } in
-    (c.rules_in_order.ensures standard.brackets c.args.s.now c.args.para.now.units.now c.args.para.now.before.now
-    c.args.classes.now c.args.levels.now after (record {
+    (c.rules_in_order.ensures standard.brackets c.args.s.now c.args.para.now c.args.before.now c.args.classes.now
+    c.args.levels.now after (record {
       copy = ap (λ (cs : List Class). classes_at cs c.args.s.now.positions) c.requires.copy;
       weak = c.weak.ensures.classes;
       closers = rw c.standard.ensures at c.bracket_pairs.ensures.pairs;
