@@ -1,10 +1,8 @@
-//! A room with the tables of the small files, and calls that lay out a text in it.
+//! The tables of the small files, and a call that lays out a text in a room.
 use room::fault::LayoutFault;
 use room::room::Room;
 use sources::source::{Ask, Source};
 use std::alloc::Global;
-use std::process::Abort;
-use std::test::Fail;
 use ucdfiles::bracket_table::BracketTable;
 use ucdfiles::class_table::ClassTable;
 use ucdfiles::fault::TableFault;
@@ -16,7 +14,7 @@ use units::limits::Limits;
 use units::slice_source::SliceSource;
 
 /// Returns the tables of the small files.
-fn tables(alloc: Global) -> Result<Tables, TableFault> {
+pub fn tables(alloc: Global) -> Result<Tables, TableFault> {
     Ok(Tables::new(
         ClassTable::read(alloc, &mut SliceSource::new(CLASSES))?,
         BracketTable::read(alloc, &mut SliceSource::new(BRACKETS))?,
@@ -24,47 +22,19 @@ fn tables(alloc: Global) -> Result<Tables, TableFault> {
     ))
 }
 
-/// A room, and the tables for its texts. A test makes and drops both in one value.
-#[derive(Drop)]
-pub struct Fixture {
-    tables: Tables,
-    pub room: Room,
-}
-
-impl Fixture {
-    /// Makes a room for `n` units, with offsets if `encodes`.
-    pub fn new(alloc: Global, n: usize, encodes: bool) -> Result<Fixture, Fail> {
-        Ok(Fixture {
-            tables: tables(alloc)?,
-            room: Room::with_room(alloc, n, encodes)?,
-        })
-    }
-
-    /// Lays out a text with the limits of the standard.
-    pub fn lay_out(
-        &mut self,
-        source: Source<'_>,
-        direction: Direction,
-        breaks: &[usize],
-    ) -> Result<(), LayoutFault> {
-        let ask = Ask {
-            source,
-            direction,
-            breaks,
-            limits: Limits::standard(),
-        };
-        self.room.lay_out(&self.tables, &ask)
-    }
-}
-
-/// Lays out a text, and expects that the room doesn't reject it.
-pub fn lays_out(
-    rt: &impl Abort,
-    fixture: &mut Fixture,
+/// Lays out a text with the limits of the standard.
+pub fn lay_out(
+    room: &mut Room,
+    tables: &Tables,
     source: Source<'_>,
     direction: Direction,
     breaks: &[usize],
-) {
-    let done = fixture.lay_out(source, direction, breaks);
-    assert_eq!(rt; done, Ok(()));
+) -> Result<(), LayoutFault> {
+    let ask = Ask {
+        source,
+        direction,
+        breaks,
+        limits: Limits::standard(),
+    };
+    room.lay_out(tables, &ask)
 }
