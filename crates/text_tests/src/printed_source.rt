@@ -25,13 +25,6 @@ const LINES: &[u8] = b"\n\xD7\x90\n>a\xD7\x90\na\n";
 /// The text as it is shown, each paragraph a line.
 const SHOWN: Form = Form::Reorder { columns: None };
 
-/// The expected output and the expected result.
-#[derive(Clone, Copy)]
-struct Expected<'a> {
-    printed: &'a [u8],
-    end: Result<(), TextFault>,
-}
-
 /// Prints the text of a source. Compares the output and the result.
 fn prints<S: ByteSource>(
     rt: &impl Abort,
@@ -39,13 +32,14 @@ fn prints<S: ByteSource>(
     tables: &Tables,
     source: &mut S,
     form: Form,
-    expected: &Expected,
+    printed: &[u8],
+    end: Result<(), TextFault>,
 ) {
     let mut out = Vec::new(alloc);
     assert!(rt; source.most_remaining() <= 16_777_216);
     let outcome = print_source(alloc, &mut out, tables, source, Direction::Auto, form);
-    assert_eq!(rt; outcome, expected.end);
-    assert_eq!(rt; out.as_slice(), expected.printed);
+    assert_eq!(rt; outcome, end);
+    assert_eq!(rt; out.as_slice(), printed);
 }
 
 /// Prints a text as it is shown. Compares the lines and the result.
@@ -57,28 +51,14 @@ fn shows(
     printed: &[u8],
     end: Result<(), TextFault>,
 ) {
-    let expected = Expected { printed, end };
     prints(
         rt,
         alloc,
         tables,
         &mut SliceSource::new(text),
         SHOWN,
-        &expected,
-    );
-}
-
-/// Prints the levels of a whole text. Compares the lines.
-fn prints_levels(rt: &impl Abort, alloc: Global, tables: &Tables, text: &[u8], printed: &[u8]) {
-    let end = Ok(());
-    let expected = Expected { printed, end };
-    prints(
-        rt,
-        alloc,
-        tables,
-        &mut SliceSource::new(text),
-        Form::Levels,
-        &expected,
+        printed,
+        end,
     );
 }
 
@@ -86,7 +66,15 @@ fn prints_levels(rt: &impl Abort, alloc: Global, tables: &Tables, text: &[u8], p
 fn prints_paragraph_by_paragraph(rt: HostRuntime) -> Result<(), TableFault> {
     let alloc = rt.alloc();
     let tables = tables(alloc)?;
-    prints_levels(&rt, alloc, &tables, TEXT, LEVELS);
+    prints(
+        &rt,
+        alloc,
+        &tables,
+        &mut SliceSource::new(TEXT),
+        Form::Levels,
+        LEVELS,
+        Ok(()),
+    );
     shows(&rt, alloc, &tables, TEXT, LINES, Ok(()));
     shows(&rt, alloc, &tables, b"", b"", Ok(()));
     Ok(())
@@ -112,45 +100,49 @@ fn leaves_what_ended_before_a_fault(rt: HostRuntime) -> Result<(), TableFault> {
     Ok(())
 }
 
-/// Texts, how many bytes of each can be read before a read fails, and the expected output.
-const CUT: [(&[u8], usize, &[u8]); 4] = [
-    (TEXT, 10, b"\n\xD7\x90\n>a\xD7\x90\n"),
-    (TEXT, 8, b"\n\xD7\x90\n"),
-    (b"a\n\xFF", 3, b"a\n"),
-    (b"a", 0, b""),
-];
-
-/// Prints a text as it is shown, of which only so many bytes can be read. Compares the lines, and expects that the read
-/// failed.
-fn shows_until(
-    rt: &impl Abort,
-    alloc: Global,
-    tables: &Tables,
-    text: &[u8],
-    at: usize,
-    printed: &[u8],
-) {
-    let end = Err(TextFault::Read {
-        written: Written::Whole,
-    });
-    let expected = Expected { printed, end };
-    prints(
-        rt,
-        alloc,
-        tables,
-        &mut CutSource::new(text, at),
-        SHOWN,
-        &expected,
-    );
-}
-
 #[test]
 fn leaves_what_ended_before_a_failed_read(rt: HostRuntime) -> Result<(), TableFault> {
     let alloc = rt.alloc();
     let tables = tables(alloc)?;
-    for (text, at, printed) in CUT {
-        shows_until(&rt, alloc, &tables, text, at, printed);
-    }
+    let fault = Err(TextFault::Read {
+        written: Written::Whole,
+    });
+    prints(
+        &rt,
+        alloc,
+        &tables,
+        &mut CutSource::new(TEXT, 10),
+        SHOWN,
+        b"\n\xD7\x90\n>a\xD7\x90\n",
+        fault,
+    );
+    prints(
+        &rt,
+        alloc,
+        &tables,
+        &mut CutSource::new(TEXT, 8),
+        SHOWN,
+        b"\n\xD7\x90\n",
+        fault,
+    );
+    prints(
+        &rt,
+        alloc,
+        &tables,
+        &mut CutSource::new(b"a\n\xFF", 3),
+        SHOWN,
+        b"a\n",
+        fault,
+    );
+    prints(
+        &rt,
+        alloc,
+        &tables,
+        &mut CutSource::new(b"a", 0),
+        SHOWN,
+        b"",
+        fault,
+    );
     Ok(())
 }
 
