@@ -84,7 +84,7 @@ fn differing_order(compared: Positions, claimed: &[usize], layout: &Layout<'_>) 
 fn wrong_order(compared: Positions, expected: Expected<'_>, layout: &Layout<'_>) -> Option<Place>
     ensures { result ≡ placed_in Order (first_difference nat_eq
         (order_read compared (view_of layout.now).levels expected.entry.order.now) (all_orders
-            (view_of layout.now)) 0) }
+        (view_of layout.now)) 0) }
 {
     differing_order(compared, expected.order, layout).map(Place::Order)
 }

@@ -96,8 +96,10 @@ pub fn print_class_case<W: Write>(
     layout: &Layout<'_>,
 ) -> io::Result<()>
     ensures { OnOk result (Appends (W.contents w.old) (W.contents w.new)
-        (flat_map ended (lines_with_layout kind.Classes (view_of layout.now) (record { text = text.now;
-            direction = direction })))) }
+        (flat_map ended (lines_with_layout kind.Classes (view_of layout.now) (record {
+          text = text.now;
+          direction = direction;
+        })))) }
 {
     print_levels_line(w, layout.levels())?;
     print_order_line(w, layout)?;

@@ -93,7 +93,7 @@ fn print_orders_between<W: Write>(w: &mut W, layout: &Layout<'_>) -> io::Result<
 fn print_levels_and_order<W: Write>(w: &mut W, layout: &Layout<'_>) -> io::Result<()>
     ensures { OnOk result (Appends (W.contents w.old) (W.contents w.new)
         (in_fields (between_blanks level_text (view_of layout.now).levels ∷ between_blanks decimal (all_orders
-            (view_of layout.now)) ∷ []))) }
+        (view_of layout.now)) ∷ []))) }
 {
     print_levels_between(w, layout.levels())?;
     w.write_all(b";")?;
@@ -136,8 +136,10 @@ pub fn print_character_case<W: Write>(
     layout: &Layout<'_>,
 ) -> io::Result<()>
     ensures { OnOk result (Appends (W.contents w.old) (W.contents w.new)
-        (ended (in_fields (fields_with_layout (view_of layout.now) (record { text = text.now;
-            direction = direction }))))) }
+        (ended (in_fields (fields_with_layout (view_of layout.now) (record {
+          text = text.now;
+          direction = direction;
+        }))))) }
 {
     print_fields(w, text, direction, layout)?;
     w.write_all(b"\n")

@@ -36,8 +36,10 @@ fn print_case<W: Write>(
     layout: &Layout<'_>,
 ) -> io::Result<()>
     ensures { OnOk result (Appends (W.contents w.old) (W.contents w.new)
-        (flat_map ended (lines_with_layout kind.entry (view_of layout.now) (record { text = text.now;
-            direction = direction })))) }
+        (flat_map ended (lines_with_layout kind.entry (view_of layout.now) (record {
+          text = text.now;
+          direction = direction;
+        })))) }
 {
     match kind {
         Kind::Classes => print_class_case(w, text, direction, layout),
