@@ -62,7 +62,7 @@ memory_facts stored = record {
 abbrev pub IsOpenedOver : Option StoredFile → ℕ → Reading → Type 0
 IsOpenedOver None most source = ⊥
 IsOpenedOver (Some file) most source = (source.remaining ≡ Some file.bytes) ×
-    (source.allowed ≡ min most file.readable) × (source.state ≡ Open)
+    (source.limit ≡ min most file.readable) × (source.state ≡ Open)
 
 first_rest : (known : Option (List ℕ)) (xs bytes : List ℕ) (rest : Option (List ℕ)) → known ≡ Some xs →
     Consumes known rest bytes
@@ -117,7 +117,7 @@ pub fails-gave : (file : Option StoredFile) (most : ℕ) (opened now : Reading) 
 fails-gave None most opened now bytes represents given failed = absurd represents
 fails-gave (Some file) most opened now bytes represents given failed = (
   begins-gave (Some file) most opened now bytes represents given,
-  λ why. passed file.bytes bytes opened.remaining opened.allowed now.allowed
+  λ why. passed file.bytes bytes opened.remaining opened.limit now.limit
       (min most file.readable) represents.0 represents.1 given.falls
       (given.passes (ap failures_of represents.2) (too_large now.state failed why)),
 )

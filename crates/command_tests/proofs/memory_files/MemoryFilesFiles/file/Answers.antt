@@ -28,7 +28,7 @@ returns-in-Some-clause-opened c =
     ∙ find-map (λ (file : StoredFile). bytes_eq file.name name) stored files
     ∙ ap (λ (all : List StoredFile). find (λ (file : StoredFile). bytes_eq file.name name) all) shown in
     let represents : IsOpenedOver (Some (stored c.in-Some.file.now)) c.args.most c.new.result =
-    (c.new.ensures.reader, c.new.ensures.allowed ∙ c.min.ensures, c.new.ensures.state) in
+    (c.new.ensures.reader, c.new.ensures.limit ∙ c.min.ensures, c.new.ensures.state) in
     subst (λ (file : Option StoredFile). IsOpenedOver file c.args.most c.new.result) found represents
 
 pub returns-in-None-clause-cannot : goal.returns-in-None-clause-cannot
