@@ -1,10 +1,7 @@
 -- Properties of whole arrays with the tables of a handle, and what a room says about its text for other engines.
-use Rattle.std.specs.Prelude.{ℕ, ◌≡◌, false, Option, Some, None, List, [], MatchOption}
+use Rattle.std.specs.Prelude.{ℕ, ◌≡◌, Option, Some, None, List, [], MatchOption}
 use Rattle.units.specs.Layout.{text_levels}
-use Rattle.units.specs.Limits.{LimitsOf}
 use Rattle.ucdfiles.specs.Tables.{TablesOf}
-use Rattle.sources.specs.Sources.{Units}
-use Rattle.sources.specs.declared.numbered_units.NumberedUnit.{NumberedUnit}
 use Rattle.room.specs.Rooms.{RoomOf}
 use Rattle.room.specs.WholeLevels.{WritesWholeLevels}
 use Rattle.for_c.specs.Fronts.{PutsProperties}
@@ -12,9 +9,7 @@ use Rattle.for_c.specs.Pairs.{IsPairedBracket}
 use Rattle.for_c.specs.Shown.{WritesNothing}
 use Rattle.for_c.specs.Statuses.{Outcome}
 use Rattle.for_c.specs.declared.call_error.CallError.TheVariants.{NoTables}
-use Rattle.bidi_c.specs.AtHandles.{AtRoom, Fails}
-use Rattle.bidi_c.specs.LayingOut.{LaysOutUnder}
-use Rattle.bidi_c.specs.declared.contents.Contents.{Contents}
+use Rattle.bidi_c.specs.AtHandles.{Fails}
 
 -- the classes and brackets of code points are written, if there are tables; else the call fails, and nothing is written
 pub record PutsPropertiesAt (tables : Option TablesOf) (codes classes classes2 brackets brackets2 : List ℕ)
@@ -36,11 +31,3 @@ resolved_at None = []
 abbrev pub WritesWholeLevelsAt : Option RoomOf → ℕ → List ℕ → List ℕ → Type 0
 WritesWholeLevelsAt (Some room) counted old new = WritesWholeLevels room counted old new
 WritesWholeLevelsAt None counted old new = WritesNothing counted old new
-
--- P1 to L2: of a call that lays out a text of units, given as numbers; it needs no tables
-abbrev pub LaysOutUnits : List NumberedUnit → LimitsOf → ℕ → List ℕ → Option Contents → Option Contents → Outcome →
-    Type 0
-LaysOutUnits numbered limits number breaks old new outcome =
-    AtRoom false (λ room last outcome. (tables : TablesOf) →
-    LaysOutUnder (Units numbered) limits number breaks tables room last outcome)
-    old new outcome

@@ -1,22 +1,14 @@
 -- Calls that lay out texts.
-use Rattle.std.specs.Prelude.{ℕ, Bool, true, false, ◌≡◌, Option, None, List, MatchOption}
+use Rattle.std.specs.Prelude.{ℕ, false, ⊤, Option, List, MatchOption}
 use Rattle.units.specs.Limits.{LimitsOf}
 use Rattle.ucdfiles.specs.Tables.{TablesOf}
-use Rattle.sources.specs.Sources.{SourceOf, Codes, Classes, Units, Utf8, Utf16}
+use Rattle.sources.specs.Sources.{SourceOf, Classes, Units, is_encoded}
 use Rattle.room.specs.Rooms.{RoomOf}
 use Rattle.for_c.specs.RoomCalls.{LaysOut, PutsLineOf}
 use Rattle.for_c.specs.Statuses.{Outcome}
 use Rattle.for_c.specs.declared.call_error.CallError.TheVariants.{NoRoom}
 use Rattle.bidi_c.specs.AtHandles.{AtBoth, AtRoom, Fails, UnderDirection}
 use Rattle.bidi_c.specs.declared.contents.Contents.{Contents}
-
--- a room needs offsets for the text
-abbrev pub needs_offsets : SourceOf → Bool
-needs_offsets (Codes numbers) = false
-needs_offsets (Classes numbers) = false
-needs_offsets (Units numbered) = false
-needs_offsets (Utf8 bytes faults) = true
-needs_offsets (Utf16 units faults) = true
 
 -- P1 to L2: a room lays out a text with tables, under the direction with this number
 abbrev pub LaysOutUnder : SourceOf → LimitsOf → ℕ → List ℕ → TablesOf → RoomOf → RoomOf → Outcome → Type 0
@@ -32,13 +24,20 @@ LaysOutUnder source limits number breaks tables =
 abbrev pub LaysOutText : SourceOf → LimitsOf → ℕ → List ℕ → Option Contents → Option Contents → Option Contents →
     Outcome → Type 0
 LaysOutText source limits number breaks tables old new outcome =
-    AtBoth (needs_offsets source) tables (LaysOutUnder source limits number breaks) old new outcome
+    AtBoth (is_encoded source) tables (LaysOutUnder source limits number breaks) old new outcome
 
--- P1 to L2: of a call that lays out a text of classes, given as numbers; it needs no tables
-abbrev pub LaysOutClasses : List ℕ → LimitsOf → ℕ → List ℕ → Option Contents → Option Contents → Outcome → Type 0
-LaysOutClasses numbers limits number breaks old new outcome =
+-- classes and units are given as numbers, so a text of them needs no tables
+abbrev pub NeedsNoTables : SourceOf → Type 0
+NeedsNoTables (Classes numbers) = ⊤
+NeedsNoTables (Units numbered) = ⊤
+NeedsNoTables _ = ⊥
+
+-- P1 to L2: of a call that lays out a text that needs no tables; it does the same with any
+abbrev pub LaysOutWithoutTables : SourceOf → LimitsOf → ℕ → List ℕ → Option Contents → Option Contents → Outcome →
+    Type 0
+LaysOutWithoutTables source limits number breaks old new outcome =
     AtRoom false (λ room last outcome. (tables : TablesOf) →
-    LaysOutUnder (Classes numbers) limits number breaks tables room last outcome)
+    LaysOutUnder source limits number breaks tables room last outcome)
     old new outcome
 
 -- L1, L2: one line alone of the text of a room is written; without a room the call fails, and nothing is written

@@ -1,6 +1,5 @@
 //! What a handle contains.
 ghost use Rattle.std.specs.Prelude.{◌≡◌};
-ghost use Rattle.bidi_c.specs.LayingOut.{needs_offsets};
 ghost use Rattle.sources.specs.Seen.{source_seen};
 
 use for_c::call_error::CallError;
@@ -10,7 +9,6 @@ use for_c::room_for_c::RoomForC;
 use for_c::table_judge::TableJudge;
 use for_c::table_report::TableReport;
 use room::room::Room;
-use sources::numbered_units::NumberedUnit;
 use sources::source::{Ask, Source};
 use std::alloc::Global;
 use std::ops::Range;
@@ -31,24 +29,13 @@ pub enum Contents {
     Report(Box<TableReport>),
 }
 
-/// Returns whether a room needs offsets for a text.
-fn needs_offsets(source: Source<'_>) -> bool
-    ensures { result ≡ needs_offsets (source_seen source.entry) }
-{
-    match source {
-        Source::Codes(_) | Source::Classes(_) | Source::Units(_) => false,
-        Source::Utf8(_, _) | Source::Utf16(_, _) => true,
-    }
-}
-
 impl Contents {
     ghost use Rattle.std.specs.Prelude.{◌≡◌, false, Some, None, MatchOption, IfErr, IfOk};
     ghost use Rattle.std.specs.Arc.{arc_value};
     ghost use Rattle.for_c.specs.RoomCalls.{SetsLines};
     ghost use Rattle.bidi_c.specs.AtHandles.{AtRoom};
-    ghost use Rattle.bidi_c.specs.Fronts.{LaysOutUnits};
     ghost use Rattle.bidi_c.specs.ContentsIn.{room_for, room_in, tables_in};
-    ghost use Rattle.bidi_c.specs.LayingOut.{AtLineOf, LaysOutClasses, LaysOutText};
+    ghost use Rattle.bidi_c.specs.LayingOut.{AtLineOf, LaysOutText, LaysOutWithoutTables, NeedsNoTables};
     ghost use Rattle.bidi_c.specs.Sharing.{RejectsSharing};
 
     /// Borrows the room, if it contains one.
@@ -112,7 +99,7 @@ impl Contents {
             (Some self.old) (Some self.new) result }
     {
         match self {
-            Contents::Room(room) if room.room().encodes() == needs_offsets(source) => {
+            Contents::Room(room) if room.room().encodes() == source.is_encoded() => {
                 let Some(tables) = tables.tables() else {
                     return Err(CallError::NoTables);
                 };
@@ -131,42 +118,33 @@ impl Contents {
         }
     }
 
-    /// Lays out a text of classes, by their numbers, under the direction with this number. Fails with `NoRoom` if it is
-    /// no room without offsets, else with `NoDirection`, else as `RoomForC::lay_out_classes` does.
-    pub(crate) fn lay_out_classes(
+    /// Lays out a text that needs no tables, under the direction with this number. Fails with `NoRoom` if it is no room
+    /// without offsets, else with `NoDirection`, else as `RoomForC::lay_out` does.
+    pub(crate) fn lay_out_without_tables(
         &mut self,
-        numbers: &[u8],
+        source: Source<'_>,
         direction: u32,
         breaks: &[usize],
         limits: Limits,
     ) -> Result<(), CallError>
-        ensures { LaysOutClasses numbers.now limits direction breaks.now (Some self.old) (Some self.new) result }
+        requires { NeedsNoTables (source_seen source) }
+        ensures { LaysOutWithoutTables (source_seen source.entry) limits direction breaks.now (Some self.old)
+            (Some self.new) result }
     {
         match self {
-            Contents::Room(room) if !room.room().encodes() => match direction_numbered(direction) {
-                Some(direction) => room.lay_out_classes(numbers, direction, breaks, limits),
-                None => Err(CallError::NoDirection),
-            },
-            _ => Err(CallError::NoRoom),
-        }
-    }
-
-    /// Lays out a text of units, by their numbers, under the direction with this number. Fails with `NoRoom` if it is
-    /// no room without offsets, else with `NoDirection`, else as `RoomForC::lay_out_numbered` does.
-    pub(crate) fn lay_out_numbered(
-        &mut self,
-        numbered: &[NumberedUnit],
-        direction: u32,
-        breaks: &[usize],
-        limits: Limits,
-    ) -> Result<(), CallError>
-        ensures { LaysOutUnits numbered.now limits direction breaks.now (Some self.old) (Some self.new) result }
-    {
-        match self {
-            Contents::Room(room) if !room.room().encodes() => match direction_numbered(direction) {
-                Some(direction) => room.lay_out_numbered(numbered, direction, breaks, limits),
-                None => Err(CallError::NoDirection),
-            },
+            Contents::Room(room) if !room.room().encodes() => {
+                let Some(direction) = direction_numbered(direction) else {
+                    return Err(CallError::NoDirection);
+                };
+                let ask = Ask {
+                    source,
+                    direction,
+                    breaks,
+                    limits,
+                };
+                let unused = standard::tables();
+                room.lay_out(&unused, &ask)
+            }
             _ => Err(CallError::NoRoom),
         }
     }

@@ -1,17 +1,19 @@
 //! Calls for engines that have their own front: class look-up, levels or lines of their own.
 ghost use Rattle.std.specs.Prelude.{◌≡◌, map};
 ghost use Rattle.units.specs.Limits.{standard};
-ghost use Rattle.sources.specs.Sources.{Classes};
+ghost use Rattle.sources.specs.Sources.{Classes, Units};
 ghost use Rattle.ucdfiles.specs.Tables.{TablesOf};
 ghost use Rattle.for_c.specs.Base.{IsBaseLevel, RejectsBase};
 ghost use Rattle.for_c.specs.Fronts.{RejectsLevels, RejectsLine, Reorders, ResetsLine};
 ghost use Rattle.for_c.specs.Statuses.{ReturnsStatusNaming, Puts, place_named};
 ghost use Rattle.for_c.specs.LevelBytes.{level_byte};
 ghost use Rattle.room.specs.Written.{WritesWhole};
-ghost use Rattle.bidi_c.specs.Fronts.{LaysOutUnits, PairsAt, PutsPropertiesAt, WritesWholeLevelsAt, resolved_at};
+ghost use Rattle.bidi_c.specs.Fronts.{PairsAt, PutsPropertiesAt, WritesWholeLevelsAt, resolved_at};
 ghost use Rattle.bidi_c.specs.ContentsAt.{contents_at, room_at, tables_at};
+ghost use Rattle.bidi_c.specs.LayingOut.{LaysOutWithoutTables};
 
 use crate::bidi_handle::BidiHandle;
+use crate::laying_out::lay_out_without_tables;
 use crate::putting::put;
 use for_c::base::base_level_of;
 use for_c::call_error::{CallError, status_and_place};
@@ -135,23 +137,6 @@ pub extern "C" fn bidi_whole_levels(room: &mut BidiHandle, levels: &mut [u8]) ->
     }
 }
 
-/// Lays out a text of units, if the handle contains a room for such texts.
-#[tactic(auto, using(crate::proofs::Needed::no_room_of_kind))]
-fn lay_out_units(
-    room: &mut BidiHandle,
-    units: &[NumberedUnit],
-    direction: u32,
-    breaks: &[usize],
-) -> Result<(), CallError>
-    ensures { LaysOutUnits units.now standard direction breaks.now (contents_at room.old)
-        (contents_at room.new) result }
-{
-    match room.contents() {
-        Some(contents) => contents.lay_out_numbered(units, direction, breaks, Limits::standard()),
-        None => Err(CallError::NoRoom),
-    }
-}
-
 /// Lays out a text of units, given as numbers, in the room, as `bidi_lay_out` does one of code points. Each unit has
 /// its class, what it does as a bracket, and the number by which an opening bracket and a closing one pair.
 #[unsafe(no_mangle)]
@@ -162,9 +147,10 @@ pub extern "C" fn bidi_lay_out_units(
     breaks: &[usize],
     place: &mut u64,
 ) -> u32
-    ensures { ReturnsStatusNaming place_named (LaysOutUnits units.now standard direction breaks.now
+    ensures { ReturnsStatusNaming place_named (LaysOutWithoutTables (Units units.now) standard direction breaks.now
         (contents_at room.old) (contents_at room.new)) result place.old place.new }
 {
-    let done = lay_out_units(room, units, direction, breaks);
+    let source = Source::Units(units);
+    let done = lay_out_without_tables(room, source, direction, breaks, Limits::standard());
     status_and_place(done, place)
 }

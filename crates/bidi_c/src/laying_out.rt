@@ -2,14 +2,14 @@
 ghost use Rattle.std.specs.Prelude.{◌≡◌, false};
 ghost use Rattle.units.specs.Limits.{standard};
 ghost use Rattle.sources.specs.Seen.{source_seen};
-ghost use Rattle.sources.specs.Sources.{Codes};
+ghost use Rattle.sources.specs.Sources.{Classes, Codes};
 ghost use Rattle.for_c.specs.LimitsGiven.{ByLimits};
 ghost use Rattle.for_c.specs.RoomCalls.{SetsLines};
 ghost use Rattle.for_c.specs.Statuses.{ReturnsStatus, ReturnsStatusNaming, place_named};
 ghost use Rattle.bidi_c.specs.AtHandles.{AtRoom};
 ghost use Rattle.bidi_c.specs.ContentsAt.{contents_at};
 ghost use Rattle.bidi_c.specs.ContentsIn.{room_for};
-ghost use Rattle.bidi_c.specs.LayingOut.{AtLineOf, LaysOutClasses, LaysOutText};
+ghost use Rattle.bidi_c.specs.LayingOut.{AtLineOf, LaysOutText, LaysOutWithoutTables, NeedsNoTables};
 
 use crate::bidi_handle::BidiHandle;
 use for_c::call_error::{CallError, status, status_and_place};
@@ -91,18 +91,19 @@ pub extern "C" fn bidi_lay_out_with(
 }
 
 #[tactic(auto, using(crate::proofs::Needed::no_room_of_kind))]
-fn lay_out_classes(
+pub(crate) fn lay_out_without_tables(
     room: &mut BidiHandle,
-    numbers: &[u8],
+    source: Source<'_>,
     direction: u32,
     breaks: &[usize],
     limits: Limits,
 ) -> Result<(), CallError>
-    ensures { LaysOutClasses numbers.now limits direction breaks.now (contents_at room.old)
+    requires { NeedsNoTables (source_seen source) }
+    ensures { LaysOutWithoutTables (source_seen source.entry) limits direction breaks.now (contents_at room.old)
         (contents_at room.new) result }
 {
     match room.contents() {
-        Some(contents) => contents.lay_out_classes(numbers, direction, breaks, limits),
+        Some(contents) => contents.lay_out_without_tables(source, direction, breaks, limits),
         None => Err(CallError::NoRoom),
     }
 }
@@ -117,10 +118,11 @@ pub extern "C" fn bidi_lay_out_classes(
     breaks: &[usize],
     place: &mut u64,
 ) -> u32
-    ensures { ReturnsStatusNaming place_named (LaysOutClasses numbers.now standard direction breaks.now
+    ensures { ReturnsStatusNaming place_named (LaysOutWithoutTables (Classes numbers.now) standard direction breaks.now
         (contents_at room.old) (contents_at room.new)) result place.old place.new }
 {
-    let done = lay_out_classes(room, numbers, direction, breaks, Limits::standard());
+    let source = Source::Classes(numbers);
+    let done = lay_out_without_tables(room, source, direction, breaks, Limits::standard());
     status_and_place(done, place)
 }
 
@@ -135,12 +137,13 @@ pub extern "C" fn bidi_lay_out_classes_with(
     limits: BidiLimits,
     place: &mut u64,
 ) -> u32
-    ensures { ReturnsStatusNaming place_named (ByLimits limits (λ limits. LaysOutClasses numbers.now limits
+    ensures { ReturnsStatusNaming place_named (ByLimits limits (λ limits. LaysOutWithoutTables (Classes numbers.now) limits
         direction breaks.now) (contents_at room.old) (contents_at room.new)) result place.old place.new }
 {
+    let source = Source::Classes(numbers);
     match limits.allowed() {
         Ok(limits) => {
-            let done = lay_out_classes(room, numbers, direction, breaks, limits);
+            let done = lay_out_without_tables(room, source, direction, breaks, limits);
             status_and_place(done, place)
         }
         Err(error) => status_and_place(Err(error), place),

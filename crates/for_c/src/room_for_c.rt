@@ -6,14 +6,12 @@ use crate::columns::write_levels;
 use crate::reasons::{error_of_layout, error_of_line, error_of_room, error_of_text};
 use room::line_of::LineFault;
 use room::room::Room;
-use sources::numbered_units::NumberedUnit;
-use sources::source::{Ask, Source};
+use sources::source::Ask;
 use std::alloc::Global;
 use std::boxed::BoxedSlice;
 use std::marker::Model;
 use ucdfiles::tables::Tables;
-use units::level::{Direction, Level};
-use units::limits::Limits;
+use units::level::Level;
 
 /// A room for texts, and a column for the levels of one line alone.
 #[derive(Drop)]
@@ -36,9 +34,7 @@ impl Model for RoomForC {
 
 impl RoomForC {
     ghost use Rattle.std.specs.Prelude.{◌≡◌, IfErr, IfOk};
-    ghost use Rattle.ucdfiles.specs.Tables.{TablesOf};
     ghost use Rattle.room.specs.NewRooms.{new_room};
-    ghost use Rattle.sources.specs.Sources.{Classes, Units};
     ghost use Rattle.for_c.specs.RoomCalls.{LaysOut, PutsLineOf, RejectsCapacity, SetsLines};
 
     /// Makes a room for texts of up to `n` units, at most 16,777,216, with the layout of an empty text. If `encodes`,
@@ -76,48 +72,6 @@ impl RoomForC {
         match self.room.lay_out(tables, ask) {
             Ok(()) => Ok(()),
             Err(fault) => Err(error_of_text(ask.source, fault)),
-        }
-    }
-
-    /// Lays out a text of classes, given as numbers, as `Room::lay_out` does.
-    pub fn lay_out_classes(
-        &mut self,
-        numbers: &[u8],
-        direction: Direction,
-        breaks: &[usize],
-        limits: Limits,
-    ) -> Result<(), CallError>
-        ensures { (tables : TablesOf) → LaysOut
-            (record { source = Classes numbers.now; direction = direction; breaks = breaks.now; limits = limits })
-            tables self.old self.new result }
-    {
-        match self
-            .room
-            .lay_out_classes(numbers, direction, breaks, limits)
-        {
-            Ok(()) => Ok(()),
-            Err(fault) => Err(error_of_text(Source::Classes(numbers), fault)),
-        }
-    }
-
-    /// Lays out a text of units, given as numbers, as `Room::lay_out` does.
-    pub fn lay_out_numbered(
-        &mut self,
-        numbered: &[NumberedUnit],
-        direction: Direction,
-        breaks: &[usize],
-        limits: Limits,
-    ) -> Result<(), CallError>
-        ensures { (tables : TablesOf) → LaysOut
-            (record { source = Units numbered.now; direction = direction; breaks = breaks.now; limits = limits })
-            tables self.old self.new result }
-    {
-        match self
-            .room
-            .lay_out_numbered(numbered, direction, breaks, limits)
-        {
-            Ok(()) => Ok(()),
-            Err(fault) => Err(error_of_text(Source::Units(numbered), fault)),
         }
     }
 

@@ -18,24 +18,24 @@ text_spelled (Utf8 bytes Replaced) = lossy_spelled bytes
 text_spelled (Utf16 units faults) = utf16_spelled units
 
 pub characters_encoded : (source : SourceOf) → IsEncoded source → characters_of source ≡ length (text_in source)
-characters_encoded (Codes numbers) is = absurd is
-characters_encoded (Classes numbers) is = absurd is
-characters_encoded (Units numbered) is = absurd is
+characters_encoded (Codes numbers) is = absurd cc
+characters_encoded (Classes numbers) is = absurd cc
+characters_encoded (Units numbered) is = absurd cc
 characters_encoded (Utf8 bytes faults) is = refl
 characters_encoded (Utf16 units faults) is = refl
 
 pub offset_encoded : (source : SourceOf) → IsEncoded source → (k : ℕ) →
     source_offset source k ≡ offset_of (text_in source) k
-offset_encoded (Codes numbers) is k = absurd is
-offset_encoded (Classes numbers) is k = absurd is
-offset_encoded (Units numbered) is k = absurd is
+offset_encoded (Codes numbers) is k = absurd cc
+offset_encoded (Classes numbers) is k = absurd cc
+offset_encoded (Units numbered) is k = absurd cc
 offset_encoded (Utf8 bytes faults) is k = refl
 offset_encoded (Utf16 units faults) is k = refl
 
 pub units_encoded : (source : SourceOf) → IsEncoded source → (tables : TablesOf) →
     units_of tables source ≡ units_by tables (codes_of (text_in source))
-units_encoded (Codes numbers) is tables = absurd is
-units_encoded (Classes numbers) is tables = absurd is
-units_encoded (Units numbered) is tables = absurd is
+units_encoded (Codes numbers) is tables = absurd cc
+units_encoded (Classes numbers) is tables = absurd cc
+units_encoded (Units numbered) is tables = absurd cc
 units_encoded (Utf8 bytes faults) is tables = refl
 units_encoded (Utf16 units faults) is tables = refl

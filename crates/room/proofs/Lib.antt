@@ -11,6 +11,7 @@ pub mod RunLists
 pub mod LevelPass
 pub mod Boundaries
 pub mod Placing
+pub mod Plain
 pub mod Spreading
 pub mod Spans
 pub mod ParagraphsAtZero

@@ -1,5 +1,5 @@
 //! Lays out units in a scratch that has capacity for them.
-ghost use Rattle.std.specs.Prelude.{◌≡◌, ◌≤◌, [], length};
+ghost use Rattle.std.specs.Prelude.{◌≡◌, ◌<◌, ◌≤◌, [], length};
 ghost use Rattle.units.specs.Layout.{layout_of};
 ghost use Rattle.units.specs.Limits.{standard};
 ghost use Rattle.units.specs.declared.level.Direction.TheVariants.{Auto};
@@ -8,29 +8,37 @@ ghost use Rattle.lines.specs.Scratches.{StillHoldsText};
 ghost use Rattle.room.specs.OrderedLines.{LinesHaveOrder};
 
 use lines::breaks::Breaks;
-use lines::lay_out::{lay_out_into_with, set_lines_into};
+use lines::lay_out::set_lines_into;
 use lines::scratch::Scratch;
+use std::marker::Brand;
+use std::sync::ledger::{Blank, Ledger};
 use units::bracket::Unit;
 use units::level::Direction;
 use units::limits::Limits;
+use units::steps::Steps;
 
-/// Lays out a text with these limits.
-pub(crate) fn lay_out_units(
+/// Lays out a text with these limits, and counts steps only during the call.
+pub(crate) fn lay_out_units<L: Ledger>(
     scratch: &mut Scratch,
     text: &[Unit],
     direction: Direction,
     breaks: &Breaks,
     limits: Limits,
+    blank: Blank,
 )
     requires len { breaks.now.len ≡ length text.now }
     requires fits { length text.now ≤ room_of scratch.old }
+    requires name { blank.name ≡ L.name }
+    requires parts { blank.parts ≡ L.parts }
+    requires some { 0 < blank.parts }
     ensures room { room_of scratch.new ≡ room_of scratch.old }
     ensures filled { IsFilled scratch.new }
     ensures laid_out { layout_in scratch.new ≡ layout_of limits text.now direction breaks.now.positions }
     ensures holds { HoldsText limits text.now direction scratch.new }
     ensures in_order { LinesHaveOrder (layout_in scratch.new) }
 {
-    let _done = lay_out_into_with(scratch, text, direction, breaks, limits);
+    let mut steps = Steps::<L>::new(blank);
+    scratch.fill(text, direction, breaks, limits, &mut steps);
 }
 
 /// Breaks the text of the scratch into lines again.
@@ -55,6 +63,14 @@ pub(crate) fn lay_out_empty(scratch: &mut Scratch)
     ensures in_order { LinesHaveOrder (layout_in scratch.new) }
 {
     if let Ok(breaks) = Breaks::new(&[], 0) {
-        lay_out_units(scratch, &[], Direction::Auto, &breaks, Limits::standard());
+        let limits = Limits::standard();
+        lay_out_units::<Brand>(
+            scratch,
+            &[],
+            Direction::Auto,
+            &breaks,
+            limits,
+            Blank::new(1),
+        );
     }
 }

@@ -13,14 +13,12 @@ use lines::breaks::Breaks;
 use lines::lay_out::line_alone_into;
 use lines::layout::Layout;
 use lines::scratch::{MOST, RoomFault, Scratch};
-use sources::class_numbers::{check_classes, fill_classes};
-use sources::codes::{check_codes, fill_codes};
-use sources::numbered_units::{NumberedUnit, check_units, fill_units};
 use sources::source::{Ask, Source};
 use std::alloc::{AllocError, Global};
 use std::boxed::BoxedSlice;
-use std::marker::Model;
+use std::marker::{Brand, Model};
 use std::mem::swap;
+use std::sync::ledger::Blank;
 use ucdfiles::tables::Tables;
 use units::bracket::{Bracket, Unit};
 use units::class::Class;
@@ -89,7 +87,6 @@ impl Room {
     ghost use Rattle.std.specs.Prelude.{IfOk, MatchOption, MatchResult, OnErr};
     ghost use Rattle.std.specs.List.{All};
     ghost use Rattle.units.specs.Layout.{longest_text, text_levels};
-    ghost use Rattle.ucdfiles.specs.Tables.{TablesOf};
     ghost use Rattle.lines.specs.Layouts.{view_of};
     ghost use Rattle.lines.specs.LinesAlone.{RejectsSpan};
     ghost use Rattle.room.specs.OrderedLines.{LinesHaveOrder};
@@ -99,7 +96,7 @@ impl Room {
     ghost use Rattle.room.specs.NewRooms.{new_room};
     ghost use Rattle.room.specs.Rooms.{characters_in, offset_in};
     ghost use Rattle.sources.specs.Seen.{source_seen};
-    ghost use Rattle.sources.specs.Sources.{Codes, Classes, IsEncoded, Units};
+    ghost use Rattle.sources.specs.Sources.{IsEncoded};
 
     /// Makes a room for texts of up to `n` units, at most 16,777,216, with the layout of an empty text. If `encodes`,
     /// it has offsets, and texts may be in code units.
@@ -158,102 +155,6 @@ impl Room {
         self.encodes
     }
 
-    /// Lays out a text of code points.
-    // Inlined, a call on a short text takes fewer instructions.
-    #[inline(always)]
-    fn lay_out_codes(
-        &mut self,
-        tables: &Tables,
-        codes: &[u32],
-        direction: Direction,
-        breaks: &[usize],
-        limits: Limits,
-    ) -> Result<(), LayoutFault>
-        ensures { Leaves
-            (record { source = Codes codes.now; direction = direction; breaks = breaks.now; limits = limits })
-            tables.now self.old self.new result }
-    {
-        if self.scratch.room() < codes.len() {
-            return Err(LayoutFault::TooLong);
-        }
-        let breaks = match Breaks::new(breaks, codes.len()) {
-            Ok(breaks) => breaks,
-            Err(fault) => return Err(LayoutFault::Break(fault)),
-        };
-        if let Err(at) = check_codes(codes) {
-            return Err(LayoutFault::IllFormed(at));
-        }
-        fill_codes(&mut self.units, tables, codes);
-        let text = &self.units[..codes.len()];
-        lay_out_units(&mut self.scratch, text, direction, &breaks, limits);
-        self.spelled = false;
-        self.direction = direction;
-        self.limits = limits;
-        Ok(())
-    }
-
-    /// Lays out a text of classes, given as numbers, as `lay_out` does. It needs no tables.
-    pub fn lay_out_classes(
-        &mut self,
-        numbers: &[u8],
-        direction: Direction,
-        breaks: &[usize],
-        limits: Limits,
-    ) -> Result<(), LayoutFault>
-        ensures { (tables : TablesOf) → Leaves
-            (record { source = Classes numbers.now; direction = direction; breaks = breaks.now; limits = limits })
-            tables self.old self.new result }
-    {
-        if self.scratch.room() < numbers.len() {
-            return Err(LayoutFault::TooLong);
-        }
-        let breaks = match Breaks::new(breaks, numbers.len()) {
-            Ok(breaks) => breaks,
-            Err(fault) => return Err(LayoutFault::Break(fault)),
-        };
-        if let Err(at) = check_classes(numbers) {
-            return Err(LayoutFault::IllFormed(at));
-        }
-        fill_classes(&mut self.units, numbers);
-        let text = &self.units[..numbers.len()];
-        lay_out_units(&mut self.scratch, text, direction, &breaks, limits);
-        self.spelled = false;
-        self.direction = direction;
-        self.limits = limits;
-        Ok(())
-    }
-
-    /// Lays out a text of units, given as numbers, as `lay_out` does. It needs no tables.
-    pub fn lay_out_numbered(
-        &mut self,
-        numbered: &[NumberedUnit],
-        direction: Direction,
-        breaks: &[usize],
-        limits: Limits,
-    ) -> Result<(), LayoutFault>
-        ensures { (tables : TablesOf) → Leaves
-            (record { source = Units numbered.now; direction = direction; breaks = breaks.now; limits = limits })
-            tables self.old self.new result }
-    {
-        if self.scratch.room() < numbered.len() {
-            return Err(LayoutFault::TooLong);
-        }
-        let breaks = match Breaks::new(breaks, numbered.len()) {
-            Ok(breaks) => breaks,
-            Err(fault) => return Err(LayoutFault::Break(fault)),
-        };
-        if let Err(at) = check_units(numbered) {
-            return Err(LayoutFault::IllFormed(at));
-        }
-        fill_units(&mut self.units, numbered);
-        let text = &self.units[..numbered.len()];
-        lay_out_units(&mut self.scratch, text, direction, &breaks, limits);
-        self.spelled = false;
-        self.direction = direction;
-        self.limits = limits;
-        Ok(())
-    }
-
     /// Lays out a text in code units.
     fn lay_out_encoded(
         &mut self,
@@ -283,7 +184,8 @@ impl Room {
         }
         let found = breaks_at(&self.indices[..breaks.len()], count);
         let text = &self.spare_units[..count];
-        lay_out_units(&mut self.scratch, text, direction, &found, limits);
+        let blank = Blank::new(1);
+        lay_out_units::<Brand>(&mut self.scratch, text, direction, &found, limits, blank);
         swap(&mut self.starts, &mut self.spare);
         swap(&mut self.units, &mut self.spare_units);
         self.spelled = true;
@@ -303,20 +205,36 @@ impl Room {
     pub fn lay_out(&mut self, tables: &Tables, ask: &Ask<'_>) -> Result<(), LayoutFault>
         ensures { Leaves ask.now tables.now self.old self.new result }
     {
-        match ask.source {
-            Source::Codes(codes) => {
-                self.lay_out_codes(tables, codes, ask.direction, ask.breaks, ask.limits)
-            }
-            Source::Classes(numbers) => {
-                self.lay_out_classes(numbers, ask.direction, ask.breaks, ask.limits)
-            }
-            Source::Units(numbered) => {
-                self.lay_out_numbered(numbered, ask.direction, ask.breaks, ask.limits)
-            }
-            Source::Utf8(_, _) | Source::Utf16(_, _) => {
-                self.lay_out_encoded(tables, ask.source, ask.direction, ask.breaks, ask.limits)
-            }
+        let source = ask.source;
+        if source.is_encoded() {
+            return self.lay_out_encoded(tables, source, ask.direction, ask.breaks, ask.limits);
         }
+        let len = source.size();
+        if self.scratch.room() < len {
+            return Err(LayoutFault::TooLong);
+        }
+        let breaks = match Breaks::new(ask.breaks, len) {
+            Ok(breaks) => breaks,
+            Err(fault) => return Err(LayoutFault::Break(fault)),
+        };
+        if let Err(at) = source.check() {
+            return Err(LayoutFault::IllFormed(at));
+        }
+        source.fill(&mut self.units, tables);
+        let text = &self.units[..len];
+        let blank = Blank::new(1);
+        lay_out_units::<Brand>(
+            &mut self.scratch,
+            text,
+            ask.direction,
+            &breaks,
+            ask.limits,
+            blank,
+        );
+        self.spelled = false;
+        self.direction = ask.direction;
+        self.limits = ask.limits;
+        Ok(())
     }
 
     /// Breaks the text of the room into lines again (L1, L2). Some callers lay out a text, shape its runs, and know

@@ -1,5 +1,5 @@
 -- A text as its caller has it: how many units it has, whether it can be read, and its characters.
-use Rattle.std.specs.Prelude.{ℕ, ◌≡◌, ⊤, List, [], length}
+use Rattle.std.specs.Prelude.{ℕ, Bool, true, false, ◌≡◌, ⊤, List, [], length}
 use Rattle.std.specs.Char.{IsScalar}
 use Rattle.std.specs.Str.{IsUtf8}
 use Rattle.std.specs.Str.Lossy.{utf8_valid_len}
@@ -32,13 +32,16 @@ size_of (Units numbered) = length numbered
 size_of (Utf8 bytes faults) = length bytes
 size_of (Utf16 units faults) = length units
 
--- its units are code units; a character can take several of these
+-- whether its units are code units; a character can take several of these
+abbrev pub is_encoded : SourceOf → Bool
+is_encoded (Codes numbers) = false
+is_encoded (Classes numbers) = false
+is_encoded (Units numbered) = false
+is_encoded (Utf8 bytes faults) = true
+is_encoded (Utf16 units faults) = true
+
 abbrev pub IsEncoded : SourceOf → Type 0
-IsEncoded (Codes numbers) = ⊥
-IsEncoded (Classes numbers) = ⊥
-IsEncoded (Units numbered) = ⊥
-IsEncoded (Utf8 bytes faults) = ⊤
-IsEncoded (Utf16 units faults) = ⊤
+IsEncoded source = is_encoded source ≡ true
 
 -- the characters that its code units spell; code points, classes and units are none
 abbrev pub text_in : SourceOf → List Spelled

@@ -1,11 +1,15 @@
 //! What a caller asks for.
-ghost use Rattle.std.specs.Prelude.{◌≡◌};
+ghost use Rattle.std.specs.Prelude.{◌≡◌, ◌≤◌, length, take};
 ghost use Rattle.sources.specs.Seen.{source_seen};
-ghost use Rattle.sources.specs.Sources.{size_of};
+ghost use Rattle.sources.specs.Sources.{IsEncoded, IsWellFormed, is_encoded, size_of, units_of};
 
-use crate::numbered_units::NumberedUnit;
+use crate::class_numbers::fill_classes;
+use crate::codes::fill_codes;
+use crate::numbered_units::{NumberedUnit, fill_units};
 use decoding::fault::Faults;
 use std::marker::Model;
+use ucdfiles::tables::Tables;
+use units::bracket::Unit;
 use units::level::Direction;
 use units::limits::Limits;
 
@@ -38,6 +42,35 @@ impl<'t> Source<'t> {
             Source::Units(numbered) => numbered.len(),
             Source::Utf8(bytes, _) => bytes.len(),
             Source::Utf16(units, _) => units.len(),
+        }
+    }
+
+    /// Returns whether its units are code units, so that a character can take several of them.
+    pub fn is_encoded(self) -> bool
+        ensures { result ≡ is_encoded (source_seen self.entry) }
+    {
+        match self {
+            Source::Codes(_) | Source::Classes(_) | Source::Units(_) => false,
+            Source::Utf8(_, _) | Source::Utf16(_, _) => true,
+        }
+    }
+
+    /// Writes the units of a well-formed text, each of whose units is a character, to the front of the column.
+    // Inlined, a call on a short text takes fewer instructions.
+    #[inline(always)]
+    pub fn fill(self, units: &mut [Unit], tables: &Tables)
+        requires plain { IsEncoded (source_seen self) → ⊥ }
+        requires well_formed { IsWellFormed (source_seen self) }
+        requires fits { size_of (source_seen self) ≤ length units.old }
+        ensures len { length units.new ≡ length units.old }
+        ensures units { take (size_of (source_seen self.entry)) units.new
+            ≡ units_of tables.now (source_seen self.entry) }
+    {
+        match self {
+            Source::Codes(codes) => fill_codes(units, tables, codes),
+            Source::Classes(numbers) => fill_classes(units, numbers),
+            Source::Units(numbered) => fill_units(units, numbered),
+            Source::Utf8(_, _) | Source::Utf16(_, _) => unreachable!(),
         }
     }
 }

@@ -1,8 +1,64 @@
-use Rattle.std.proofs.Common.{rules}
+use Rattle.std.proofs.Common.{rules, Ok, ◌≡◌, ◌∙◌, ℕ, List, ap, arith, length, refl, subst, take, false}
+use Rattle.std.specs.Box.{boxed_slice_items, boxed_slice_with_items}
+use Rattle.units.specs.Layout.{layout_of}
+use Rattle.units.specs.declared.bracket.Unit.{Unit as BidiUnit}
+use Rattle.lines.specs.LineBreaks.{AreBreaks, BreaksView}
+use Rattle.lines.specs.Scratches.{layout_in}
+use Rattle.sources.specs.Asks.{AskOf}
+use Rattle.sources.specs.Seen.{source_seen}
+use Rattle.sources.specs.Sources.{IsEncoded, size_of, units_of}
+use Rattle.room.specs.Insides.{seen}
+use Rattle.room.specs.Leaving.{Leaves}
+use Rattle.room.specs.Rooms.{RoomOf}
+use Rattle.room.proofs.Plain.{length_plain, offset_plain}
+use Rattle.room.proofs.Refilled.{refilled}
+use Rattle.room.proofs.Showing.{shows_plain}
 use Rattle.room.proofs.room.Room.lay_out.Goals as goal
 
-pub returns-in-Classes : goal.returns-in-Classes
-returns-in-Classes c = let leaves = c.lay_out_classes.ensures c.args.tables.now in search rules
-
-pub returns-in-Units : goal.returns-in-Units
-returns-in-Units c = let leaves = c.lay_out_numbered.ensures c.args.tables.now in search rules
+pub returns : goal.returns
+returns c =
+    let ask = c.ask.inside in
+    let source = source_seen ask.source in
+    let breaks = ask.breaks.now in
+    let self = c.self.inside in
+    let capacity = ap (λ (r : RoomOf). r.capacity) c.self.view_is in
+    let plain : IsEncoded source → ⊥ = λ is. search rules in
+    let us : List BidiUnit = units_of c.args.tables.now source in
+    let size = size_of source in
+    let len : length us ≡ size = length_plain c.args.tables.now source plain in
+    let column = boxed_slice_with_items self.units c.fill.new.units in
+    let same : boxed_slice_items column ≡ c.fill.new.units
+    = refilled self.units c.fill.new.units (c.fill.ensures.len ∙ ap length c.deref_mut.ensures.value) in
+    let front : take size (boxed_slice_items column) ≡ us = ap (take size) same ∙ c.fill.ensures.units in
+    let text : take c.size-len.result c.deref.result.now ≡ us =
+    ap (take c.size-len.result) c.deref.ensures.value ∙
+    ap (λ (n : ℕ). take n (boxed_slice_items column)) c.size-len.ensures ∙ front in
+    let laid : layout_in c.lay_out_units.new.scratch ≡ layout_of ask.limits us ask.direction breaks =
+    c.lay_out_units.ensures.laid_out ∙
+    ap (λ (xs : List BidiUnit). layout_of ask.limits xs ask.direction c.in-Ok.breaks.positions) text
+    ∙ ap (λ (b : BreaksView). layout_of ask.limits us ask.direction b.positions) c.in-Ok.ensures.0 in
+    let new = record self {
+      scratch = c.lay_out_units.new.scratch;
+      units = column;
+      spelled = false;
+      direction = ask.direction;
+      limits = ask.limits;
+    } in
+    let shows = shows_plain new us breaks laid
+    (ap (λ (k : ℕ). take k (boxed_slice_items column)) len ∙ front) refl in
+    subst (λ (a : AskOf). Leaves a c.args.tables.now c.args.self.now (seen new) (Ok tt)) c.ask.view_is (record {
+      capacity = c.lay_out_units.ensures.room ∙ capacity;
+      encodes = ap (λ (r : RoomOf). r.encodes) c.self.view_is;
+      unchanged = tt;
+      rejected = tt;
+      taken = record {
+        fits = record {
+          kind = λ is. absurd (plain is);
+          size = omega (arith, c.if-room-len.false, c.room.ensures, capacity, c.size-len.ensures);
+        };
+        well_formed = c.in_default.ensures.well_formed;
+        inside = subst (AreBreaks breaks) c.size-len.ensures c.in-Ok.ensures.1;
+      };
+      text = record { units = shows.units; direction = refl; limits = refl; offsets = λ k le. offset_plain source plain k };
+      broken = shows.broken;
+    })
