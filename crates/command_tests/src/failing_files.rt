@@ -33,19 +33,19 @@ impl<'a> FailingFiles<'a> {
 impl<'a> Files for FailingFiles<'a> {
     type Source = CutSource<'a>;
 
-    ghost opens = { λ files _ _ source. source.limit ≡ files };
+    ghost opens = { λ files _ _ source. source.rest ≡ files };
 
     ghost facts = { failing_facts };
 
     ghost why = { λ _. Other };
 
     ghost gave = { λ files _ _ opened now bytes represents given.
-        begins-given files opened.limit now.limit bytes represents given };
+        begins-given files opened.rest now.rest bytes represents given };
 
     ghost gave_all = { λ _ _ _ _ _ _ _ _ ended. absurd ended };
 
     ghost gave_up = { λ files _ _ opened now bytes represents given _.
-        (begins-given files opened.limit now.limit bytes represents given, refl) };
+        (begins-given files opened.rest now.rest bytes represents given, refl) };
 
     fn file(&self, alloc: Global, _name: &str, most: u64) -> Result<Self::Source, OpenFault> {
         self.input(alloc, most)

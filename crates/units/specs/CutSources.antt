@@ -3,7 +3,7 @@ use Rattle.std.specs.Prelude.{ℕ, Bool, true, false, List}
 
 -- the bytes that remain before the failure, and whether the source has failed
 pub record CutSource : Type 0 where
-  pub limit : List ℕ
+  pub rest : List ℕ
   pub has_failed : Bool
 
 -- how many failures there were

@@ -10,7 +10,7 @@ use std::marker::Model;
 /// whether the source has failed.
 #[derive(Drop)]
 pub struct CutSource<'a> {
-    limit: &'a [u8],
+    rest: &'a [u8],
     has_failed: bool,
 }
 
@@ -20,48 +20,48 @@ impl<'a> Model for CutSource<'a> {
 
     ghost Value = { CutView };
 
-    ghost view = { λ s. record { limit = s.limit.now; has_failed = s.has_failed } };
+    ghost view = { λ s. record { rest = s.rest.now; has_failed = s.has_failed } };
 
-    ghost invariant = { λ s. s.has_failed ≡ true → s.limit.now ≡ [] };
+    ghost invariant = { λ s. s.has_failed ≡ true → s.rest.now ≡ [] };
 }
 
 impl<'a> CutSource<'a> {
     /// Makes a source of the first `count` bytes.
     pub fn new(bytes: &'a [u8], count: usize) -> Self
         requires { count ≤ length bytes.now }
-        ensures limit { result.limit ≡ take count bytes.now }
+        ensures rest { result.rest ≡ take count bytes.now }
         ensures sound { result.has_failed ≡ false }
     {
         CutSource {
-            limit: &bytes[..count],
+            rest: &bytes[..count],
             has_failed: false,
         }
     }
 }
 
 impl ByteSource for CutSource<'_> {
-    ghost gives = { λ s xs t. s.limit ≡ xs ++ t.limit };
+    ghost gives = { λ s xs t. s.rest ≡ xs ++ t.rest };
 
     ghost ended = { λ _. ⊥ };
 
     ghost failures = { λ s. failures_when s.has_failed };
 
-    ghost most_remaining = { λ s. length s.limit };
+    ghost most_remaining = { λ s. length s.rest };
 
     ghost gives_nothing = { λ s. refl };
 
-    ghost gives_joined = { λ s t u xs ys f g. splits_joined s.limit t.limit u.limit xs ys f g };
+    ghost gives_joined = { λ s t u xs ys f g. splits_joined s.rest t.rest u.rest xs ys f g };
 
     fn read(&mut self, buf: &mut [u8]) -> Result<usize, SourceFault> {
-        if self.has_failed || self.limit.is_empty() {
+        if self.has_failed || self.rest.is_empty() {
             self.has_failed = true;
             return Err(SourceFault);
         }
-        let limit = self.limit;
-        let n = limit.len().min(buf.len());
-        let (now, later) = limit.split_at(n);
+        let rest = self.rest;
+        let n = rest.len().min(buf.len());
+        let (now, later) = rest.split_at(n);
         buf[..n].copy_from_slice(now);
-        self.limit = later;
+        self.rest = later;
         Ok(n)
     }
 
@@ -70,6 +70,6 @@ impl ByteSource for CutSource<'_> {
     }
 
     fn most_remaining(&self) -> u64 {
-        self.limit.len() as u64
+        self.rest.len() as u64
     }
 }

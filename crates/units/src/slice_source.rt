@@ -8,13 +8,13 @@ use std::marker::Model;
 /// A source of the bytes of a slice, which never fails. Contracts see the bytes that remain.
 #[derive(Drop)]
 pub struct SliceSource<'a> {
-    limit: &'a [u8],
+    rest: &'a [u8],
 }
 
 impl<'a> Model for SliceSource<'a> {
     ghost Value = { List ℕ };
 
-    ghost view = { λ s. s.limit.now };
+    ghost view = { λ s. s.rest.now };
 }
 
 impl<'a> SliceSource<'a> {
@@ -22,7 +22,7 @@ impl<'a> SliceSource<'a> {
     pub fn new(bytes: &'a [u8]) -> Self
         ensures { result ≡ bytes.now }
     {
-        SliceSource { limit: bytes }
+        SliceSource { rest: bytes }
     }
 }
 
@@ -40,11 +40,11 @@ impl ByteSource for SliceSource<'_> {
     ghost gives_joined = { splits_joined };
 
     fn read(&mut self, buf: &mut [u8]) -> Result<usize, SourceFault> {
-        let limit = self.limit;
-        let n = limit.len().min(buf.len());
-        let (now, later) = limit.split_at(n);
+        let rest = self.rest;
+        let n = rest.len().min(buf.len());
+        let (now, later) = rest.split_at(n);
         buf[..n].copy_from_slice(now);
-        self.limit = later;
+        self.rest = later;
         Ok(n)
     }
 
@@ -53,6 +53,6 @@ impl ByteSource for SliceSource<'_> {
     }
 
     fn most_remaining(&self) -> u64 {
-        self.limit.len() as u64
+        self.rest.len() as u64
     }
 }
