@@ -4,8 +4,8 @@ use Rattle.units.specs.Layout.{TextLayout, LineLayout}
 use Rattle.lines.specs.Layouts.{line_at}
 use Rattle.ucdfiles.specs.Tables.{TablesOf}
 use Rattle.room.specs.Rooms.{RoomOf}
-use Rattle.for_c.specs.declared.table_judge.TableJudge.{TableJudge}
-use Rattle.for_c.specs.declared.table_report.TableReport.{TableReport}
+use Rattle.bidtests.specs.JudgedSoFar.{Judging}
+use Rattle.for_c.specs.declared.report_for_c.ReportForC.{ReportForC}
 use Rattle.bidi_c.specs.ContentsIn.{judge_in, report_in, room_for, room_in, tables_in}
 use Rattle.bidi_c.specs.declared.contents.Contents.{Contents}
 use Rattle.bidi_c.specs.declared.bidi_handle.BidiHandle.{BidiHandle}
@@ -27,11 +27,11 @@ abbrev pub encoded_at : BidiHandle → Option RoomOf
 encoded_at handle = room_for true (contents_at handle)
 
 -- the judge, if it contains a judge
-abbrev pub judge_at : BidiHandle → Option TableJudge
+abbrev pub judge_at : BidiHandle → Option Judging
 judge_at handle = judge_in (contents_at handle)
 
 -- the report, if it contains a report
-abbrev pub report_at : BidiHandle → Option TableReport
+abbrev pub report_at : BidiHandle → Option ReportForC
 report_at handle = report_in (contents_at handle)
 
 -- the layout of no text

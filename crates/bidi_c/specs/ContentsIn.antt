@@ -4,8 +4,8 @@ use Rattle.std.specs.Arc.{arc_value}
 use Rattle.std.specs.Box.{with_value}
 use Rattle.ucdfiles.specs.Tables.{TablesOf}
 use Rattle.room.specs.Rooms.{RoomOf}
-use Rattle.for_c.specs.declared.table_judge.TableJudge.{TableJudge}
-use Rattle.for_c.specs.declared.table_report.TableReport.{TableReport}
+use Rattle.bidtests.specs.JudgedSoFar.{Judging}
+use Rattle.for_c.specs.declared.report_for_c.ReportForC.{ReportForC}
 use Rattle.bidi_c.specs.declared.contents.Contents.{Contents}
 use Rattle.bidi_c.specs.declared.contents.Contents.TheVariants.{Tables, Room, Judge, Report}
 
@@ -20,12 +20,12 @@ room_in (Some (Room room)) = Some room
 room_in _ = None
 
 -- the judge, if it contains a judge
-abbrev pub judge_in : Option Contents → Option TableJudge
+abbrev pub judge_in : Option Contents → Option Judging
 judge_in (Some (Judge judge)) = Some judge.value
 judge_in _ = None
 
 -- the report, if it contains a report
-abbrev pub report_in : Option Contents → Option TableReport
+abbrev pub report_in : Option Contents → Option ReportForC
 report_in (Some (Report report)) = Some report.value
 report_in _ = None
 
@@ -44,11 +44,11 @@ room_for encodes (Some (Room room)) = of_kind encodes room
 room_for encodes _ = None
 
 -- the same contents with this judge in place of their own
-abbrev pub with_judge : Contents → TableJudge → Contents
+abbrev pub with_judge : Contents → Judging → Contents
 with_judge (Judge judge) last = Judge (with_value judge last)
 with_judge contents last = contents
 
 -- the same contents with this report in place of their own
-abbrev pub with_report : Contents → TableReport → Contents
+abbrev pub with_report : Contents → ReportForC → Contents
 with_report (Report report) last = Report (with_value report last)
 with_report contents last = contents

@@ -2,12 +2,12 @@
 ghost use Rattle.std.specs.Prelude.{◌≡◌};
 ghost use Rattle.sources.specs.Seen.{source_seen};
 
+use bidtests::judge::Judge;
 use for_c::call_error::CallError;
 use for_c::directions::direction_numbered;
 use for_c::read_tables::share_tables;
+use for_c::report_for_c::ReportForC;
 use for_c::room_for_c::RoomForC;
-use for_c::table_judge::TableJudge;
-use for_c::table_report::TableReport;
 use room::room::Room;
 use sources::source::{Ask, Source};
 use std::alloc::Global;
@@ -24,9 +24,9 @@ pub enum Contents {
     /// A room for texts, with the layout of the last one.
     Room(RoomForC),
     /// A judge of a test file, with its tables. It is boxed because it contains a line.
-    Judge(Box<TableJudge>),
+    Judge(Box<Judge<'static>>),
     /// A report on a test file, with its tables, boxed for the same reason.
-    Report(Box<TableReport>),
+    Report(Box<ReportForC>),
 }
 
 impl Contents {

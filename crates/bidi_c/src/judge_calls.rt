@@ -1,36 +1,39 @@
 //! Judges of test files.
 ghost use Rattle.std.specs.Prelude.{◌≡◌, None, Some};
-ghost use Rattle.std.specs.Option.{option_map};
-ghost use Rattle.std.specs.Arc.{arc_value};
 ghost use Rattle.units.specs.Limits.{standard};
+ghost use Rattle.bidtests.specs.FileKinds.{stored_tables};
+ghost use Rattle.bidtests.specs.JudgedSoFar.{TakesPiece};
 ghost use Rattle.for_c.specs.LimitsGiven.{ByLimits};
 ghost use Rattle.for_c.specs.Statuses.{ReturnsStatus};
-ghost use Rattle.for_c.specs.TableJudges.{TakesPiece};
 ghost use Rattle.bidi_c.specs.ContentsAt.{contents_at};
 ghost use Rattle.bidi_c.specs.JudgesAt.{AtJudge, EndsJudge, Finishes, MakesJudge, MakesTableJudge};
 
 use crate::bidi_handle::BidiHandle;
 use crate::contents::Contents;
+use bidtests::judge::Judge;
+use bidtests::kind::{Kind, StoredKind};
 use for_c::call_error::{CallError, status};
 use for_c::limits::BidiLimits;
-use for_c::table_judge::TableJudge;
 use for_c::verdict::{BidiVerdict, verdict_for_c};
 use std::alloc::Global;
-use std::sync::Arc;
-use ucdfiles::tables::Tables;
 use units::limits::Limits;
 
-/// Makes a judge with these limits and tables, or without tables, and puts it into the handle.
+/// Makes a judge of a file of this kind with these limits, and puts it into the handle.
 fn make_judge(
     alloc: Global,
     judge: &mut BidiHandle,
-    tables: Option<Arc<Tables, Global>>,
+    kind: StoredKind<'static>,
     limits: Limits,
 ) -> Result<(), CallError>
-    ensures { MakesJudge (option_map arc_value tables) limits (contents_at judge.old) (contents_at judge.new) result }
+    ensures { MakesJudge (stored_tables kind.entry) limits (contents_at judge.old) (contents_at judge.new) result }
 {
-    let made = TableJudge::new(alloc, tables, limits)?;
-    judge.hold(alloc, Contents::Judge(made))
+    let Ok(made) = Judge::new(alloc, kind, limits) else {
+        return Err(CallError::Memory);
+    };
+    match Box::new(alloc, made) {
+        Ok(made) => judge.hold(alloc, Contents::Judge(made)),
+        Err(_) => Err(CallError::Memory),
+    }
 }
 
 /// Makes a judge of a BidiTest.txt with the standard limits, before its first byte. Once it is made, what the handle
@@ -39,7 +42,12 @@ fn make_judge(
 pub extern "C" fn bidi_judge_new_classes(alloc: Global, judge: &mut BidiHandle) -> u32
     ensures { ReturnsStatus (MakesJudge None standard (contents_at judge.old) (contents_at judge.new)) result }
 {
-    status(make_judge(alloc, judge, None, Limits::standard()))
+    status(make_judge(
+        alloc,
+        judge,
+        StoredKind::Borrowed(Kind::Classes),
+        Limits::standard(),
+    ))
 }
 
 /// Makes a judge of a BidiTest.txt as `bidi_judge_new_classes` does, with these limits in place of the standard ones.
@@ -53,7 +61,7 @@ pub extern "C" fn bidi_judge_new_classes_with(
     ensures { ReturnsStatus (ByLimits limits (MakesJudge None) (contents_at judge.old) (contents_at judge.new)) result }
 {
     match limits.allowed() {
-        Ok(limits) => status(make_judge(alloc, judge, None, limits)),
+        Ok(limits) => status(make_judge(alloc, judge, StoredKind::Borrowed(Kind::Classes), limits)),
         Err(error) => status(Err(error)),
     }
 }
@@ -73,7 +81,7 @@ fn make_characters_judge(
         return Err(CallError::NoTables);
     };
     let shared = contents.share_tables()?;
-    make_judge(alloc, judge, Some(shared), limits)
+    make_judge(alloc, judge, StoredKind::Shared(shared), limits)
 }
 
 /// Makes a judge of a BidiCharacterTest.txt with the standard limits, before its first byte, that shares the tables.
@@ -122,7 +130,7 @@ pub extern "C" fn bidi_judge_free(alloc: Global, judge: &mut BidiHandle)
 
 /// Passes the next bytes of the file to the judge, if it is one.
 fn feed_judge(contents: &mut Contents, piece: &[u8]) -> Result<(), CallError>
-    ensures { AtJudge (λ old new. TakesPiece old new piece.now) (Some contents.old) (Some contents.new) result }
+    ensures { AtJudge (TakesPiece piece.now) (Some contents.old) (Some contents.new) result }
 {
     match contents {
         Contents::Judge(judge) => {
@@ -139,7 +147,7 @@ fn finish_judge(contents: &mut Contents, verdict: &mut BidiVerdict) -> Result<()
 {
     match contents {
         Contents::Judge(judge) => {
-            *verdict = verdict_for_c(judge.finish());
+            *verdict = verdict_for_c(judge.verdict());
             Ok(())
         }
         _ => Err(CallError::NoJudge),
@@ -150,9 +158,7 @@ fn finish_judge(contents: &mut Contents, verdict: &mut BidiVerdict) -> Result<()
 #[unsafe(no_mangle)]
 #[tactic(auto, using(crate::proofs::AtJudges::no_judge))]
 pub extern "C" fn bidi_judge_feed(judge: &mut BidiHandle, piece: &[u8]) -> u32
-    ensures { ReturnsStatus (AtJudge (λ old new. TakesPiece old new piece.now) (contents_at judge.old)
-        (contents_at judge.new))
-        result }
+    ensures { ReturnsStatus (AtJudge (TakesPiece piece.now) (contents_at judge.old) (contents_at judge.new)) result }
 {
     match judge.contents() {
         Some(contents) => status(feed_judge(contents, piece)),

@@ -1,8 +1,7 @@
 //! Reports on test files.
 ghost use Rattle.std.specs.Prelude.{◌≡◌, None, Some};
-ghost use Rattle.std.specs.Option.{option_map};
-ghost use Rattle.std.specs.Arc.{arc_value};
 ghost use Rattle.units.specs.Limits.{standard};
+ghost use Rattle.bidtests.specs.FileKinds.{stored_tables};
 ghost use Rattle.for_c.specs.LimitsGiven.{ByLimits};
 ghost use Rattle.for_c.specs.ReportCalls.{EndsReport, ReturnsNext, TakesBytes};
 ghost use Rattle.for_c.specs.Statuses.{ReturnsStatus};
@@ -12,27 +11,26 @@ ghost use Rattle.bidi_c.specs.ReportsAt.{AtReport, MakesReport, MakesTableReport
 use crate::bidi_handle::BidiHandle;
 use crate::contents::Contents;
 use crate::putting::put;
+use bidtests::kind::{Kind, StoredKind};
 use for_c::call_error::{CallError, status};
 use for_c::counts::BidiCounts;
 use for_c::limits::BidiLimits;
-use for_c::table_report::TableReport;
+use for_c::report_for_c::ReportForC;
 use for_c::wrong_case::BidiWrongCase;
 use std::alloc::Global;
-use std::sync::Arc;
-use ucdfiles::tables::Tables;
 use units::limits::Limits;
 
-/// Makes a report with these limits and tables, or without tables, and puts it into the handle.
+/// Makes a report on a file of this kind with these limits, and puts it into the handle.
 fn make_report(
     alloc: Global,
     report: &mut BidiHandle,
-    tables: Option<Arc<Tables, Global>>,
+    kind: StoredKind<'static>,
     limits: Limits,
 ) -> Result<(), CallError>
-    ensures { MakesReport (option_map arc_value tables) limits (contents_at report.old)
+    ensures { MakesReport (stored_tables kind.entry) limits (contents_at report.old)
         (contents_at report.new) result }
 {
-    let made = TableReport::new(alloc, tables, limits)?;
+    let made = ReportForC::new(alloc, kind, limits)?;
     report.hold(alloc, Contents::Report(made))
 }
 
@@ -42,7 +40,12 @@ fn make_report(
 pub extern "C" fn bidi_report_new_classes(alloc: Global, report: &mut BidiHandle) -> u32
     ensures { ReturnsStatus (MakesReport None standard (contents_at report.old) (contents_at report.new)) result }
 {
-    status(make_report(alloc, report, None, Limits::standard()))
+    status(make_report(
+        alloc,
+        report,
+        StoredKind::Borrowed(Kind::Classes),
+        Limits::standard(),
+    ))
 }
 
 /// Makes a report on a BidiTest.txt as `bidi_report_new_classes` does, with these limits in place of the standard ones.
@@ -57,7 +60,12 @@ pub extern "C" fn bidi_report_new_classes_with(
         result }
 {
     match limits.allowed() {
-        Ok(limits) => status(make_report(alloc, report, None, limits)),
+        Ok(limits) => status(make_report(
+            alloc,
+            report,
+            StoredKind::Borrowed(Kind::Classes),
+            limits,
+        )),
         Err(error) => status(Err(error)),
     }
 }
@@ -77,7 +85,7 @@ fn make_characters_report(
         return Err(CallError::NoTables);
     };
     let shared = contents.share_tables()?;
-    make_report(alloc, report, Some(shared), limits)
+    make_report(alloc, report, StoredKind::Shared(shared), limits)
 }
 
 /// Makes a report on a BidiCharacterTest.txt with the standard limits, before its first byte, that shares the tables.

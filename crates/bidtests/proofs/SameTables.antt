@@ -1,4 +1,4 @@
--- The state of a judge depends on the tables of its file's kind, not on where the tables are.
+-- The verdict and the state of a judge depend on the tables of the file's kind, not on where the tables are.
 use Rattle.std.proofs.Common.{arith, ◌≡◌, ℕ, Option, None, Some, List, ◌++◌, map, refl, sym, ap, ◌∙◌}
 use Rattle.units.specs.LineCutting.{Cutting}
 use Rattle.units.specs.Limits.{LimitsOf}
@@ -9,9 +9,9 @@ use Rattle.bidtests.specs.declared.verdict.Verdict.{Verdict}
 use Rattle.bidtests.specs.Verdicts.{Finding}
 use Rattle.bidtests.specs.ClassesFile.{classes_findings, classes_verdict}
 use Rattle.bidtests.specs.CharactersFile.{characters_line, characters_verdict}
-use Rattle.bidtests.specs.FileKinds.{findings_by, verdict_of}
+use Rattle.bidtests.specs.FileKinds.{findings_by, tables_of, verdict_of}
 use Rattle.bidtests.specs.Carried.{Carried, AreInForce, IsAfter}
-use Rattle.bidtests.specs.JudgedSoFar.{StateOf, JudgesBy, Judges, HoldsFor, judging, tables_of}
+use Rattle.bidtests.specs.JudgedSoFar.{JudgesBy}
 
 abbrev findings_with : Option TablesOf → List (List ℕ) → List Finding
 findings_with None lines = classes_findings lines
@@ -43,10 +43,13 @@ module _ (limits : LimitsOf) (kind other : Kind) (same : tables_of other ≡ tab
   findings-as lines = findings-with kind lines ∙ ap (λ t. findings_with t lines) (sym same) ∙
       sym (findings-with other lines)
 
+  pub verdict-as : (b : List ℕ) → verdict_of limits other b ≡ verdict_of limits kind b
+  verdict-as b = verdict-with limits other b ∙ ap (λ t. verdict_with limits t b) same ∙ sym (verdict-with limits kind b)
+
   following-as : (s : Carried) (lines : List (List ℕ)) → IsAfter limits kind s lines → IsAfter limits other s lines
   following-as s lines h = grind (arith, findings-as, in-force-as)
 
-  judges-as : (decided : Option Verdict) (cutting : Cutting) (s : Carried) (b : List ℕ) →
+  pub judges-as : (decided : Option Verdict) (cutting : Cutting) (s : Carried) (b : List ℕ) →
       JudgesBy limits kind decided cutting s b → JudgesBy limits other decided cutting s b
   judges-as None cutting s b h =
       record {
@@ -57,24 +60,4 @@ module _ (limits : LimitsOf) (kind other : Kind) (same : tables_of other ≡ tab
         following =
             following-as s h.lines h.following;
       }
-  judges-as (Some verdict) cutting s b h = λ more.
-      verdict-with limits other (b ++ more) ∙ ap (λ t. verdict_with limits t (b ++ more)) same ∙
-      sym (verdict-with limits kind (b ++ more)) ∙ h more
-
--- the state of a judge of one kind is that for each kind with the same tables
-pub holds-for : (limits : LimitsOf) (kind : Kind) (state : StateOf) (b : List ℕ) →
-    JudgesBy limits kind state.decided state.cutting state.carried b
-    → HoldsFor limits (tables_of kind) state b
-holds-for limits kind state b h =
-    λ other same. judges-as limits kind other same state.decided state.cutting state.carried b h
-
--- the state of a judge of this kind
-pub state-of : (limits : LimitsOf) (kind own : Kind) (state : StateOf) (b : List ℕ) →
-    Judges limits kind (judging own state) b → HoldsFor limits (tables_of own) state b
-state-of limits kind own state b judges = grind (arith, holds-for)
-
--- a judge of this kind with this state
-pub judges-of : (limits : LimitsOf) (kind own : Kind) (state : StateOf) (b : List ℕ) → own ≡ kind →
-    HoldsFor limits (tables_of own) state b → Judges limits kind (judging own state) b
-judges-of limits kind own state b of holds =
-    record { of = of; is = holds kind (ap tables_of (sym of)) }
+  judges-as (Some verdict) cutting s b h = λ more. verdict-as (b ++ more) ∙ h more

@@ -24,10 +24,11 @@ use Rattle.bidtests.specs.declared.kind.Kind.{Kind}
 use Rattle.bidtests.specs.declared.kind.Kind.TheVariants.{Classes, Characters}
 use Rattle.bidtests.specs.ClassesFile.{classes_line, classes_verdict}
 use Rattle.bidtests.specs.CharactersFile.{characters_line, characters_verdict}
-use Rattle.bidtests.specs.FileKinds.{findings_by, verdict_of}
+use Rattle.bidtests.specs.FileKinds.{findings_by, tables_of, verdict_of}
 use Rattle.bidtests.specs.Carried.{Carried, at_start, IsAfter, no_at, no_by, after_line, after_cut, no_or_yes, verdict_after}
 use Rattle.bidtests.specs.JudgedSoFar.{Judging, Judges, IsOpen, JudgesBy}
 use Rattle.bidtests.proofs.LineByLine.{verdict-fault, verdict-yes, following-line, following-none}
+use Rattle.bidtests.proofs.SameTables.{judges-as, verdict-as}
 use Rattle.units.proofs.FirstItem.{some_bytes}
 use Rattle.ucdfiles.proofs.LinesWith.{lines_with-more, lines_with-long, lines_of-ended, lines_of-begun}
 
@@ -190,17 +191,17 @@ module _ (limits : LimitsOf) (kind : Kind) (c : Cutting) (s : Carried) (b : List
   verdict-last None f = verdict-ended f
   verdict-last (Some last) f = last-by last.0 last.1 f (no_at kind s last.0 last.1.now) refl
 
--- the decided verdict, if any, and the bytes of a judge of this kind
-kind-is : (limits : LimitsOf) (kind : Kind) (j : Judging) (b : List ℕ) → Judges limits kind j b →
-    JudgesBy limits j.kind j.decided j.cutting j.carried b
-kind-is limits kind j b judges = grind arith
-
--- the verdict of a judge at the end
-pub finishes : (j : Judging) (last : Option (ℕ × Bor (List ℕ))) → j.decided ≡ None →
-    ((b : List ℕ) → Represents j.cutting b → Finishes b last)
+-- the verdict of a judge at the end; its own kind has the same tables
+pub finishes : (j : Judging) (own : Kind) → tables_of own ≡ j.tables → (last : Option (ℕ × Bor (List ℕ))) →
+    j.decided ≡ None → ((b : List ℕ) → Represents j.cutting b → Finishes b last)
     → (limits : LimitsOf) (kind : Kind) (b : List ℕ) → Judges limits kind j b →
-    verdict_after j.kind j.carried last ≡ verdict_of limits kind b
-finishes j last undecided f limits kind b judges = grind (arith, kind-is, verdict-last)
+    verdict_after own j.carried last ≡ verdict_of limits kind b
+finishes j own owned last undecided f limits kind b judges =
+    let same : tables_of own ≡ tables_of kind = owned ∙ judges.of in
+    let P : Option Verdict → Type 0 = λ d. JudgesBy limits own d j.cutting j.carried b in
+    let o : IsOpen limits own j.cutting j.carried b =
+    subst P undecided (judges-as limits kind own same j.decided j.cutting j.carried b judges.is) in
+    verdict-last limits own j.cutting j.carried b o last (f b o.splitter) ∙ verdict-as limits kind own same b
 
 pub finishes-decided : (j : Judging) (v : Verdict) → j.decided ≡ Some v →
     (limits : LimitsOf) (kind : Kind) (b : List ℕ) → Judges limits kind j b → v ≡ verdict_of limits kind b
@@ -213,27 +214,32 @@ pub if-no-error : {T E : Type 0} (P : Type 0) (r : Result T E) → result_err r 
 if-no-error P (Ok x) none holds = holds
 if-no-error P (Err e) none holds = absurd cc
 
-module _ (j : Judging) (new : Cutting) (t : Carried) (decided : Option Verdict) (rest : List ℕ) (used : ℕ) (taken : Cut)
+module _ (j : Judging) (own : Kind) (owned : tables_of own ≡ j.tables) (new : Cutting) (t : Carried)
+    (decided : Option Verdict) (rest : List ℕ) (used : ℕ) (taken : Cut)
     (undecided : j.decided ≡ None) (within : used ≤ length rest)
     (through : (b : List ℕ) (lines : List (List ℕ)) (r : List ℕ) → Represents j.cutting b → CutsInto b lines r →
     EndsByFeed used rest)
     (outcomes : (b : List ℕ) → Represents j.cutting b → ReturnsPiece b rest used taken)
     (represents : (b : List ℕ) → Represents j.cutting b → Represents new (b ++ take used rest))
-    (fault : decided ≡ no_by j.kind j.carried taken) (after : decided ≡ None →
-    t ≡ after_cut j.kind taken j.carried) where
-  -- a judge without a decided verdict, after what the line splitter used
+    (fault : decided ≡ no_by own j.carried taken) (after : decided ≡ None → t ≡ after_cut own taken j.carried) where
+  -- a judge without a decided verdict, after what the line splitter used; its own kind has the same tables
   pub feeds-on : (limits : LimitsOf) (kind : Kind) (b : List ℕ) → Judges limits kind j b →
-      Judges limits kind (record { kind = j.kind; cutting = new; carried = t; decided = decided }) (b ++ take used rest)
+      Judges limits kind (record { tables = j.tables; cutting = new; carried = t; decided = decided }) (b ++
+      take used rest)
   feeds-on limits kind b judges =
-      let P : Option Verdict → Type 0 = λ d. JudgesBy limits j.kind d j.cutting j.carried b in
-      let o : IsOpen limits j.kind j.cutting j.carried b = subst P undecided (kind-is limits kind j b judges) in
-      let Q : Option Verdict → Type 0 = λ d. JudgesBy limits j.kind d new t (b ++ take used rest) in
-      let by : JudgesBy limits j.kind decided new t (b ++ take used rest) =
-      subst Q (sym fault) (judges-on limits j.kind j.cutting new j.carried t b rest used o within
+      let same : tables_of own ≡ tables_of kind = owned ∙ judges.of in
+      let P : Option Verdict → Type 0 = λ d. JudgesBy limits own d j.cutting j.carried b in
+      let o : IsOpen limits own j.cutting j.carried b =
+      subst P undecided (judges-as limits kind own same j.decided j.cutting j.carried b judges.is) in
+      let Q : Option Verdict → Type 0 = λ d. JudgesBy limits own d new t (b ++ take used rest) in
+      let by : JudgesBy limits own decided new t (b ++ take used rest) =
+      subst Q (sym fault) (judges-on limits own j.cutting new j.carried t b rest used o within
       (through b o.lines o.rest o.splitter o.cut) (represents b o.splitter) taken (outcomes b o.splitter)
       (λ e. after (fault ∙ e))) in
-      let R : Kind → Type 0 = λ k. JudgesBy limits k decided new t (b ++ take used rest) in
-      record { of = judges.of; is = subst R judges.of by }
+      record {
+        of = judges.of;
+        is = judges-as limits own kind (sym same) decided new t (b ++ take used rest) by;
+      }
 
 pub nothing : CutsInto [] [] []
 nothing = record {
@@ -247,7 +253,12 @@ nothing = record {
 }
 
 pub judges-none : (limits : LimitsOf) (kind : Kind) (c : Cutting) → Represents c [] →
-    Judges limits kind (record { kind = kind; cutting = c; carried = at_start limits; decided = None }) []
+    Judges limits kind (record {
+      tables = tables_of kind;
+      cutting = c;
+      carried = at_start limits;
+      decided = None;
+    }) []
 judges-none limits kind c s = record {
   of = refl;
   is = record {

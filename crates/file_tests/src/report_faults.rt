@@ -1,6 +1,6 @@
 //! The order of errors if a report is printed while its file is read and a write fails before the source does, and how
 //! far the source is then read.
-use bidtests::kind::Kind;
+use bidtests::kind::{Kind, StoredKind};
 use printing::written::Written;
 use report::print::{ReportFault, print_report};
 use report::report::Report;
@@ -56,7 +56,8 @@ fn printed<S: ByteSource, W: Write>(
     source: &mut S,
     w: &mut W,
 ) -> Result<Result<bool, ReportFault>, Fail> {
-    let report = Report::new(alloc, Kind::Classes, Terms::strict(Limits::standard()))?;
+    let kind = StoredKind::Borrowed(Kind::Classes);
+    let report = Report::new(alloc, kind, Terms::strict(Limits::standard()))?;
     Ok(print_report(w, report, source, u64::MAX))
 }
 

@@ -2,6 +2,5 @@
 pub mod CasesReturned
 mod FileFaults
 mod LineLengths
-mod VerdictsBy
 pub mod LineRunLists
 pub mod LinesInBytes

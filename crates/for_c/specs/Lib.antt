@@ -1,4 +1,4 @@
--- The values that C gets, and judges and reports that own their tables.
+-- The values that C gets, and reports whose wrong cases it asks for one by one.
 pub mod Statuses
 pub mod Reasons
 pub mod LimitsGiven
@@ -12,9 +12,8 @@ pub mod Fronts
 pub mod Pairs
 pub mod VerdictNumbers
 pub mod VerdictLines
-pub mod TableJudges
 pub mod ReportNumbers
-pub mod TableReports
+pub mod ReportsForC
 pub mod ReportCalls
 pub mod RoomCalls
 pub mod Positions

@@ -1,5 +1,5 @@
 //! A theorem about reports that return their wrong cases one by one.
-ghost use Rattle.for_c.specs.TableReports.{ReturnsAll};
+ghost use Rattle.for_c.specs.ReportsForC.{ReturnsAll};
 
 /// States that the wrong cases that a report has returned, followed by those of the last line that it has not returned
 /// yet, are all that are known, in their order. Before the end of the file these are the wrong cases of the final

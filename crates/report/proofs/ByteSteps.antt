@@ -16,13 +16,14 @@ use Rattle.ucdfiles.proofs.LinesWith.{lines_with-more, lines_with-long}
 use Rattle.bidtests.specs.declared.kind.Kind.{Kind}
 use Rattle.bidtests.specs.declared.verdict.Cause.{Cause}
 use Rattle.bidtests.specs.declared.verdict.Cause.TheVariants.{LineTooLong}
-use Rattle.bidtests.specs.FileKinds.{findings_by}
+use Rattle.bidtests.specs.FileKinds.{findings_by, tables_of}
 use Rattle.bidtests.specs.LineReadings.{finding_after}
 use Rattle.bidtests.proofs.SplitterSteps.{cut-line, cut-long, cut-more, last-lines, lines-ended}
 use Rattle.report.specs.declared.wrong_case.WrongCase.{WrongCase}
 use Rattle.report.specs.FileReports.{FileReport, report_on, report_of}
 use Rattle.report.specs.Reporting.{LineReporting, Reporting, Reports, IsAfterLine, HasNothingNew, IsReportAfter, GoesOn, ReportsBy, forgotten, IsAfterCut, IsAfterLast, cause_of, malformed_at, malformed_by, malformed_last}
 use Rattle.report.proofs.LineSteps.{over-long, report-following, report-ends, report-whole}
+use Rattle.report.proofs.SameReports.{report-as, reports-as}
 
 module _ (terms : Terms) (kind : Kind) (s : LineReporting) (reported : List WrongCase) (lines : List (List ℕ))
     (h : IsReportAfter terms kind s reported lines) where
@@ -228,22 +229,15 @@ none-found s t same = ap (λ (u : LineReporting). u.found) same
 same-case_counts : (s t : LineReporting) → t ≡ forgotten s → t.case_counts ≡ s.case_counts
 same-case_counts s t same = ap (λ (u : LineReporting). u.case_counts) same
 
--- what a report represents, with its own kind
-kind-is : (terms : Terms) (kind : Kind) (j : Reporting) (reported : List WrongCase) (b : List ℕ) →
-    Reports terms kind j reported b
-    → ReportsBy terms j.kind j.malformed j.cutting j.lines reported b
-kind-is terms kind j reported b r =
-    let P : Kind → Type 0 = λ k. ReportsBy terms k j.malformed j.cutting j.lines reported b in
-    subst P (sym r.of) r.is
-
 module _ (j : Reporting) (s t : LineReporting) (fresh : s ≡ forgotten j.lines) where
-  module _ (undecided : j.malformed ≡ None) where
+  -- a report whose own kind has the same tables
+  module _ (own : Kind) (owned : tables_of own ≡ j.tables) (undecided : j.malformed ≡ None) where
     going-on : (terms : Terms) (kind : Kind) (reported : List WrongCase) (b : List ℕ) →
-        Reports terms kind j reported b → GoesOn terms j.kind j.cutting s reported b
+        Reports terms kind j reported b → GoesOn terms own j.cutting s reported b
     going-on terms kind reported b r =
-        let P : Option (ℕ × Cause) → Type 0 = λ m. ReportsBy terms j.kind m j.cutting j.lines reported b in
-        forgets terms j.kind j.cutting j.lines s reported b fresh
-        (subst P undecided (kind-is terms kind j reported b r))
+        let P : Option (ℕ × Cause) → Type 0 = λ m. ReportsBy terms own m j.cutting j.lines reported b in
+        forgets terms own j.cutting j.lines s reported b fresh
+        (subst P undecided (reports-as terms kind own (owned ∙ r.of) j.malformed j.cutting j.lines reported b r.is))
 
     -- a report after the bytes that its line splitter used
     pub takes : (new : Cutting) (malformed : Option (ℕ × Cause)) (piece : List ℕ) (used : ℕ) (taken : Cut) →
@@ -252,27 +246,30 @@ module _ (j : Reporting) (s t : LineReporting) (fresh : s ≡ forgotten j.lines)
         EndsByFeed used piece)
         → ((b : List ℕ) → Represents j.cutting b → ReturnsPiece b piece used taken)
         → ((b : List ℕ) → Represents j.cutting b → Represents new (b ++ take used piece))
-        → malformed ≡ malformed_by j.kind s taken → (malformed ≡ None → IsAfterCut j.kind taken s t)
+        → malformed ≡ malformed_by own s taken → (malformed ≡ None → IsAfterCut own taken s t)
         → ((m : ℕ × Cause) → malformed ≡ Some m → HasNothingNew s t)
         → (terms : Terms) (kind : Kind) (reported : List WrongCase) (b : List ℕ) → Reports terms kind j reported b
-        → Reports terms kind (record { kind = j.kind; cutting = new; lines = t; malformed = malformed }) (reported ++
-        t.found) (b ++ take used piece)
+        → Reports terms kind (record { tables = j.tables; cutting = new; lines = t; malformed = malformed }) (reported
+        ++ t.found) (b ++ take used piece)
     takes new malformed piece used taken within through outcomes represents is after ended terms kind reported b r =
         let o = going-on terms kind reported b r in
         let Q : Option (ℕ × Cause) → Type 0 =
-        λ m. ReportsBy terms j.kind m new t (reported ++ t.found) (b ++ take used piece) in
-        let by : ReportsBy terms j.kind malformed new t (reported ++ t.found) (b ++ take used piece) =
-        subst Q (sym is) (reports-on terms j.kind j.cutting new s t reported b piece used o
+        λ m. ReportsBy terms own m new t (reported ++ t.found) (b ++ take used piece) in
+        let by : ReportsBy terms own malformed new t (reported ++ t.found) (b ++ take used piece) =
+        subst Q (sym is) (reports-on terms own j.cutting new s t reported b piece used o
         (none-found j.lines s fresh) within (through b o.lines o.rest o.splitter o.cut)
         (represents b o.splitter) taken (outcomes b o.splitter)
         (λ e. after (is ∙ e)) (λ m e. ended m (is ∙ e))) in
-        let R : Kind → Type 0 = λ k. ReportsBy terms k malformed new t (reported ++ t.found) (b ++ take used piece) in
-        record { of = r.of; is = subst R r.of by }
+        record {
+          of = r.of;
+          is = reports-as terms own kind (sym (owned ∙ r.of)) malformed new t (reported ++ t.found) (b ++
+              take used piece) by;
+        }
 
     -- a report at the end of its file
     pub ends : (malformed : Option (ℕ × Cause)) (last : Option (ℕ × Bor (List ℕ))) →
         ((b : List ℕ) → Represents j.cutting b → Finishes b last)
-        → malformed ≡ malformed_last j.kind s last → (malformed ≡ None → IsAfterLast j.kind last s t)
+        → malformed ≡ malformed_last own s last → (malformed ≡ None → IsAfterLast own last s t)
         → ((m : ℕ × Cause) → malformed ≡ Some m → HasNothingNew s t)
         → (terms : Terms) (kind : Kind) (reported : List WrongCase) (b : List ℕ) → Reports terms kind j reported b
         → report_of terms kind b ≡ record {
@@ -283,28 +280,28 @@ module _ (j : Reporting) (s t : LineReporting) (fresh : s ≡ forgotten j.lines)
         }
     ends malformed last finishes is after ended terms kind reported b r =
         let o = going-on terms kind reported b r in
-        let whole = reports-whole terms j.kind j.cutting s t reported b o (none-found j.lines s fresh) last
+        let whole = reports-whole terms own j.cutting s t reported b o (none-found j.lines s fresh) last
         (finishes b o.splitter) (λ e. after (is ∙ e)) (λ m e. ended m (is ∙ e)) in
-        ap (λ k. report_of terms k b) (sym r.of) ∙ rw (is) whole
+        report-as terms own kind (sym (owned ∙ r.of)) b ∙ rw (is) whole
 
   nothing-new : HasNothingNew j.lines s
   nothing-new = record { found = none-found j.lines s fresh; case_counts = same-case_counts j.lines s fresh }
 
   -- a report that has ended, after further bytes
-  pub takes-ended : (cutting : Cutting) (piece : List ℕ) → is_some j.malformed ≡ true
+  pub takes-ended : (piece : List ℕ) → is_some j.malformed ≡ true
       → (terms : Terms) (kind : Kind) (reported : List WrongCase) (b : List ℕ) → Reports terms kind j reported b
       → Reports terms kind (record {
-        kind = j.kind;
-        cutting = cutting;
+        tables = j.tables;
+        cutting = j.cutting;
         lines = s;
         malformed =
             j.malformed;
       }) (reported ++ s.found) (b ++ piece)
-  takes-ended cutting piece some terms kind reported b r = record { of = r.of; is = by j.malformed some r.is } where
+  takes-ended piece some terms kind reported b r = record { of = r.of; is = by j.malformed some r.is } where
     by : (m : Option (ℕ × Cause)) → is_some m ≡ true → ReportsBy terms kind m j.cutting j.lines reported b →
-        ReportsBy terms kind m cutting s (reported ++ s.found) (b ++ piece)
+        ReportsBy terms kind m j.cutting s (reported ++ s.found) (b ++ piece)
     by None e r = absurd (false≢true e)
-    by (Some m) e r = ended-on terms kind m j.cutting cutting j.lines s reported b piece nothing-new r
+    by (Some m) e r = ended-on terms kind m j.cutting j.cutting j.lines s reported b piece nothing-new r
 
   -- a report that has ended, at the end of its file
   pub ends-ended : is_some j.malformed ≡ true → (terms : Terms) (kind : Kind) (reported : List WrongCase) (b : List ℕ) →

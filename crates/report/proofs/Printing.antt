@@ -1,5 +1,5 @@
 -- What was printed of a report, piece by piece.
-use Rattle.std.proofs.Common.{◌≡◌, ◌≢◌, ℕ, suc, zero, ◌+◌, Option, List, [], ◌∷◌, ◌++◌, length, take, refl, sym, ap, subst, ◌∙◌, arith, append_assoc, append-nil, length-append, drop, Bool, Result, Ok, Err, IfErr, IsErrAnd}
+use Rattle.std.proofs.Common.{◌≡◌, ◌≢◌, ℕ, suc, zero, ◌+◌, Option, List, [], ◌∷◌, ◌++◌, length, take, refl, sym, ap, subst, ◌∙◌, arith, append_assoc, append-nil, length-append, drop, Bool, Result, Ok, Err, IfErr}
 use Rattle.std.specs.IoError.{error_kind}
 use Rattle.std.specs.List.{flat_map}
 use Rattle.std.specs.declared.io.Error.{Error}
@@ -15,7 +15,7 @@ use Rattle.report.specs.declared.print.ReportFault.{ReportFault}
 use Rattle.report.specs.declared.print.ReportFault.TheVariants.{Read, Write, NobodyReads}
 use Rattle.printing.specs.declared.written.Written.TheVariants.{Whole, CutOff}
 use Rattle.report.specs.FileReports.{report_of, decided_cases}
-use Rattle.report.specs.Reporting.{EndedReport, Reporting, Reports, report_at_end}
+use Rattle.report.specs.Reporting.{Reporting, Reports, report_at_end}
 use Rattle.report.specs.PrintedReports.{BreaksOff, EndsUnwritten, HasReported, HasWrittenFirst, IsFaultOf, IsWriteFault, Prints, PrintsEnd, PrintsKnownCases}
 use Rattle.report.specs.ReportText.{first_cases_text, report_text, wrong_case_text}
 use Rattle.report.proofs.DecidedCases.{reported-decided}
@@ -142,7 +142,7 @@ module _ (Failed Ended : Type 0) (r : Reporting) (most : ℕ) (a b : Option (Lis
   end-fails Gave given gave ended (Err fault) h = (given, gave, write-ends given fault ended h)
 
 -- the text of a whole report: the cases reported before the end, those of a last line, and the foot
-pub whole-printed : (r s : Reporting) (e : EndedReport) (most remaining : ℕ) (ws : List WrongCase) (given : List ℕ)
+pub whole-printed : (r s e : Reporting) (most remaining : ℕ) (ws : List WrongCase) (given : List ℕ)
     (a b d : Option (List ℕ)) (right : Bool)
     → HasReported r ws given s → HasWrittenFirst most ws a b remaining
     → ((terms : Terms) (kind : Kind) (reported : List WrongCase) (bs : List ℕ) → Reports terms kind s reported bs →
@@ -151,7 +151,7 @@ pub whole-printed : (r s : Reporting) (e : EndedReport) (most remaining : ℕ) (
 whole-printed r s e most remaining ws given a b d right reported written ends end terms kind just =
     let is : report_of terms kind given ≡ report_at_end ws e =
     ends terms kind ws given (reported terms kind [] [] just) in
-    let cases = written-more most remaining end.remaining ws e.found a b end.between written end.cases in
+    let cases = written-more most remaining end.remaining ws e.lines.found a b end.between written end.cases in
     record {
       text = Appends-to a d _ _ (ap (report_text most) (sym is))
           (Appends-joined a end.between d _ _ cases.lines end.foot);

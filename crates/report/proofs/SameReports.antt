@@ -5,19 +5,18 @@ use Rattle.report.specs.declared.terms.Terms.{Terms}
 use Rattle.units.specs.Text.{lines_of}
 use Rattle.bidtests.specs.declared.kind.Kind.{Kind}
 use Rattle.bidtests.specs.declared.verdict.Cause.{Cause}
-use Rattle.bidtests.specs.JudgedSoFar.{tables_of}
+use Rattle.bidtests.specs.FileKinds.{tables_of}
 use Rattle.bidtests.specs.Verdicts.{Finding}
 use Rattle.bidtests.specs.LineReadings.{levels_in, order_in}
 use Rattle.bidtests.proofs.SameTables.{findings-as, in-force-as}
 use Rattle.report.specs.declared.wrong_case.WrongCase.{WrongCase}
 use Rattle.report.specs.FileReports.{first_malformed, report_on, report_of}
-use Rattle.report.specs.Reporting.{LineReporting, IsReportAfter, ReportsBy, Reports}
-use Rattle.report.specs.ReportedSoFar.{StateOf, HasReportedFor, reporting}
+use Rattle.report.specs.Reporting.{LineReporting, IsReportAfter, ReportsBy}
 use Rattle.report.specs.ReportCounts.{counts_of}
 use Rattle.report.specs.WrongCases.{wrong_cases_from}
 
 module _ (terms : Terms) (kind other : Kind) (same : tables_of other ≡ tables_of kind) where
-  report-as : (b : List ℕ) → report_of terms other b ≡ report_of terms kind b
+  pub report-as : (b : List ℕ) → report_of terms other b ≡ report_of terms kind b
   report-as b = ap (report_on terms) (sym (findings-as terms.limits kind other same (lines_of b)))
 
   following-as : (s : LineReporting) (reported : List WrongCase) (lines : List (List ℕ)) →
@@ -32,7 +31,8 @@ module _ (terms : Terms) (kind other : Kind) (same : tables_of other ≡ tables_
         cases = h.cases ∙ ap (wrong_cases_from terms 0) e;
       }
 
-  reports-as : (m : Option (ℕ × Cause)) (cutting : Cutting) (s : LineReporting) (reported : List WrongCase) (b : List ℕ)
+  pub reports-as : (m : Option (ℕ × Cause)) (cutting : Cutting) (s : LineReporting) (reported : List WrongCase)
+      (b : List ℕ)
       → ReportsBy terms kind m cutting s reported b → ReportsBy terms other m cutting s reported b
   reports-as None cutting s reported b h =
       record {
@@ -44,23 +44,3 @@ module _ (terms : Terms) (kind other : Kind) (same : tables_of other ≡ tables_
             following-as s reported h.lines h.following;
       }
   reports-as (Some m) cutting s reported b h = λ more. report-as (b ++ more) ∙ h more
-
--- the state of a report on a file of one kind is one for each kind with the same tables
-pub reported-for : (terms : Terms) (kind : Kind) (state : StateOf) (reported : List WrongCase) (b : List ℕ)
-    → ReportsBy terms kind state.malformed state.cutting state.lines reported b →
-    HasReportedFor terms (tables_of kind) state reported b
-reported-for terms kind state reported b h =
-    λ other same. reports-as terms kind other same state.malformed state.cutting state.lines reported b h
-
--- the state of a report of this kind
-pub state-of : (terms : Terms) (kind own : Kind) (state : StateOf) (reported : List WrongCase) (b : List ℕ)
-    → Reports terms kind (reporting own state) reported b → HasReportedFor terms (tables_of own) state reported b
-state-of terms kind own state reported b h =
-    reported-for terms own state reported b (subst (λ (k : Kind).
-    ReportsBy terms k state.malformed state.cutting state.lines reported b) (sym h.of) h.is)
-
--- a report of this kind with this state
-pub reports-of : (terms : Terms) (kind own : Kind) (state : StateOf) (reported : List WrongCase) (b : List ℕ) →
-    own ≡ kind
-    → HasReportedFor terms (tables_of own) state reported b → Reports terms kind (reporting own state) reported b
-reports-of terms kind own state reported b of holds = record { of = of; is = holds kind (ap tables_of (sym of)) }

@@ -6,5 +6,4 @@ pub mod ReportCounts
 pub mod FileReports
 pub mod ReportText
 pub mod Reporting
-pub mod ReportedSoFar
 pub mod PrintedReports

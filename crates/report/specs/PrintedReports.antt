@@ -13,7 +13,7 @@ use Rattle.printing.specs.declared.written.Written.{Written}
 use Rattle.printing.specs.declared.written.Written.TheVariants.{CutOff}
 use Rattle.report.specs.declared.wrong_case.WrongCase.{WrongCase}
 use Rattle.report.specs.FileReports.{FileReport, is_right, report_of, decided_cases}
-use Rattle.report.specs.Reporting.{EndedReport, Reporting, Reports, report_at_end}
+use Rattle.report.specs.Reporting.{Reporting, Reports, report_at_end}
 use Rattle.report.specs.ReportText.{first_cases_text, foot_text, report_text}
 
 -- the report reported these wrong cases while it was given these bytes
@@ -30,11 +30,11 @@ pub record HasWrittenFirst (most : ℕ) (ws : List WrongCase) (before after : Op
 
 -- after the first wrong cases the end of a report is printed: the first of the wrong cases that it found last, as many
 -- as may follow, and the foot; the result is whether the file is right
-pub record PrintsEnd (most : ℕ) (ended : EndedReport) (before after : Option (List ℕ)) (right : Bool) : Type 0 where
+pub record PrintsEnd (most : ℕ) (ended : Reporting) (before after : Option (List ℕ)) (right : Bool) : Type 0 where
   pub between : Option (List ℕ)
   pub remaining : ℕ
-  pub cases : HasWrittenFirst most ended.found before between remaining
-  pub foot : Appends between after (foot_text ended.malformed ended.case_counts)
+  pub cases : HasWrittenFirst most ended.lines.found before between remaining
+  pub foot : Appends between after (foot_text ended.malformed ended.lines.case_counts)
   pub outcome : (terms : Terms) (kind : Kind) (reported : List WrongCase) (bytes : List ℕ)
       → report_of terms kind bytes ≡ report_at_end reported ended → right ≡ is_right (report_of terms kind bytes)
 

@@ -4,13 +4,14 @@ use Rattle.std.specs.Prelude.{◌≡◌, Option, Some, None, ℕ, List, [], ◌+
 use Rattle.units.specs.LineCutting.{Cutting, Represents}
 use Rattle.report.specs.declared.terms.Terms.{Terms}
 use Rattle.units.specs.Lines.{CutsInto}
+use Rattle.ucdfiles.specs.Tables.{TablesOf}
 use Rattle.units.specs.declared.line_cut.Cut.{Cut}
 use Rattle.units.specs.declared.line_cut.Cut.TheVariants.{More, Line, TooLong}
 use Rattle.bidtests.specs.declared.kind.Kind.{Kind}
 use Rattle.bidtests.specs.declared.verdict.Cause.{Cause}
 use Rattle.bidtests.specs.declared.verdict.Cause.TheVariants.{LineTooLong}
 use Rattle.bidtests.specs.Carried.{AreInForce}
-use Rattle.bidtests.specs.FileKinds.{findings_by}
+use Rattle.bidtests.specs.FileKinds.{findings_by, tables_of}
 use Rattle.bidtests.specs.LineReadings.{LineReading, levels_in, order_in, finding_after, HasNoList, IsAfterOneLine}
 use Rattle.bidtests.specs.Verdicts.{Finding, Silent, Row, Faulty}
 use Rattle.report.specs.declared.case_counts.CaseCounts.{CaseCounts}
@@ -89,10 +90,10 @@ pub record IsReportAfter (terms : Terms) (kind : Kind) (s : LineReporting) (repo
   pub case_counts : s.case_counts ≡ counts_of terms (findings_by kind lines)
   pub cases : reported ≡ wrong_cases_from terms 0 (findings_by kind lines)
 
--- what a report stores: the kind of its file, the state of its line splitter, what it stores between lines, and the
--- malformed line at which it has ended
+-- what a report stores: the tables of its file's kind, if it has tables, the state of its line splitter, what it stores
+-- between lines, and the malformed line at which it has ended
 pub record Reporting : Type 0 where
-  pub kind : Kind
+  pub tables : Option TablesOf
   pub cutting : Cutting
   pub lines : LineReporting
   pub malformed : Option (ℕ × Cause)
@@ -121,8 +122,13 @@ ReportsBy terms kind (Some malformed) cutting s reported bytes =
 -- cases
 pub record Reports (terms : Terms) (kind : Kind) (report : Reporting) (reported : List WrongCase)
     (bytes : List ℕ) : Type 0 where
-  pub of : report.kind ≡ kind
+  pub of : report.tables ≡ tables_of kind
   pub is : ReportsBy terms kind report.malformed report.cutting report.lines reported bytes
+
+-- the same for each kind with these tables, or without tables
+abbrev pub ReportsWith : Terms → Option TablesOf → Reporting → List WrongCase → List ℕ → Type 0
+ReportsWith terms tables report reported bytes =
+    (kind : Kind) → tables_of kind ≡ tables → Reports terms kind report reported bytes
 
 -- the malformed line that the end of a file ends, if it ends one
 abbrev pub malformed_last : Kind → LineReporting → Option (ℕ × Bor (List ℕ)) → Option (ℕ × Cause)
@@ -134,13 +140,10 @@ abbrev pub IsAfterLast : Kind → Option (ℕ × Bor (List ℕ)) → LineReporti
 IsAfterLast kind None before after = after ≡ before
 IsAfterLast kind (Some last) before after = IsAfterLine kind last.0 last.1.now before after
 
--- the rest of a report at the end of its file: the wrong cases of a last line without line feed, the counts, and the
--- first malformed line
-pub record EndedReport : Type 0 where
-  pub found : List WrongCase
-  pub case_counts : CaseCounts
-  pub malformed : Option (ℕ × Cause)
-
--- the report on the whole file, if these wrong cases were reported before its end
-abbrev pub report_at_end : List WrongCase → EndedReport → FileReport
-report_at_end reported e = record { wrong = reported ++ e.found; case_counts = e.case_counts; malformed = e.malformed }
+-- the report on the whole file, if these wrong cases were reported before its end, and the others are found at its end
+abbrev pub report_at_end : List WrongCase → Reporting → FileReport
+report_at_end reported r = record {
+  wrong = reported ++ r.lines.found;
+  case_counts = r.lines.case_counts;
+  malformed = r.malformed;
+}

@@ -13,7 +13,6 @@ mod read_order;
 pub mod report;
 pub mod report_text;
 mod row_cases;
-pub mod state;
 pub mod terms;
 pub mod theorems;
 pub mod wrong_case;

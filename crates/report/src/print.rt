@@ -8,7 +8,7 @@ ghost use Rattle.report.specs.PrintedReports.{BreaksOff, EndsUnwritten, HasRepor
 ghost use Rattle.report.specs.PrintedReports.{IsFaultOf, IsWriteFault, Prints, PrintsEnd};
 ghost use Rattle.report.specs.ReportText.{wrong_cases_text};
 
-use crate::report::{Ended, Report};
+use crate::report::Report;
 use crate::report_text::{print_foot, print_wrong_case};
 use crate::wrong_case::WrongCase;
 use printing::written::Written;
@@ -143,7 +143,7 @@ fn print_source<S: ByteSource, W: Write>(
 
 /// Writes the rest of an ended report: the lines of the first of its wrong cases, at most `most`, and then the foot.
 /// Returns whether the file is right.
-fn print_end<W: Write>(w: &mut W, ended: &Ended, most: u64) -> Result<bool, ReportFault>
+fn print_end<W: Write>(w: &mut W, ended: &Report<'_>, most: u64) -> Result<bool, ReportFault>
     ensures printed { IfOk result (PrintsEnd most ended.now (W.contents w.old) (W.contents w.new)) }
     ensures fault { IfErr result IsWriteFault }
 {
@@ -177,6 +177,6 @@ pub fn print_report<S: ByteSource, W: Write>(
         (W.contents w.old) (W.contents w.new) fault) }
 {
     let remaining = print_source(w, &mut report, source, most)?;
-    let ended = report.finish();
-    print_end(w, &ended, remaining)
+    report.finish();
+    print_end(w, &report, remaining)
 }

@@ -1,7 +1,6 @@
 // Judges a file, and prints the verdict.
 ghost use Rattle.std.specs.Prelude.{◌≡◌, [], ◌∷◌, ℕ, List, IfOk, IfErr};
-ghost use Rattle.units.specs.Limits.{standard};
-ghost use Rattle.bidtests.specs.JudgedSoFar.{IsVerdictAfter, Judges};
+ghost use Rattle.bidtests.specs.JudgedSoFar.{IsVerdictAfter};
 ghost use Rattle.requests.specs.JudgedFiles.{HasJudged, IsVerdictOn, verdict_status};
 ghost use Rattle.requests.specs.Outcomes.{IsDone};
 ghost use Rattle.requests.specs.ReadFiles.{most_file_bytes, origin_of};
@@ -16,13 +15,13 @@ use crate::request::{FileKind, TableSource};
 use crate::row_tables::{row_tables, rows_by};
 use crate::verdict_line::print_verdict;
 use bidtests::judge::Judge;
-use bidtests::kind::Kind;
+use bidtests::kind::{Kind, StoredKind};
 use bidtests::reader::judge_reader;
 use bidtests::verdict::Verdict;
 use printing::written::Written;
 use std::alloc::Global;
 use std::io::Write;
-use units::memory::Memory;
+use units::limits::Limits;
 
 /// Returns the exit status of a verdict: 0 for a yes, 1 for a no.
 fn status_of(verdict: Verdict) -> u8
@@ -62,16 +61,6 @@ fn verdict_on<'a, F: Files>(
     }
 }
 
-/// Creates a judge of these rows, before the first byte of their file.
-fn judge_of<'t>(alloc: Global, rows: Kind<'t>) -> Result<Judge<'t>, Memory>
-    ensures { IfOk result (λ judge. Judges standard rows.entry judge []) }
-{
-    match rows {
-        Kind::Classes => Judge::for_classes(alloc),
-        Kind::Characters(tables) => Judge::for_characters(alloc, tables),
-    }
-}
-
 /// Judges FILE as a file of these rows, prints the line of the verdict, and returns its exit status.
 fn judge_as<'a, F: Files, W: Write>(
     alloc: Global,
@@ -86,7 +75,7 @@ fn judge_as<'a, F: Files, W: Write>(
         (W.contents out.old) (W.contents out.new)) }
     ensures memory { IfErr result (MemoryLeaves (W.contents out.old) (W.contents out.new)) }
 {
-    let judge = judge_of(alloc, rows)?;
+    let judge = Judge::new(alloc, StoredKind::Borrowed(rows), Limits::standard())?;
     let verdict = verdict_on(alloc, judge, file, files)?;
     print_verdict(out, &verdict)?;
     Ok(status_of(verdict))

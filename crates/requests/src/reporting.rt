@@ -11,7 +11,7 @@ use crate::opening::{MOST_FILE_BYTES, open};
 use crate::outcome::Outcome;
 use crate::request::{FileKind, ReportOptions, TableSource};
 use crate::row_tables::{row_tables, rows_by};
-use bidtests::kind::Kind;
+use bidtests::kind::{Kind, StoredKind};
 use report::print::{ReportFault, print_report};
 use report::report::Report;
 use report::terms::Terms;
@@ -47,7 +47,7 @@ fn report_as<'a, F: Files, W: Write>(
         leniency: options.leniency,
     };
     let mut source = open(alloc, files, file, MOST_FILE_BYTES)?;
-    let report = Report::new(alloc, rows, terms)?;
+    let report = Report::new(alloc, StoredKind::Borrowed(rows), terms)?;
     match print_report(out, report, &mut source, options.most) {
         Ok(right) => Ok(status_of(right)),
         Err(ReportFault::Write) => Err(Fault::CannotWrite),

@@ -4,7 +4,7 @@
 use crate::digest::Digest;
 use crate::inputs::{Inputs, MOST_DRAWS, no_new_input};
 use bidtests::judge::Judge;
-use bidtests::kind::Kind;
+use bidtests::kind::{Kind, StoredKind};
 use bidtests::verdict_line::print_verdict;
 use report::print::print_report;
 use report::report::Report;
@@ -97,11 +97,8 @@ fn write_new_file(
 
 /// Judges a file in pieces, and adds the line of the verdict.
 fn judge(alloc: Global, kind: Kind<'_>, file: &[u8], reported: &mut Vec<u8>) -> io::Result<()> {
-    let judge = match kind {
-        Kind::Classes => Judge::for_classes(alloc),
-        Kind::Characters(tables) => Judge::for_characters(alloc, tables),
-    };
-    let mut judge = judge.map_err(|_| rejected())?;
+    let kind = StoredKind::Borrowed(kind);
+    let mut judge = Judge::new(alloc, kind, Limits::standard()).map_err(|_| rejected())?;
     for piece in file.chunks(4_096) {
         judge.feed(piece);
     }
@@ -111,6 +108,7 @@ fn judge(alloc: Global, kind: Kind<'_>, file: &[u8], reported: &mut Vec<u8>) -> 
 /// Reports on a file with other limits, and adds the report.
 fn report_on(alloc: Global, kind: Kind<'_>, file: &[u8], reported: &mut Vec<u8>) -> io::Result<()> {
     let limits = Limits::new(6, 3).map_err(|_| rejected())?;
+    let kind = StoredKind::Borrowed(kind);
     let report = Report::new(alloc, kind, Terms::strict(limits)).map_err(|_| rejected())?;
     let mut source = SliceSource::new(file);
     match print_report(reported, report, &mut source, 20) {

@@ -8,7 +8,7 @@ returns-clause-printed g c =
     IfOk-weaker c.print_end.result _ _ (λ right end. (
       reported.0,
       reported.2,
-      whole-printed _ _ _ _ _ _ _ _ _ _ _ reported.3 reported.4 c.finish-ended.ensures end,
+      whole-printed _ _ _ _ _ _ _ _ _ _ _ reported.3 reported.4 c.finish.ensures end,
     ))
     c.print_end.ensures.printed
 

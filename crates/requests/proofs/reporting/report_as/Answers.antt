@@ -16,7 +16,8 @@ returns-in-Ok-clause-reported g c =
       limits = limits;
       leniency =
           leniency;
-    }) c.args.rows c.in_ok-report.report [] []) c.standard.ensures c.in_ok-report.ensures.represents in
+    }) c.args.rows c.in_ok-report.report [] []) c.standard.ensures
+    (c.in_ok-report.ensures.represents c.args.rows refl) in
     let is = printed.2 (terms_by leniency) c.args.rows begun in
     let status = c.status_of.ensures ∙ ap report_status is.outcome in
     record {
@@ -49,7 +50,8 @@ returns-clause-fault g c =
       limits = limits;
       leniency =
           leniency;
-    }) c.args.rows c.in_ok-report.report [] []) c.standard.ensures c.in_ok-report.ensures.represents in
+    }) c.args.rows c.in_ok-report.report [] []) c.standard.ensures
+    (c.in_ok-report.ensures.represents c.args.rows refl) in
     rw c.unread-unread.ensures (inr (
       refl,
       record {

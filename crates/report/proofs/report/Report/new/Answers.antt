@@ -1,7 +1,16 @@
-use Rattle.std.proofs.Common.{refl}
-use Rattle.bidtests.specs.JudgedSoFar.{tables_of}
+use Rattle.std.proofs.Common.{[], sym}
+use Rattle.bidtests.proofs.SplitterSteps.{nothing}
+use Rattle.report.proofs.LineSteps.{report-start}
 use Rattle.report.proofs.report.Report.new.Goals as goal
 
 pub returns-clause-represents : goal.returns-clause-represents
-returns-clause-represents c =
-    record { of = refl; is = c.in_ok-state.ensures.represents (tables_of c.args.kind) c.args.kind refl }
+returns-clause-represents c = λ kind by. record {
+  of = sym by;
+  is = record {
+    splitter = c.new-2.ensures;
+    lines = [];
+    rest = [];
+    cut = nothing;
+    following = report-start c.args.terms kind c.in_ok-lines.lines c.in_ok-lines.ensures;
+  };
+}

@@ -1,8 +1,0 @@
-use Rattle.std.proofs.Common.{take}
-use Rattle.for_c.proofs.CasesReturned.{takes-line}
-use Rattle.for_c.proofs.table_report.TableReport.take_line.Goals as goal
-
-pub returns-clause-takes : goal.returns-clause-takes
-returns-clause-takes c =
-    takes-line c.args.self.now c.requires c.kind_by.result c.kind_by.ensures c.take-used.new.self
-    (take c.take-used.result c.args.piece.now) c.take-used.ensures.reports
