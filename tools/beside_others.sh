@@ -8,6 +8,9 @@
 # libfribidi_over_bidi.so and with FriBidi. Tables and rooms are made once, and only the calls on them are counted. In
 # the columns of the C library levels and order are also copied out.
 #
+# Texts of kinds that people write come in tables of their own: instructions on code points and on UTF-8, with words and
+# short lines each laid out by a call of its own, and times at a thousand and a million characters.
+#
 # usage: tools/beside_others.sh [FOLDER]      (FOLDER, with the property files: /usr/share/unicode)
 #
 # It needs gcc, valgrind and python3, and ends with 2 if one of them or a property file is missing. A column whose
@@ -22,6 +25,8 @@ library=${LIBRARY:-$tools/../crates/bidi_c/out/libbidi_c.a}
 heap=${RATTLE_C:-$(dirname "$(readlink -f "$(command -v rt)")")/../c}/liblibc_c.a
 ordinary="english hebrew vowels mixed zwj persian isolates embeddings"
 ordinary="$ordinary arabic digits segments overrides code alternating mixed_10000 one_latin one_hebrew"
+written="english hebrew english_zwj english_fsi news chat csv urls persian html words lines"
+long="english news html"
 # ICU takes quadratic time on nested and on unmatched brackets.
 hostile="fsi_1e6 rli_1e6 isolated_1e6 ladder_1e6 around_1e6 pairs_1e6 alternating_1e6 nested_1e4 unmatched_1e4"
 seconds=60
@@ -69,6 +74,11 @@ build utf16_bidi_c "$library" "$heap"
 # characters_of TEXT: prints how many characters a file has.
 characters_of() {
     python3 -c 'import sys; print(len(open(sys.argv[1], encoding="utf-8", newline="").read()))' "$1"
+}
+
+# written_of TEXT: prints how many characters its lines have.
+written_of() {
+    python3 -c 'import sys; print(len(open(sys.argv[1], encoding="utf-8", newline="").read().replace("\n", "")))' "$1"
 }
 
 # units_of ENCODING TEXT: prints how many code units it has in UTF-8 or UTF-16.
@@ -197,6 +207,21 @@ for name in ${ordinary%% one_*}; do
     encoded_row "$name" "$(characters_of "$text")" "$(units_of utf-16-le "$text")" "$(all_of lay_out_bidi_c "$text")" \
         "$(all_of utf16_bidi_c "$text")" "$(all_of lay_out_icu "$text")" -
 done
+# shellcheck disable=SC2059
+printf "$head" "as written" "ours" "from C" "ICU" "FriBidi" "to ICU" "C to ICU"
+for name in $written; do
+    text=$work/texts/$name.txt
+    count=$(written_of "$text")
+    row "$name" - "$(each_of lay_out_bidi_c "$text" "$count")" "$(each_of lay_out_icu "$text" "$count")" \
+        "$(each_of lay_out_fribidi "$text" "$count")"
+done
+# shellcheck disable=SC2059
+printf "$head" "as written, UTF-8" "ours" "from C" "ICU" "FriBidi" "to ICU" "C to ICU"
+for name in $written; do
+    text=$work/texts/$name.txt
+    count=$(written_of "$text")
+    row "$name" - "$(each_of utf8_bidi_c "$text" "$count")" "$(each_of utf8_icu "$text" "$count")" -
+done
 printf '%-18s %10s %10s %8s\n' "FriBidi's calls" "over ours" "FriBidi" "ratio"
 for name in english hebrew mixed english_20 hebrew_20 mixed_20; do
     text=$work/texts/$name.txt
@@ -210,4 +235,15 @@ for name in $hostile; do
     row "$name" "$(time_of "$program" --tables "$work" "$text" 10)" \
         "$(time_of "$work/lay_out_bidi_c" "$text" 10 "$work")" \
         "$(time_of "$work/lay_out_icu" "$text" 10)" "$(time_of "$work/lay_out_fribidi" "$text" 10)"
+done
+# shellcheck disable=SC2059
+printf "$head" "ns" "ours" "from C" "ICU" "FriBidi" "to ICU" "C to ICU"
+for name in $long; do
+    for size in "" _1e6; do
+        text=$work/texts/$name$size.txt
+        rounds=10
+        [ -n "$size" ] || rounds=10000
+        row "$name$size" - "$(time_of "$work/lay_out_bidi_c" "$text" $rounds "$work")" \
+            "$(time_of "$work/lay_out_icu" "$text" $rounds)" "$(time_of "$work/lay_out_fribidi" "$text" $rounds)"
+    done
 done

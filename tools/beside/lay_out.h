@@ -1,5 +1,5 @@
 /* Lays out a text with an engine, again and again: the levels and the visual order of one paragraph as one line,
- * direction auto.
+ * direction auto. An engine that defines WITH_LINES lays out each line of the file as a text of its own.
  *
  * usage: lay_out_.. FILE ROUNDS [FOLDER]
  *
@@ -58,9 +58,45 @@ static uint32_t *decode(const uint8_t *bytes, size_t length, size_t *count) {
 static uint8_t *file_bytes;
 static size_t file_length;
 
-/* Of the engine. */
+/* A line of the file, without its LF: where it begins, in code points and in bytes, and how many it has. */
+struct line {
+    size_t start, count, first_byte, bytes;
+};
+
+/* Of the engine: `use_line` chooses the line that `lay_out_once` lays out. */
 static void prepare(const uint32_t *codes, size_t n, const char *folder);
+#ifdef WITH_LINES
+static void use_line(const struct line *line);
+#else
+static void use_line(const struct line *line) { (void)line; }
+#endif
 void lay_out_once(void);
+
+static struct line *lines;
+static size_t line_count;
+
+/* Finds the lines of a file; one without LF is one line. */
+static void find_lines(const uint32_t *codes, size_t n) {
+    lines = room(sizeof *lines * (n + 1));
+    struct line line = {0, 0, 0, 0};
+    size_t byte = 0;
+    for (size_t i = 0; i <= n; i++) {
+        if (i == n || codes[i] == '\n') {
+            line.count = i - line.start;
+            line.bytes = byte - line.first_byte;
+            lines[line_count++] = line;
+            line = (struct line){i + 1, 0, byte + 1, 0};
+        }
+        if (i < n) byte += codes[i] < 0x80 ? 1 : codes[i] < 0x800 ? 2 : codes[i] < 0x10000 ? 3 : 4;
+    }
+}
+
+static void lay_out_lines(void) {
+    for (size_t k = 0; k < line_count; k++) {
+        use_line(lines + k);
+        lay_out_once();
+    }
+}
 
 static double seconds(void) {
     struct timespec now;
@@ -74,15 +110,21 @@ int main(int count, char **words) {
     file_bytes = read_bytes(words[1], &file_length);
     uint32_t *codes = decode(file_bytes, file_length, &n);
     prepare(codes, n, count > 3 ? words[3] : ".");
+#ifdef WITH_LINES
+    find_lines(codes, n);
+#else
+    (void)find_lines;
+    line_count = 1;
+#endif
 
-    lay_out_once();
+    lay_out_lines();
     double least = 0;
     long left = atol(words[2]);
     for (int batch = 0; batch < BATCHES; batch++) {
         long rounds = left / (BATCHES - batch);
         if (!rounds) continue;
         double start = seconds();
-        for (long round = 0; round < rounds; round++) lay_out_once();
+        for (long round = 0; round < rounds; round++) lay_out_lines();
         double each = (seconds() - start) * 1e9 / rounds / (n ? n : 1);
         if (least == 0 || each < least) least = each;
         left -= rounds;

@@ -1,10 +1,11 @@
 /* The engine of this repository, through the library for C: the layout, with its levels and its order copied out. */
+#define WITH_LINES
 #include "lay_out.h"
 #include "../c/bidi.h"
 
 static bidi_tables tables = BIDI_NONE;
 static bidi_room text_room = BIDI_NONE;
-static const uint32_t *text;
+static const uint32_t *whole, *text;
 static size_t length, *order;
 static uint8_t *levels;
 
@@ -22,10 +23,14 @@ static void prepare(const uint32_t *codes, size_t n, const char *folder) {
     uint8_t *mirrors = read_in(folder, "BidiMirroring.txt", &c);
     if (bidi_tables_new(classes, a, brackets, b, mirrors, c, &tables, &fault)) fail("no tables");
     if (bidi_room_new(n, &text_room)) fail("no room");
-    text = codes;
-    length = n;
+    whole = codes;
     order = room(sizeof(size_t) * n);
     levels = room(n);
+}
+
+static void use_line(const struct line *line) {
+    text = whole + line->start;
+    length = line->count;
 }
 
 __attribute__((noinline)) void lay_out_once(void) {

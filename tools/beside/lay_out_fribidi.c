@@ -1,8 +1,9 @@
 /* FriBidi: UTF-32, in columns made once. FRIBIDI_FLAG_REORDER_NSM (rule L3) is off. */
+#define WITH_LINES
 #include "lay_out.h"
 #include <fribidi.h>
 
-static const FriBidiChar *text;
+static const FriBidiChar *whole, *text;
 static FriBidiStrIndex length, *order;
 static FriBidiCharType *types;
 static FriBidiBracketType *brackets;
@@ -10,12 +11,16 @@ static FriBidiLevel *levels;
 
 static void prepare(const uint32_t *codes, size_t n, const char *folder) {
     (void)folder;
-    text = codes;
-    length = (FriBidiStrIndex)n;
+    whole = codes;
     order = room(sizeof *order * n);
     types = room(sizeof *types * n);
     brackets = room(sizeof *brackets * n);
     levels = room(sizeof *levels * n);
+}
+
+static void use_line(const struct line *line) {
+    text = whole + line->start;
+    length = (FriBidiStrIndex)line->count;
 }
 
 __attribute__((noinline)) void lay_out_once(void) {

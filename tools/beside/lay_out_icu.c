@@ -1,18 +1,30 @@
 /* ICU: UTF-16, made beforehand; one UBiDi for all calls. */
+#define WITH_LINES
 #include "lay_out.h"
 #include <unicode/ubidi.h>
 #include <unicode/utf16.h>
 
 static UBiDi *bidi;
-static UChar *text;
-static int32_t length, *order;
+static UChar *whole, *text;
+static int32_t length, *order, *starts;
 
 static void prepare(const uint32_t *codes, size_t n, const char *folder) {
     (void)folder;
-    text = room(sizeof(UChar) * 2 * n);
+    whole = room(sizeof(UChar) * 2 * n);
     order = room(sizeof(int32_t) * 2 * n);
-    for (size_t i = 0; i < n; i++) U16_APPEND_UNSAFE(text, length, codes[i]);
+    starts = room(sizeof(int32_t) * (n + 1));
+    int32_t units = 0;
+    for (size_t i = 0; i < n; i++) {
+        starts[i] = units;
+        U16_APPEND_UNSAFE(whole, units, codes[i]);
+    }
+    starts[n] = units;
     bidi = ubidi_open();
+}
+
+static void use_line(const struct line *line) {
+    text = whole + starts[line->start];
+    length = starts[line->start + line->count] - starts[line->start];
 }
 
 __attribute__((noinline)) void lay_out_once(void) {
