@@ -86,6 +86,9 @@ impl Room {
         requires { All (λ k. k < characters_in self.now) order.old }
         ensures { order.new ≡ map (offset_in self.now) order.old }
     {
+        if self.is_plain() {
+            return;
+        }
         for i in 0..order.len() {
             order[i] = self.offset_of(order[i]);
         }
@@ -101,6 +104,9 @@ impl Room {
         ensures spread { (i k : ℕ) → i < length levels.old → IsAt self.now (offset_in self.now first + i) k
             → slice_index_or levels.new i None ≡ slice_index_or levels.old (k - first) None }
     {
+        if self.is_plain() {
+            return;
+        }
         self.offsets_rise();
         let start = self.offset_of(first);
         for k in (first..last).rev() {

@@ -1,6 +1,7 @@
 use Rattle.std.proofs.Common.{◌∙◌, ◌+◌, ◌-◌, ◌<◌, ℕ, None, arith, inl, inr, length, subst}
 use Rattle.std.proofs.lemmas.List.{get_or_default}
 use Rattle.room.proofs.Boundaries.{before_it}
+use Rattle.room.proofs.Plain.{at_or_after, level_stays}
 use Rattle.room.proofs.Spreading.{AreSpread, is_next, more_spread}
 use Rattle.room.proofs.room.Room.spread_levels.Goals as goal
 
@@ -67,3 +68,9 @@ returns-clause-spread c i k lt at =
       c.requires.inside,
     )) (omega (arith, before)) in
     c.loop-k.invariant.spread.spread i k lt (omega (arith, low, c.loop-k-test.false)) at
+
+pub returns-then-is_plain-clause-spread : goal.returns-then-is_plain-clause-spread
+returns-then-is_plain-clause-spread c i k lt at =
+    let room = c.args.self.now in
+    let plain = c.is_plain.ensures c.if-is_plain.true in
+    level_stays room plain c.args.levels.now c.args.first i k at (at_or_after room plain c.args.first i k at)
