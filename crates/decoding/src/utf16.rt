@@ -48,6 +48,8 @@ fn read(found: Option<char>, faults: Faults) -> Option<char>
 
 /// Writes the units and the offsets of a text, and after the offsets the offset of the text's end. Returns how many
 /// characters there are. If `faults` rejects unpaired surrogates, fails with the offset of the first one.
+// Not inlined, a code unit takes fewer instructions.
+#[inline(never)]
 pub fn decode_utf16(
     text: &[u16],
     faults: Faults,
