@@ -87,7 +87,9 @@ pub struct SystemFiles<'a, R: std::rt::Files + Input> {
 
 impl<'a, R: std::rt::Files + Input> SystemFiles<'a, R> {
     /// Wraps the files that the runtime opens, and its standard input.
-    pub fn new(rt: &'a R) -> Self {
+    pub fn new(rt: &'a R) -> Self
+        ensures { result.rt ≡ rt.entry }
+    {
         SystemFiles { rt }
     }
 }
