@@ -40,19 +40,21 @@ IsPrinted before after kind.DisplayVersion = Appends before after version_text
 IsPrinted before after _ = Unit {0}
 
 -- the end of a run whose arguments give this error of `clap`: help or the version is requested and printed, or its
--- write failed; or an allocation failed; or the arguments are rejected, and nothing is printed
+-- write failed; or an allocation failed; or the arguments are rejected, nothing is printed, and no write to the output
+-- failed
 abbrev pub EndsWithout : Option (List ℕ) → Option (List ℕ) → Option (List ℕ) → Option (List ℕ) → Error → Ended → Type 0
 EndsWithout before after err_before err_after error ended =
     (AsksForHelp error × IsPrinted before after (kind_of error) × EndsWell 0 err_before err_after ended)
     ⊎ ((AsksForHelp error × EndsBy Brief CannotWrite err_before err_after ended)
     ⊎ (((kind_of error ≡ kind.OutOfMemory) × (after ≡ before) × EndsBy Brief OutOfMemory err_before err_after ended)
-    ⊎ (RejectsWords error × (after ≡ before) × (ended.status ≡ 2))))
+    ⊎ (RejectsWords error × (after ≡ before) × (ended.status ≡ 2) × (ended.is_written ≡ true))))
 
--- the end of a run whose arguments are accepted but make no request, for this reason: nothing is printed, and if the
--- reason is reported, the known contents of standard error grew by its text
+-- the end of a run whose arguments are accepted but make no request, for this reason: nothing is printed, no write to
+-- the output failed, and if the reason is reported, the known contents of standard error grew by its text
 pub record EndsUnasked (why : NoRequest) (before after err_before err_after : Option (List ℕ))
     (ended : Ended) : Type 0 where
   pub status_is : ended.status ≡ 2
+  pub written : ended.is_written ≡ true
   pub unprinted : after ≡ before
   pub says : ended.is_reported ≡ true → Appends err_before err_after (no_request_text why)
 

@@ -55,7 +55,8 @@ fn end_shown<E: Write>(shown: io::Result<()>, err: &mut E) -> Ended
 /// Reports why the arguments are rejected, and returns how the run ends. The status is the same if the report can't be
 /// written.
 fn reject<E: Write>(rejection: &Error, err: &mut E) -> Ended
-    ensures { result.status ≡ 2 }
+    ensures status { result.status ≡ 2 }
+    ensures written { result.is_written ≡ true }
 {
     let written = write!(err, "{rejection}");
     let flushed = err.flush();
@@ -69,6 +70,7 @@ fn reject<E: Write>(rejection: &Error, err: &mut E) -> Ended
 /// Reports why accepted arguments make no request, and returns how the run ends.
 fn say_no_request<E: Write>(why: NoRequest, err: &mut E) -> Ended
     ensures status { result.status ≡ 2 }
+    ensures written { result.is_written ≡ true }
     ensures noted { result.is_reported ≡ true →
         Appends (E.contents err.old) (E.contents err.new) (no_request_text why) }
 {
