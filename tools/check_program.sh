@@ -542,6 +542,11 @@ is 'standard output of refused words' '' "$(cat found_out)"
 "$program" --help > found_out 2> found_err
 is 'status of --help' 0 $?
 is 'standard error of --help' '' "$(cat found_err)"
+for word in levels reorder explain judge report rows; do
+    "$program" $word --help
+done > found_out 2> found_err
+is 'help of each subcommand' "$(cat "$tools/help.out")" "$(cat found_out)"
+is 'standard error of these' '' "$(cat found_err)"
 
 ends 0 $'bidi 1.1.0 (rules P1 to L2 and L4 of UAX #9, Unicode 17.0)\ntables of Unicode 17.0.0 built in\nproved with rattle-kit-13f logic dac8208d650f15bf' '' --version
 
