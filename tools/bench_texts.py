@@ -65,14 +65,19 @@ def phrase(chance):
     return text + chance.choice([' ', ' ', ', ', '. ', ' - '])
 
 
-def mixed(length):
-    """Returns phrases of three languages, cut to a length; the same ones on every run."""
-    chance = random.Random(7)
+def written(length, kind, seed=11):
+    """Returns parts of this kind, cut to a length; the same ones on every run."""
+    chance = random.Random(seed)
     parts, count = [], 0
     while count < length:
-        parts.append(phrase(chance))
+        parts.append(kind(chance))
         count += len(parts[-1])
     return ''.join(parts)[:length]
+
+
+def mixed(length):
+    """Returns phrases of three languages, cut to a length."""
+    return written(length, phrase, 7)
 
 
 def some_words(chance, words, least, most):
@@ -130,16 +135,6 @@ def html(chance):
     return '<li class="u%d"><b>%s</b>: %s <i>%s</i></li> ' % (
         chance.randint(1, 99), LRI + chance.choice(NAMES) + PDI, some_words(chance, words, 2, 7),
         LRI + chance.choice(NAMES) + PDI)
-
-
-def written(length, kind):
-    """Returns parts of this kind, cut to a length; the same ones on every run."""
-    chance = random.Random(11)
-    parts, count = [], 0
-    while count < length:
-        parts.append(kind(chance))
-        count += len(parts[-1])
-    return ''.join(parts)[:length]
 
 
 def written_texts():

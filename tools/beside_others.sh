@@ -207,21 +207,19 @@ for name in ${ordinary%% one_*}; do
     encoded_row "$name" "$(characters_of "$text")" "$(units_of utf-16-le "$text")" "$(all_of lay_out_bidi_c "$text")" \
         "$(all_of utf16_bidi_c "$text")" "$(all_of lay_out_icu "$text")" -
 done
-# shellcheck disable=SC2059
-printf "$head" "as written" "ours" "from C" "ICU" "FriBidi" "to ICU" "C to ICU"
-for name in $written; do
-    text=$work/texts/$name.txt
-    count=$(written_of "$text")
-    row "$name" - "$(each_of lay_out_bidi_c "$text" "$count")" "$(each_of lay_out_icu "$text" "$count")" \
-        "$(each_of lay_out_fribidi "$text" "$count")"
-done
-# shellcheck disable=SC2059
-printf "$head" "as written, UTF-8" "ours" "from C" "ICU" "FriBidi" "to ICU" "C to ICU"
-for name in $written; do
-    text=$work/texts/$name.txt
-    count=$(written_of "$text")
-    row "$name" - "$(each_of utf8_bidi_c "$text" "$count")" "$(each_of utf8_icu "$text" "$count")" -
-done
+# written_table TITLE OURS ICU FRIBIDI: prints a table of texts as people write them, by these programs.
+written_table() {
+    # shellcheck disable=SC2059
+    printf "$head" "$1" "ours" "from C" "ICU" "FriBidi" "to ICU" "C to ICU"
+    for name in $written; do
+        text=$work/texts/$name.txt
+        count=$(written_of "$text")
+        row "$name" - "$(each_of "$2" "$text" "$count")" "$(each_of "$3" "$text" "$count")" \
+            "$(each_of "$4" "$text" "$count")"
+    done
+}
+written_table "as written" lay_out_bidi_c lay_out_icu lay_out_fribidi
+written_table "as written, UTF-8" utf8_bidi_c utf8_icu no_program
 printf '%-18s %10s %10s %8s\n' "FriBidi's calls" "over ours" "FriBidi" "ratio"
 for name in english hebrew mixed english_20 hebrew_20 mixed_20; do
     text=$work/texts/$name.txt
