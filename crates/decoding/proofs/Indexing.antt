@@ -82,9 +82,3 @@ pub indexed_as : (starts breaks column now : List ℕ) (next more k : ℕ) → n
 indexed_as starts breaks column now next more k same_column same_next i =
     subst (λ xs. IsIndexed starts breaks xs more k) (sym same_column) (subst (λ n. IsIndexed starts breaks column n k)
     (sym same_next) i)
-
--- of the offsets before the index `to`, `count` are at most `at`
-pub record IsCounted (starts : List ℕ) (at count to : ℕ) : Type 0 where
-  pub inside : count ≤ to
-  pub below : (k : ℕ) → k < count → slice_index starts k ≤ at
-  pub above : (k : ℕ) → count ≤ k → k < to → at < slice_index starts k

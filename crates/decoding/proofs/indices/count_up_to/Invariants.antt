@@ -1,9 +1,9 @@
-use Rattle.std.proofs.Common.{◌+◌}
+use Rattle.std.proofs.Common.{◌≤◌}
 use Rattle.decoding.specs.Starts.{IsNarrowed}
 use Rattle.decoding.proofs.indices.count_up_to.Given as goal
 
-abbrev pub invariant-loop-size : goal.invariant-loop-size
-invariant-loop-size l = IsNarrowed l.starts l.at l.first (l.first + l.size)
-
-abbrev pub decreases-loop-size : goal.decreases-loop-size
-decreases-loop-size l = l.size
+abbrev pub invariant-loop : goal.invariant-loop
+invariant-loop l = record {
+  forward : l.search.first ≤ l.search.end;
+  known : IsNarrowed l.starts l.at l.search.first l.search.end;
+}
