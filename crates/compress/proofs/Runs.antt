@@ -1,0 +1,33 @@
+-- Levels that are written one by one.
+use Rattle.std.specs.Prelude.{Option, None, ℕ, ◌+◌, ◌<◌, ◌≤◌, ◌≡◌, List, length, set, slice_index_or, if◌then◌else◌, refl}
+use Rattle.std.proofs.Common.{arith, ap, sym, ◌∙◌, ◌≢◌, inl, inr}
+use Rattle.std.proofs.lemmas.Bool.{cases_lt, cond-false}
+use Rattle.std.proofs.lemmas.List.{get_or-set_same, get_or-set_other}
+use Rattle.units.specs.Classes.{is_removed}
+use Rattle.units.specs.declared.bracket.Unit.{Unit as BidiUnit}
+use Rattle.compress.specs.Laid.{IsRun, RemainAll}
+use Rattle.compress.proofs.Counting.{at}
+
+pub run_none : (us : List BidiUnit) (start : ℕ) (level : Option ℕ) (old : List (Option ℕ)) → IsRun us start start level old old
+run_none us start level old = record {
+  inside = λ p a b. absurd (omega arith);
+  below = λ p lt. refl;
+  above = λ p le. refl;
+}
+
+pub run_more : (us : List BidiUnit) (start p : ℕ) (level made : Option ℕ) (old levels : List (Option ℕ)) → start ≤ p → p < length levels →
+    made ≡ (if is_removed (at us p).class then None else level) → IsRun us start p level old levels → IsRun us start (p + 1) level old (set levels p made)
+run_more us start p level made old levels le lt e run = record {
+  inside = λ q a b. elim (cases_lt q p) [
+    | inl low ↦ (let apart : q ≢ p = omega arith in get_or-set_other levels p q made None apart ∙ run.inside q a low)
+    | inr ge ↦
+        (let same : q ≡ p = omega arith in
+        ap (λ i. slice_index_or (set levels p made) i None) same ∙ get_or-set_same levels p made None lt ∙ e
+        ∙ sym (ap (λ i. if is_removed (at us i).class then None else level) same))
+  ];
+  below = λ q low. (let apart : q ≢ p = omega arith in get_or-set_other levels p q made None apart ∙ run.below q low);
+  above = λ q high. (let apart : q ≢ p = omega arith in get_or-set_other levels p q made None apart ∙ run.above q (omega arith));
+}
+
+pub remains : (us : List BidiUnit) (p : ℕ) (level : Option ℕ) → RemainAll us → p < length us → level ≡ (if is_removed (at us p).class then None else level)
+remains us p level all lt = sym (cond-false (is_removed (at us p).class) None level (all p lt))

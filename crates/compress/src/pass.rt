@@ -1,0 +1,424 @@
+//! The pass that compresses a flat paragraph.
+ghost use Rattle.std.specs.Prelude.{suc, ◌&&◌, ◌||◌, ◌≡◌, ℕ, ◌+◌, ◌<◌, ◌≤◌, ◌^◌, true, false, List, IfSome, length, drop, slice_index_or, if◌then◌else◌};
+ghost use Rattle.units.specs.Classes.{is_removed, is_strong};
+ghost use Rattle.units.specs.Layout.{no_unit};
+ghost use Rattle.units.specs.declared.bracket.Unit.{Unit as BidiUnit};
+ghost use Rattle.units.specs.declared.class.Class.{Class as BidiClass};
+ghost use Rattle.compress.specs.Laid.{start_of, stack_of, class_after, IsLaid, IsNextAt, IsApart, IsStateAt, LeadsOn, AreFew};
+ghost use Rattle.compress.specs.PassedSets.{has};
+ghost use Rattle.compress.specs.Remaining.{remaining_units};
+ghost use Rattle.compress.specs.Squeeze.{Stack, is_bare, passes_after, popped, added, next_for, turned, first_unit, known_after};
+
+use crate::passed_set::PassedSet;
+use crate::rules::{
+    is_bare, is_between, is_letter_again, is_mark, is_neutral_unit, is_number_or_sign,
+    is_open_letter, joins, unit_for,
+};
+use std::sync::ledger::Ledger;
+use units::bracket::{Bracket, Key, Unit};
+use units::class::Class;
+use units::steps::Steps;
+
+/// Stores a position as a unit, so that one column contains both the chosen units and their positions.
+fn stored(position: usize) -> Unit
+    requires { position < 2 ^ 32 }
+    ensures { start_of result ≡ position }
+{
+    Unit {
+        class: Class::ON,
+        bracket: Bracket::Open(Key(position as u32)),
+    }
+}
+
+/// Returns the position that is stored as this unit.
+pub fn start_of(stored: Unit) -> usize
+    ensures { result ≡ start_of stored }
+{
+    match stored.bracket {
+        Bracket::Open(key) => key.0 as usize,
+        _ => 0,
+    }
+}
+
+/// Returns how many of the first `m` remain chosen once this unit comes next.
+fn popped(chosen: &[Unit], m: usize, unit: Unit) -> usize
+    requires chosen { m ≤ length chosen.now }
+    ensures stack { (us starts : List BidiUnit) (end : ℕ) → IsLaid us starts m end
+        → stack_of us chosen.now starts result end ≡ popped (stack_of us chosen.now starts m end) unit }
+    ensures laid { (us starts : List BidiUnit) (end : ℕ) → IsLaid us starts m end → IsLaid us starts result end }
+    ensures within { result ≤ m }
+{
+    if m > 1 && is_between(chosen[m - 2], chosen[m - 1], unit) {
+        m - 1
+    } else {
+        m
+    }
+}
+
+/// Lets the unit at the position `p` join the last chosen one, or chooses it. Returns how many are chosen then.
+fn added(
+    direction: Class,
+    chosen: &mut [Unit],
+    starts: &mut [Unit],
+    m: usize,
+    unit: Unit,
+    p: usize,
+) -> usize
+    requires chosen { m < length chosen.old }
+    requires starts { m < length starts.old }
+    requires short { p < 2 ^ 32 }
+    ensures stack { (us : List BidiUnit) (end : ℕ) → IsLaid us starts.old m p → IsNextAt us p end
+        → stack_of us chosen.new starts.new result end
+        ≡ added direction (stack_of us chosen.old starts.old m p) unit }
+    ensures laid { (us : List BidiUnit) (end : ℕ) → IsLaid us starts.old m p → IsNextAt us p end
+        → IsLaid us starts.new result end }
+    ensures within { result ≤ m + 1 }
+    ensures some { 0 < result }
+{
+    if m > 0 && joins(direction, chosen[m - 1], unit) {
+        return m;
+    }
+    chosen[m] = unit;
+    starts[m] = stored(p);
+    m + 1
+}
+
+/// Returns the class at a position, or L at the end.
+fn class_or_l(para: &[Unit], p: usize) -> Class
+    ensures { result ≡ (first_unit (drop p para.now)).class }
+{
+    if p < para.len() {
+        para[p].class
+    } else {
+        Class::L
+    }
+}
+
+/// Returns the next unit, or what replaces it.
+fn next_for(strong: Class, chosen: &[Unit], m: usize, unit: Unit, next: Class) -> Unit
+    requires { m ≤ length chosen.now }
+    ensures { (sos : BidiClass) (us starts : List BidiUnit) (end : ℕ)
+        → strong ≡ (known_after sos (stack_of us chosen.now starts m end)).strong
+        → result ≡ next_for sos (stack_of us chosen.now starts m end) unit next }
+{
+    if m == 0 {
+        unit
+    } else {
+        unit_for(strong, chosen[m - 1], unit, next)
+    }
+}
+
+/// What is known before a unit.
+#[derive(Clone, Copy)]
+struct Known {
+    /// The embedding direction.
+    direction: Class,
+
+    /// The last strong class, or the embedding direction.
+    strong: Class,
+}
+
+/// How many units are chosen after a unit, its class or that of what replaces it, and the position from which on the
+/// next one is.
+#[derive(Clone, Copy)]
+struct Turned {
+    m: usize,
+    class: Class,
+    end: usize,
+}
+
+/// Chooses the unit at the position `p`, or what replaces it, or drops it. A separator or a number depends on the class
+/// of the next unit that remains.
+#[inline(never)]
+fn turn_by_next<L: Ledger>(
+    known: Known,
+    chosen: &mut [Unit],
+    starts: &mut [Unit],
+    m: usize,
+    para: &[Unit],
+    p: usize,
+    steps: &mut Steps<L>,
+) -> Turned
+    requires chosen { m < length chosen.old }
+    requires starts { m < length starts.old }
+    requires here { p < length para.now }
+    requires short { length para.now < 2 ^ 32 }
+    ensures later { p < result.end }
+    ensures within { result.end ≤ length para.now }
+    ensures removed { (q : ℕ) → p + 1 ≤ q → q < result.end
+        → is_removed (slice_index_or para.now q no_unit).class ≡ true }
+    ensures stack { IsStateAt known para.now chosen.old starts.old m p
+        → stack_of para.now chosen.new starts.new result.m result.end
+        ≡ turned known.direction known.direction (stack_of para.now chosen.old starts.old m p)
+        (slice_index_or para.now p no_unit) (class_after para.now p) }
+    ensures laid { IsStateAt known para.now chosen.old starts.old m p
+        → IsLaid para.now starts.new result.m result.end }
+    ensures class { IsStateAt known para.now chosen.old starts.old m p
+        → result.class ≡ (next_for known.direction (stack_of para.now chosen.old starts.old m p)
+        (slice_index_or para.now p no_unit) (class_after para.now p)).class }
+    ensures more { result.m ≤ m + 1 }
+    ensures some { 0 < result.m }
+    ensures steps { steps.new + p + 1 ≡ steps.old + result.end }
+{
+    let end = next_remaining(para, p + 1, steps);
+    let unit = next_for(known.strong, chosen, m, para[p], class_or_l(para, end));
+    let count = popped(chosen, m, unit);
+    let m = added(known.direction, chosen, starts, count, unit, p);
+    Turned {
+        m,
+        class: unit.class,
+        end,
+    }
+}
+
+/// Chooses the unit at the position `p`, which nothing replaces, or drops it. Returns how many are chosen then.
+fn turn_plain(
+    direction: Class,
+    chosen: &mut [Unit],
+    starts: &mut [Unit],
+    m: usize,
+    unit: Unit,
+    p: usize,
+) -> usize
+    requires chosen { m < length chosen.old }
+    requires starts { m < length starts.old }
+    requires short { p < 2 ^ 32 }
+    ensures stack { (us : List BidiUnit) (end : ℕ) → IsLaid us starts.old m p → IsNextAt us p end
+        → IsApart direction chosen.old m unit
+        → stack_of us chosen.new starts.new result end
+        ≡ added direction (popped (stack_of us chosen.old starts.old m p) unit) unit }
+    ensures laid { (us : List BidiUnit) (end : ℕ) → IsLaid us starts.old m p → IsNextAt us p end
+        → IsLaid us starts.new result end }
+    ensures within { result ≤ m + 1 }
+    ensures some { 0 < result }
+{
+    let count = popped(chosen, m, unit);
+    if count < m && count > 0 && joins(direction, chosen[count - 1], unit) {
+        return count;
+    }
+    if count < m || is_mark(unit.class) {
+        return added(direction, chosen, starts, count, unit, p);
+    }
+    chosen[m] = unit;
+    starts[m] = stored(p);
+    m + 1
+}
+
+/// Chooses the unit at the position `p`, or what replaces it, or drops it.
+fn turn<L: Ledger>(
+    known: Known,
+    chosen: &mut [Unit],
+    starts: &mut [Unit],
+    m: usize,
+    para: &[Unit],
+    p: usize,
+    steps: &mut Steps<L>,
+) -> Turned
+    requires chosen { m < length chosen.old }
+    requires starts { m < length starts.old }
+    requires here { p < length para.now }
+    requires short { length para.now < 2 ^ 32 }
+    ensures later { p < result.end }
+    ensures within { result.end ≤ length para.now }
+    ensures removed { (q : ℕ) → p + 1 ≤ q → q < result.end
+        → is_removed (slice_index_or para.now q no_unit).class ≡ true }
+    ensures stack { IsStateAt known para.now chosen.old starts.old m p
+        → stack_of para.now chosen.new starts.new result.m result.end
+        ≡ turned known.direction known.direction (stack_of para.now chosen.old starts.old m p)
+        (slice_index_or para.now p no_unit) (class_after para.now p) }
+    ensures laid { IsStateAt known para.now chosen.old starts.old m p
+        → IsLaid para.now starts.new result.m result.end }
+    ensures class { IsStateAt known para.now chosen.old starts.old m p
+        → result.class ≡ (next_for known.direction (stack_of para.now chosen.old starts.old m p)
+        (slice_index_or para.now p no_unit) (class_after para.now p)).class }
+    ensures more { result.m ≤ m + 1 }
+    ensures some { 0 < result.m }
+    ensures steps { steps.new + p + 1 ≡ steps.old + result.end }
+{
+    let unit = para[p];
+    if is_number_or_sign(unit.class) {
+        return turn_by_next(known, chosen, starts, m, para, p, steps);
+    }
+    let m = turn_plain(known.direction, chosen, starts, m, unit, p);
+    Turned {
+        m,
+        class: unit.class,
+        end: p + 1,
+    }
+}
+
+/// Returns the last strong class after a unit of this class.
+fn later(strong: Class, class: Class) -> Class
+    ensures { result ≡ (if is_strong class then class else strong) }
+{
+    if class.is_strong() { class } else { strong }
+}
+
+/// Returns the classes that are passed after a chosen unit.
+fn passed_after(direction: Class, unit: Unit) -> PassedSet
+    ensures { (next : BidiClass) → has result next ≡ passes_after direction unit next }
+{
+    if is_bare(unit.bracket) {
+        PassedSet::after(direction, unit.class)
+    } else {
+        PassedSet::removed()
+    }
+}
+
+/// X9: Returns whether a unit with a bracket is removed. If it is inlined, all units are tested.
+#[inline(never)]
+fn is_removed(unit: Unit) -> bool
+    ensures { result ≡ is_removed unit.class }
+{
+    unit.class.is_removed()
+}
+
+/// Returns whether a unit is of these classes, and has no bracket unless it is removed (X9).
+fn is_passed(set: PassedSet, unit: Unit) -> bool
+    ensures { result ≡ (has set unit.class && (is_bare unit.bracket || is_removed unit.class)) }
+{
+    set.has(unit.class) && (is_bare(unit.bracket) || is_removed(unit))
+}
+
+/// Passes units from `start` on, as long as they are of these classes and have no bracket. Returns the position after
+/// them.
+fn pass_run<L: Ledger>(para: &[Unit], start: usize, set: PassedSet, steps: &mut Steps<L>) -> usize
+    requires { start ≤ length para.now }
+    ensures from_start { start ≤ result }
+    ensures within { result ≤ length para.now }
+    ensures passed { (p : ℕ) → start ≤ p → p < result
+        → has set (slice_index_or para.now p no_unit).class ≡ true }
+    ensures bare { (p : ℕ) → start ≤ p → p < result → (is_bare (slice_index_or para.now p no_unit).bracket
+        || is_removed (slice_index_or para.now p no_unit).class) ≡ true }
+    ensures stopped { result < length para.now → (has set (slice_index_or para.now result no_unit).class
+        && (is_bare (slice_index_or para.now result no_unit).bracket
+        || is_removed (slice_index_or para.now result no_unit).class)) ≡ false }
+    ensures steps { steps.new + start ≡ steps.old + result }
+{
+    let mut p = start;
+    while p < para.len() && is_passed(set, para[p]) {
+        steps.tick();
+        p += 1;
+    }
+    p
+}
+
+/// Returns the position after one to three neutrals from `p` on and the same letter as `top` after them, if neutrals
+/// after `top` depend on what comes after them. Returns `p` if there are none, or if another unit comes after them.
+fn past_neutrals(direction: Class, top: Unit, para: &[Unit], p: usize) -> usize
+    requires { p ≤ length para.now }
+    ensures later { p ≤ result }
+    ensures within { result ≤ length para.now }
+    ensures leads { (chosen starts : List BidiUnit) (k : ℕ) → top ≡ slice_index_or chosen k no_unit
+        → IsLaid para.now starts (suc k) p
+        → LeadsOn direction para.now (stack_of para.now chosen starts (suc k) p) p
+        → LeadsOn direction para.now (stack_of para.now chosen starts (suc k) result) result }
+{
+    let remaining = para.len() - p;
+    if remaining < 2 || !is_open_letter(direction, top) || !is_neutral_unit(para[p]) {
+        return p;
+    }
+    if is_letter_again(top.class, para[p + 1]) {
+        return p + 2;
+    }
+    if remaining < 3 || !is_neutral_unit(para[p + 1]) {
+        return p;
+    }
+    if is_letter_again(top.class, para[p + 2]) {
+        return p + 3;
+    }
+    if remaining < 4 || !is_neutral_unit(para[p + 2]) || !is_letter_again(top.class, para[p + 3]) {
+        return p;
+    }
+    p + 4
+}
+
+/// Passes units from `start` on that have the level of the last chosen one, `top`. Returns the position after them.
+fn pass_on<L: Ledger>(
+    direction: Class,
+    top: Unit,
+    para: &[Unit],
+    start: usize,
+    steps: &mut Steps<L>,
+) -> usize
+    requires { start ≤ length para.now }
+    ensures from_start { start ≤ result }
+    ensures within { result ≤ length para.now }
+    ensures leads { (chosen starts : List BidiUnit) (k : ℕ) → top ≡ slice_index_or chosen k no_unit
+        → IsLaid para.now starts (suc k) start
+        → LeadsOn direction para.now (stack_of para.now chosen starts (suc k) start) start
+        → LeadsOn direction para.now (stack_of para.now chosen starts (suc k) result) result }
+    ensures apart { (chosen : List BidiUnit) (k : ℕ) → top ≡ slice_index_or chosen k no_unit
+        → result < length para.now → IsApart direction chosen (suc k) (slice_index_or para.now result no_unit) }
+    ensures steps { steps.new + start ≡ steps.old + result }
+{
+    let set = passed_after(direction, top);
+    let mut p = pass_run(para, start, set, steps);
+    let mut next = past_neutrals(direction, top, para, p);
+    while next > p {
+        steps.add(next - p);
+        p = pass_run(para, next, set, steps);
+        next = past_neutrals(direction, top, para, p);
+    }
+    p
+}
+
+/// X9: Returns the first position from `start` on that remains, or the end.
+fn next_remaining<L: Ledger>(para: &[Unit], start: usize, steps: &mut Steps<L>) -> usize
+    requires { start ≤ length para.now }
+    ensures from_start { start ≤ result }
+    ensures within { result ≤ length para.now }
+    ensures removed { (p : ℕ) → start ≤ p → p < result
+        → is_removed (slice_index_or para.now p no_unit).class ≡ true }
+    ensures here { result < length para.now → is_removed (slice_index_or para.now result no_unit).class ≡ false }
+    ensures steps { steps.new + start ≡ steps.old + result }
+{
+    let mut p = start;
+    while p < para.len() && para[p].class.is_removed() {
+        steps.tick();
+        p += 1;
+    }
+    p
+}
+
+/// Returns how many turns the pass may have made at this position before it gives up.
+fn most_turns(p: usize) -> usize
+    ensures { (n : ℕ) → p ≤ n → result ≤ n + 4 }
+{
+    p / 4 + 4
+}
+
+/// Chooses the few units that are to be resolved in place of this paragraph, in a sequence of this direction, and the
+/// position at which each begins. Returns how many these are, or `None` if there is no room for them or if they are
+/// not few.
+#[inline(never)]
+pub fn squeeze<L: Ledger>(
+    para: &[Unit],
+    direction: Class,
+    chosen: &mut [Unit],
+    starts: &mut [Unit],
+    steps: &mut Steps<L>,
+) -> Option<usize>
+    requires short { length para.now < 2 ^ 32 }
+    ensures few { IfSome result (λ m. AreFew direction para.now chosen.new starts.new m) }
+    ensures at_least { steps.old ≤ steps.new }
+    ensures at_most { steps.new ≤ steps.old + length para.now }
+{
+    let mut m = 0;
+    let mut turns = 0;
+    let mut strong = direction;
+    let mut p = next_remaining(para, 0, steps);
+    while p < para.len() {
+        if m >= chosen.len() || m >= starts.len() || turns > most_turns(p) {
+            return None;
+        }
+        steps.tick();
+        turns += 1;
+        let known = Known { direction, strong };
+        let turned = turn(known, chosen, starts, m, para, p, steps);
+        m = turned.m;
+        strong = later(strong, turned.class);
+        p = pass_on(direction, chosen[m - 1], para, turned.end, steps);
+    }
+    Some(m)
+}
