@@ -56,6 +56,9 @@ fn are_neutral(classes: &ClassTable, brackets: &BracketTable) -> bool
     true
 }
 
+/// How many characters are looked up at once.
+const BLOCK: usize = 4;
+
 /// The classes and the brackets of characters, borrowed from the tables for a text. Contracts see the stages that
 /// determine the unit of a code point (`unit_by_stages`).
 #[derive(Drop)]
@@ -78,6 +81,7 @@ impl<'a> Model for BorrowedUnits<'a> {
 }
 
 impl<'a> BorrowedUnits<'a> {
+    ghost use Rattle.std.specs.Prelude.{◌+◌, ◌<◌, ◌≤◌, length, map, take};
     ghost use Rattle.ucdfiles.specs.UnitStages.{unit_by_stages};
 
     /// Returns the properties of a character that the algorithm uses: its class and its bracket.
@@ -102,6 +106,78 @@ impl<'a> BorrowedUnits<'a> {
         unit.bracket = Bracket::No;
         if !self.brackets_are_neutral || matches!(unit.class, Class::ON) {
             unit.bracket = self.brackets.value(c);
+        }
+    }
+
+    /// Returns whether the class of each bracket is known to be ON, as it is in the published files.
+    #[inline(always)]
+    pub fn are_neutral(&self) -> bool
+        ensures { result ≡ true → AreNeutral self.now.classes self.now.brackets }
+    {
+        self.brackets_are_neutral
+    }
+
+    #[tactic(auto, unfolding(crate::specs::Tables::class_by, crate::specs::Tables::bracket_by))]
+    #[inline(always)]
+    /// Does what `write_unit` does with one test less. The class of each bracket must be ON.
+    pub fn write_neutral(&self, c: char, unit: &mut Unit)
+        requires { AreNeutral self.now.classes self.now.brackets }
+        ensures { unit.new ≡ unit_by_stages self.now c }
+    {
+        let class = self.classes.value(c);
+        unit.class = class;
+        unit.bracket = Bracket::No;
+        if matches!(class, Class::ON) {
+            unit.bracket = self.brackets.value(c);
+        }
+    }
+
+    /// Writes the class and the bracket of the character with the index `k` after those of the characters before it.
+    /// The class of each bracket must be ON.
+    #[inline(always)]
+    fn write_next(&self, text: &[char], k: usize, units: &mut [Unit])
+        requires neutral { AreNeutral self.now.classes self.now.brackets }
+        requires inside { k < length text.now }
+        requires fits { length text.now ≤ length units.old }
+        requires before { take k units.old ≡ map (unit_by_stages self.now) (take k text.now) }
+        ensures len { length units.new ≡ length units.old }
+        ensures written { take (k + 1) units.new ≡ map (unit_by_stages self.now) (take (k + 1) text.now) }
+    {
+        self.write_neutral(text[k], &mut units[k]);
+    }
+
+    /// Writes the class and the bracket of each of these characters, up to fewer than a block at the end. Returns how
+    /// many characters it has passed. The class of each bracket must be ON.
+    #[inline(always)]
+    fn write_blocks(&self, text: &[char], units: &mut [Unit]) -> usize
+        requires neutral { AreNeutral self.now.classes self.now.brackets }
+        requires fits { length text.now ≤ length units.old }
+        ensures len { length units.new ≡ length units.old }
+        ensures within { result ≤ length text.now }
+        ensures written { take result units.new ≡ map (unit_by_stages self.now) (take result text.now) }
+    {
+        let blocks = text.len() / BLOCK;
+        for block in 0..blocks {
+            let k = block * BLOCK;
+            self.write_next(text, k, units);
+            self.write_next(text, k + 1, units);
+            self.write_next(text, k + 2, units);
+            self.write_next(text, k + 3, units);
+        }
+        blocks * BLOCK
+    }
+
+    /// Writes the class and the bracket of each of these characters but the first `passed`, which have theirs already.
+    #[inline(always)]
+    fn write_rest(&self, text: &[char], passed: usize, units: &mut [Unit])
+        requires fits { length text.now ≤ length units.old }
+        requires within { passed ≤ length text.now }
+        requires before { take passed units.old ≡ map (unit_by_stages self.now) (take passed text.now) }
+        ensures len { length units.new ≡ length units.old }
+        ensures written { take (length text.now) units.new ≡ map (unit_by_stages self.now) text.now }
+    {
+        for k in passed..text.len() {
+            self.write_unit(text[k], &mut units[k]);
         }
     }
 }
@@ -160,15 +236,31 @@ impl Tables {
         self.units().unit(c)
     }
 
+    /// Does what `look_up` does. Takes fewer instructions than its loop if there are several characters.
+    #[inline(never)]
+    fn look_up_blocks(&self, text: &[char], units: &mut [Unit])
+        requires { length units.old ≡ length text.now }
+        ensures { units.new ≡ units_by self.now text.now }
+    {
+        let borrowed = self.units();
+        let passed = if borrowed.are_neutral() {
+            borrowed.write_blocks(text, units)
+        } else {
+            0
+        };
+        borrowed.write_rest(text, passed, units);
+    }
+
     /// Writes the class and the bracket of each of these characters.
     #[inline(never)]
     pub fn look_up(&self, text: &[char], units: &mut [Unit])
         requires { length units.old ≡ length text.now }
         ensures { units.new ≡ units_by self.now text.now }
     {
-        let borrowed = self.units();
-        for k in 0..text.len() {
-            borrowed.write_unit(text[k], &mut units[k]);
+        if text.len() >= BLOCK {
+            self.look_up_blocks(text, units);
+        } else {
+            self.units().write_rest(text, 0, units);
         }
     }
 
