@@ -1,6 +1,7 @@
 -- Flat paragraphs: what the scan of their classes proves.
-use Rattle.std.specs.Prelude.{Option, None, Some, ℕ, Bool, true, false, ◌<◌, ◌≤◌, ◌≡◌, not, List, length, map, slice_index, refl}
+use Rattle.std.specs.Prelude.{Option, None, Some, ℕ, Bool, true, false, ◌<◌, ◌≤◌, ◌≡◌, not, List, [], ◌∷◌, length, map, slice_index, refl}
 use Rattle.std.specs.List.{flat_map, list_all}
+use Rattle.std.specs.Option.{is_some}
 use Rattle.std.proofs.Common.{arith, ap, sym, ◌∙◌, cond, get_or, inl, inr}
 use Rattle.std.proofs.lemmas.Bool.{and_parts, cases_lt, not-true}
 use Rattle.std.proofs.lemmas.Option.{none-some, same_Some}
@@ -110,3 +111,9 @@ unchanged_stays us level levels e p v found =
     one_level : (removed : Bool) → cond removed None (Some level) ≡ Some v → v ≡ level
     one_level true h = absurd (none-some v h)
     one_level false h = sym (same_Some level v h)
+
+-- if no class is removed, each position has the level
+pub all_have_level : (us : List BidiUnit) (level : ℕ) → has_none is_removed (classes_of us) ≡ true →
+    list_all is_some (map (λ (u : BidiUnit). level_unless_removed_at level u.class) us) ≡ true
+all_have_level [] level none = refl
+all_have_level (u ∷ us) level none = grind (arith, and_parts, not-true, all_have_level us level)

@@ -7,4 +7,5 @@ pub mod ClassKinds
 pub mod Scan
 pub mod FirstSides
 pub mod Unresolved
-pub mod OneUnit
+pub mod UniformLevels
+pub mod KnownLevels

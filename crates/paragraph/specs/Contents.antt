@@ -1,9 +1,12 @@
 -- The contents of a paragraph that decide which rules have something to do.
-use Rattle.std.specs.Prelude.{ℕ, ◌+◌, ◌≤◌, Bool, ◌≡◌, ◌&&◌, not, List, drop, find, length, take}
+use Rattle.std.specs.Prelude.{ℕ, ◌+◌, ◌≤◌, Bool, ◌≡◌, ◌&&◌, not, true, List, drop, find, length, take}
 use Rattle.std.specs.List.{list_all}
 use Rattle.units.specs.Classes.{classes_of, is_strong}
 use Rattle.units.specs.declared.bracket.Unit.{Unit as BidiUnit}
 use Rattle.units.specs.declared.class.Class.{Class}
+use Rattle.units.specs.declared.level.Direction.{Direction}
+use Rattle.units.specs.declared.level.ParaLevel.{ParaLevel}
+use Rattle.units.specs.Isolates.{level_of_para, para_level_of}
 use Rattle.explicit.specs.FirstParagraph.{first_length}
 use Rattle.explicit.specs.Flat.{is_flat}
 use Rattle.explicit.specs.Uniform.{may_rise}
@@ -24,6 +27,15 @@ are_flat cs = list_all is_flat cs
 -- X1 to I2: these classes leave each position at the paragraph's level
 abbrev pub keeps_level : ℕ → List Class → Bool
 keeps_level para_level cs = are_flat cs && has_none (may_rise para_level) cs
+
+-- P2 to I2: the same for the level of a paragraph with these classes under this direction
+abbrev pub keeps_own : Direction → List Class → Bool
+keeps_own direction cs = keeps_level (para_level_of cs direction) cs
+
+-- it does so, and this is the paragraph's level
+pub record IsUniformLevel (direction : Direction) (cs : List Class) (level : ParaLevel) : Type 0 where
+  pub keeps : keeps_own direction cs ≡ true
+  pub para : level_of_para level ≡ para_level_of cs direction
 
 -- P1: the first paragraph of a text continues after its first n units, which have these classes
 pub record IsFront (n : ℕ) (classes : ClassSet) (text : List BidiUnit) : Type 0 where

@@ -5,3 +5,4 @@ pub mod Removed
 pub mod Resolvers
 pub mod StepBounds
 pub mod FirstSides
+pub mod KnownLevels

@@ -1,5 +1,5 @@
 //! The contents of a paragraph, which show the rules that have nothing to do in it, and the end of a paragraph.
-ghost use Rattle.std.specs.Prelude.{◌≡◌, ◌+◌, ◌<◌, ◌≤◌, IfSome, IsNone, List, [], ◌∷◌, Some, false, find, length, take, true};
+ghost use Rattle.std.specs.Prelude.{◌≡◌, ◌+◌, ◌<◌, ◌≤◌, IfSome, IsNone, List, MatchOption, [], ◌∷◌, Some, false, find, length, take, true};
 ghost use Rattle.std.specs.List.{list_all, list_any};
 ghost use Rattle.units.specs.Classes.{classes_of, is_initiator, is_removed, is_strong};
 ghost use Rattle.units.specs.Isolates.{level_of_para};
@@ -7,16 +7,17 @@ ghost use Rattle.units.specs.declared.class.Class.{Class as BidiClass};
 ghost use Rattle.explicit.specs.Flat.{is_flat};
 ghost use Rattle.explicit.specs.Uniform.{may_rise_at_even, may_rise_at_odd};
 ghost use Rattle.paragraph.specs.ClassSets.{IsSetOf, is_class};
-ghost use Rattle.paragraph.specs.Contents.{Describes, IsFirstOf, IsFront, are_flat, has_none, keeps_level};
+ghost use Rattle.paragraph.specs.Contents.{Describes, IsFirstOf, IsFront, IsUniformLevel, are_flat, has_none, keeps_level, keeps_own};
 ghost use Rattle.paragraph.specs.FirstSides.{side_by};
 ghost use Rattle.resolve.specs.Wanted.{may_weaken};
 
 use crate::class_set::ClassSet;
+use explicit::para_level::level_under;
 use explicit::side::Side;
 use std::sync::ledger::Ledger;
 use units::bracket::Unit;
 use units::class::Class;
-use units::level::ParaLevel;
+use units::level::{Direction, ParaLevel};
 use units::steps::Steps;
 
 /// The classes that a paragraph has, and the side of the first strong one.
@@ -49,7 +50,7 @@ fn has_initiator(classes: ClassSet) -> bool
 }
 
 /// X9: Returns whether one of the classes is removed.
-fn has_removed(classes: ClassSet) -> bool
+pub(crate) fn has_removed(classes: ClassSet) -> bool
     ensures { (cs : List BidiClass) → IsSetOf classes cs → result ≡ list_any is_removed cs }
 {
     classes.has(Class::LRE)
@@ -131,6 +132,22 @@ impl Contents {
             ParaLevel::Zero => !has_initiator(self.classes) & !may_rise_at_even(self.classes),
             ParaLevel::One => !has_initiator(self.classes) & !may_rise_at_odd(self.classes),
         }
+    }
+
+    /// P2 to I2: Returns the level of the paragraph under a direction. Returns `None` if not each position that remains
+    /// keeps that level.
+    pub fn uniform_level(&self, direction: Direction) -> Option<ParaLevel>
+        ensures { (cs : List BidiClass) → Describes self.now cs
+            → MatchOption result (keeps_own direction cs ≡ false) (IsUniformLevel direction cs) }
+    {
+        if !self.is_flat() {
+            return None;
+        }
+        let level = level_under(direction, self.side());
+        if !self.keeps(level) {
+            return None;
+        }
+        Some(level)
     }
 
     /// P2: Returns the side of the first strong class, whether it is in an isolate or not.
@@ -253,6 +270,8 @@ const NEAR: usize = 16;
 /// P1: Returns the first paragraph of a text that was scanned up to `start`: `before` are the classes of the units
 /// before `start`, and `strong` is the first strong one of them (P2). Each unit from `start` on is a step. Reads `NEAR`
 /// units one by one, because passing four at a time costs more if the paragraph ends among them.
+// Inlined, a short paragraph takes fewer instructions.
+#[inline(always)]
 fn scan_near<L: Ledger>(
     text: &[Unit],
     start: usize,
@@ -292,6 +311,8 @@ fn scan_near<L: Ledger>(
 impl FirstParagraph {
     /// P1: Returns the first paragraph of a text and its contents, with a step for each of its units. After the first
     /// strong class it searches only for classes and the separator.
+    // Inlined, a short paragraph takes fewer instructions.
+    #[inline(always)]
     pub fn of<L: Ledger>(text: &[Unit], steps: &mut Steps<L>) -> FirstParagraph
         ensures first { IsFirstOf result text.now }
         ensures within { result.length ≤ length text.now }

@@ -9,3 +9,4 @@ pub mod one_unit;
 pub mod resolver;
 mod rooms;
 pub mod theorems;
+pub mod uniform;

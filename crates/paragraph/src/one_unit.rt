@@ -4,7 +4,6 @@ ghost use Rattle.paragraph.specs.Resolvers.{IsRemainingUnit, keeps_unit};
 
 use crate::contents::Contents;
 use crate::fast_paths::level_unless_removed_at;
-use explicit::para_level::level_under;
 use units::bracket::Unit;
 use units::level::{Direction, Level, ParaLevel};
 
@@ -23,14 +22,7 @@ pub struct RemainingUnit {
 pub fn remaining_unit(unit: Unit, direction: Direction) -> Option<RemainingUnit>
     ensures { MatchOption result (keeps_unit direction unit ≡ false) (IsRemainingUnit direction unit) }
 {
-    let contents = Contents::of_class(unit.class);
-    if !contents.is_flat() {
-        return None;
-    }
-    let para = level_under(direction, contents.side());
-    if !contents.keeps(para) {
-        return None;
-    }
+    let para = Contents::of_class(unit.class).uniform_level(direction)?;
     let level = level_unless_removed_at(false, para.level(), unit.class);
     Some(RemainingUnit { para, level })
 }
