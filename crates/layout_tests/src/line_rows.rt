@@ -5,7 +5,7 @@ ghost use Rattle.std.specs.Prelude.{◌≡◌, OnOk};
 use crate::given::{Expected, levels, numbers, shows, unit, units_of};
 use lines::alone::{SEARCH_STEPS, SpanFault};
 use lines::breaks::{BreakFault, Breaks};
-use lines::lay_out::{TooLong, lay_out_into, line_alone_into, set_lines_into};
+use lines::lay_out::{TooLong, lay_out_into, line_of_into, set_lines_into};
 use lines::layout::Layout;
 use lines::scratch::{RoomFault, Scratch};
 use std::alloc::Global;
@@ -118,7 +118,7 @@ fn lays_out_alone(rt: &impl Abort, room: &mut Scratch) -> Result<(), Fail> {
     lay_out_into(room, &text, Direction::Ltr, &whole)?;
     let mut levels = [None; 2];
     let mut order = [7; 2];
-    let shown = line_alone_into(room, &text, 0, 2, &mut levels, &mut order);
+    let shown = line_of_into(room, &text, 0, 2, &mut levels, &mut order);
     assert_eq!(rt; shown, Ok(2));
     assert_eq!(rt; levels, [Level::new(1), Level::new(0)]);
     assert_eq!(rt; order, [0, 1]);
@@ -134,7 +134,7 @@ fn rejects_line_alone(rt: &impl Abort, room: &mut Scratch) -> Result<(), Fail> {
     lay_out_into(room, &text, Direction::Ltr, &whole)?;
     let mut levels = [None; 2];
     let mut order = [7; 2];
-    let shown = line_alone_into(room, &text, 2, 4, &mut levels, &mut order);
+    let shown = line_of_into(room, &text, 2, 4, &mut levels, &mut order);
     assert_eq!(rt; shown, Err(SpanFault::BeyondText));
     assert_eq!(rt; levels, [None; 2]);
     assert_eq!(rt; order, [7; 2]);

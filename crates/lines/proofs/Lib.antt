@@ -16,6 +16,7 @@ pub mod UnchangedLevels
 pub mod ResolvedUnchanged
 pub mod RemovedLevels
 pub mod CutLines
+mod LineEndAlone
 pub mod LineEnds
 pub mod NextLine
 pub mod ParagraphLines
@@ -31,6 +32,9 @@ pub mod RunWriting
 pub mod LineAlone
 pub mod ParagraphSearch
 pub mod OneUnit
+pub mod OneParagraph
+pub mod OneLine
+pub mod LineParts
 pub mod OrderAlone
 pub mod LineStored
 pub mod KnownLevels

@@ -14,7 +14,7 @@ use Rattle.lines.specs.Bounds.{bound_at, first_bound}
 use Rattle.lines.specs.Columns.{levels_filled, para_ends_filled, paras_filled}
 use Rattle.lines.specs.Unchanged.{each_keeps_level}
 use Rattle.lines.specs.LineEnds.{AreAllLineEnds, AreAllParagraphEnds}
-use Rattle.lines.specs.ResolvedTexts.{IsResolved, one_unit}
+use Rattle.lines.specs.ResolvedTexts.{IsResolved, one_line}
 use Rattle.lines.specs.declared.bounds.Bound.{Bound}
 use Rattle.lines.specs.declared.columns.TextColumns.{TextColumns}
 
@@ -58,7 +58,7 @@ pub is_resolved : (text : List BidiUnit) (direction : Direction) (unchanged : Re
     paras_filled 1 columns ≡ unchanged.para ∷ [] → para_ends_filled 1 columns ≡ 1 ∷ [] →
     levels_filled 1 columns ≡ unchanged.level ∷ [] → bound_at bounds 0 ≡ first_bound →
     (bound_at bounds 1).position ≡ 1 →
-    (limits : LimitsOf) (breaks : List ℕ) → IsResolved limits text direction breaks one_unit columns bounds
+    (limits : LimitsOf) (breaks : List ℕ) → IsResolved limits text direction breaks one_line columns bounds
 is_resolved [] direction unchanged columns bounds one k p e l first last limits breaks = absurd (omega arith)
 is_resolved (unit ∷ second ∷ others) direction unchanged columns bounds one k p e l first last limits breaks =
     absurd (omega arith)

@@ -19,7 +19,7 @@ use Rattle.lines.proofs.NextLine.{begins_later}
 use Rattle.lines.proofs.ParagraphLines.{counted_line, counted_on}
 
 -- in a text without breaks, a paragraph is a line
-paragraph_is_line : (own : List Class) (start end : ℕ) → IsParagraphAt own start end →
+pub paragraph_is_line : (own : List Class) (start end : ℕ) → IsParagraphAt own start end →
     EndsLineAt (begins_line own []) start end (length own)
 paragraph_is_line own start end q =
     let above = q.above in

@@ -1,14 +1,17 @@
 -- The runs of a line, written from left to right.
-use Rattle.std.proofs.Common.{◌≡◌, ℕ, ◌+◌, ◌-◌, ◌*◌, ◌<◌, ◌≤◌, ◌%◌, Option, List, [], ◌∷◌, ◌++◌, length, take, append_assoc, refl, sym, ap, ◌∙◌, inl, inr, arith, subst}
+use Rattle.std.proofs.Common.{◌≡◌, ℕ, ◌+◌, ◌-◌, ◌*◌, ◌<◌, ◌≤◌, ◌%◌, Option, List, [], ◌∷◌, ◌++◌, cond, length, set, take, append_assoc, refl, sym, ap, ◌∙◌, inl, inr, arith, subst}
 use Rattle.std.specs.Prelude.{reverse}
-use Rattle.std.proofs.lemmas.List.{append-nil}
+use Rattle.std.specs.Option.{is_some}
+use Rattle.std.proofs.lemmas.Bool.{cases_eq}
+use Rattle.std.proofs.lemmas.List.{append-nil, take_more_set}
 use Rattle.units.specs.Reordering.{line_order}
 use Rattle.lines.specs.declared.runs.Chain.{Chain}
 use Rattle.lines.specs.declared.runs.Run.{Run}
-use Rattle.lines.specs.LinePositions.{IsAmong, remaining}
+use Rattle.lines.specs.LinePositions.{IsAmong, is_remaining, remaining}
 use Rattle.lines.specs.RunLinks.{IsChainOf, IsLevelRun, LinksThrough, run_in, spelled, units_in}
 use Rattle.lines.proofs.Lists.{has_right}
 use Rattle.lines.proofs.LineOrder.{line_order-in_order}
+use Rattle.lines.proofs.Remaining.{remaining-next, remaining-none}
 use Rattle.lines.proofs.RunChains.{has_spelled, once}
 use Rattle.lines.proofs.Uniform.{uniform-falling, uniform-rising}
 
@@ -21,6 +24,28 @@ pub run-falling : (levels : List (Option ℕ)) (start end : ℕ) (r : IsLevelRun
     reverse (remaining levels start end) ≡ line_order levels start end
 run-falling levels start end r odd =
     sym (uniform-falling levels start end r.level (omega (arith, r.rises)) odd r.uniform)
+
+-- a run of one position
+remaining_one : (levels : List (Option ℕ)) (start end : ℕ) → end ≡ start + 1 → IsLevelRun levels start end →
+    remaining levels start end ≡ start ∷ []
+remaining_one levels start end one r =
+    ap (remaining levels start) one
+    ∙ remaining-next levels start start (omega arith)
+    ∙ ap (λ xs. xs ++ cond (is_remaining levels start) (start ∷ []) []) (remaining-none levels start)
+    ∙ ap (λ b. cond b (start ∷ []) []) (ap is_some r.has)
+
+pub run_one : (levels : List (Option ℕ)) (start end : ℕ) → end - start ≡ 1 → IsLevelRun levels start end →
+    line_order levels start end ≡ start ∷ []
+run_one levels start end one r =
+    let only : remaining levels start end ≡ start ∷ [] =
+    remaining_one levels start end (omega (arith, one, r.rises)) r in
+    elim (cases_eq (r.level % 2) 0) [
+      | inl even ↦ sym (run-rising levels start end r even) ∙ only
+      | inr odd ↦ sym (run-falling levels start end r (omega (arith, odd))) ∙ ap reverse only
+    ]
+
+pub one_written : (order : List ℕ) (position : ℕ) → 0 < length order → take 1 (set order 0 position) ≡ position ∷ []
+one_written order position some = take_more_set order 0 position some
 
 -- a run has a position
 none_has : (xs : List ℕ) (x : ℕ) → IsAmong xs x → 0 < length xs

@@ -18,7 +18,7 @@ use Rattle.units.specs.Paragraphs.{paragraphs_of}
 use Rattle.lines.proofs.Separators.{paragraph_at}
 use Rattle.lines.proofs.TextEnd.{counted_step}
 
-some_true : (b : Bool) → (b ≡ true → ⊥) → b ≡ false
+pub some_true : (b : Bool) → (b ≡ true → ⊥) → b ≡ false
 some_true true h = absurd (h refl)
 some_true false h = refl
 

@@ -1,5 +1,5 @@
 -- The results for a text before L1 and L2, at the fronts of its columns.
-use Rattle.std.specs.Prelude.{ℕ, ◌≡◌, ◌≤◌, true, List, length, map}
+use Rattle.std.specs.Prelude.{ℕ, ◌≡◌, ◌≤◌, false, true, List, length, map}
 use Rattle.units.specs.Isolates.{level_of_para}
 use Rattle.units.specs.Layout.{para_levels_of, text_levels}
 use Rattle.units.specs.Limits.{LimitsOf}
@@ -23,6 +23,6 @@ pub record IsResolved (limits : LimitsOf) (text : List BidiUnit) (direction : Di
   pub few_lines : resolved.lines ≤ length text
   pub known : resolved.uniform ≡ each_keeps_level text direction
 
--- what is known about a text of one unit that keeps the level of its paragraph: it is one paragraph and one line
-abbrev pub one_unit : ResolvedText
-one_unit = record { paragraphs = 1; lines = 1; uniform = true; segmented = true }
+-- what is known about a text that is one paragraph and one line, and whose paragraph keeps its level
+abbrev pub one_line : ResolvedText
+one_line = record { paragraphs = 1; lines = 1; uniform = true; complete = false; segmented = true }

@@ -1,5 +1,5 @@
 -- The contents of a scratch.
-use Rattle.std.specs.Prelude.{ℕ, ◌-◌, ◌<◌, ◌≤◌, ◌≡◌, ◌↔◌, true, Option, List, Result, IsErr, MatchResult, OnErr, OnOk, drop, length, map, take}
+use Rattle.std.specs.Prelude.{ℕ, ◌-◌, ◌<◌, ◌≤◌, ◌≡◌, ◌↔◌, false, true, Option, List, Result, IsErr, MatchResult, OnErr, OnOk, drop, length, map, take}
 use Rattle.units.specs.Isolates.{level_of_para}
 use Rattle.units.specs.Layout.{TextLayout, layout_of, para_levels_of, text_levels}
 use Rattle.units.specs.Limits.{LimitsOf}
@@ -10,6 +10,7 @@ use Rattle.lines.specs.Bounds.{AreBounds}
 use Rattle.lines.specs.Columns.{bounds_filled, levels_filled, lines_filled, orders_filled, para_ends_filled, paras_filled, resolved_filled}
 use Rattle.lines.specs.Unchanged.{each_keeps_level}
 use Rattle.lines.specs.LineEnds.{AreAllParagraphEnds}
+use Rattle.lines.specs.Spaces.{HasNoSegments}
 use Rattle.lines.specs.LinesAlone.{IsLineIn, IsLineLaidOut, RejectsSpan, breaks_around}
 use Rattle.lines.specs.declared.alone.SpanFault.{SpanFault}
 use Rattle.lines.specs.declared.scratch.Scratch.{Scratch}
@@ -57,6 +58,7 @@ pub record HoldsText (limits : LimitsOf) (text : List BidiUnit) (direction : Dir
   pub paras : map level_of_para (paras_in scratch) ≡ para_levels_of text direction
   pub levels : resolved_in scratch ≡ text_levels limits text direction
   pub known : scratch.used.uniform ≡ each_keeps_level text direction
+  pub segments : scratch.used.segmented ≡ false → HasNoSegments text
 
 -- after a text is laid out: the scratch has the same capacity, and contains the layout; if the text is longer than the
 -- capacity, the scratch is unchanged

@@ -67,13 +67,13 @@ least_breaking_steps = 1 + 1
 
 -- L1 and L2 of one line alone at most, without the search through the paragraphs of its text: the levels before L1 are
 -- copied, and the start of the line is added to each position of the order
-abbrev pub line_alone_steps : ℕ
-line_alone_steps = 1 + 1 + order_steps + 1
+abbrev pub line_of_steps : ℕ
+line_of_steps = 1 + 1 + order_steps + 1
 
 -- the same, if each paragraph keeps its level
-abbrev pub uniform_line_alone_steps : ℕ
-uniform_line_alone_steps = 1 + uniform_order_steps + 1
+abbrev pub uniform_line_of_steps : ℕ
+uniform_line_of_steps = 1 + uniform_order_steps + 1
 
 -- the same at least: the levels are copied, and put in order
-abbrev pub least_line_alone_steps : ℕ
-least_line_alone_steps = 1 + 1
+abbrev pub least_line_of_steps : ℕ
+least_line_of_steps = 1 + 1

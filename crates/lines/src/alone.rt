@@ -1,5 +1,5 @@
 //! One line of a text alone, at the cost of that line.
-ghost use Rattle.std.specs.Prelude.{◌≡◌, ◌<◌, ◌≤◌, ◌+◌, ◌-◌, ◌*◌, ◌^◌, IfSome, IsTrue, MatchResult, false, length, map, slice_range, take, List, Option, ℕ};
+ghost use Rattle.std.specs.Prelude.{◌≡◌, ◌<◌, ◌≤◌, ◌+◌, ◌-◌, ◌*◌, ◌^◌, IfSome, IsTrue, MatchResult, OnOk, false, length, map, slice_range, take, List, Option, ℕ};
 ghost use Rattle.std.specs.List.{All, AllWithin};
 ghost use Rattle.units.specs.Isolates.{level_of_para};
 ghost use Rattle.units.specs.declared.level.ParaLevel.{ParaLevel as Para};
@@ -8,11 +8,11 @@ ghost use Rattle.lines.specs.LineEnds.{AreAllParagraphEnds, Rises};
 ghost use Rattle.lines.specs.LinesAlone.{HasParaLevel, IsLineIn, IsLineOfParagraph, IsWithinParagraph, RejectsSpan};
 ghost use Rattle.lines.specs.LinePositions.{IsAtOneLevel};
 ghost use Rattle.lines.specs.StepBounds.{uniform_order_steps, order_steps};
-ghost use Rattle.lines.specs.Spaces.{levels_reset};
+ghost use Rattle.lines.specs.Spaces.{HasNoSegments, levels_reset};
 
 use crate::breaks::Breaks;
 use crate::order::write_order;
-use crate::resets::reset_text;
+use crate::resets::{reset_text, reset_unsegmented};
 use crate::runs::Run;
 use crate::spans::LineSpan;
 use std::ops::Range;
@@ -57,6 +57,7 @@ pub(crate) fn paragraph_of_line<L: Ledger>(
 ) -> Result<usize, SpanFault>
     requires { AreAllParagraphEnds text.now ends.now }
     ensures line { MatchResult result (IsLineOfParagraph text.now ends.now start end) (RejectsSpan text.now start end) }
+    ensures search { OnOk result (steps.new ≡ steps.old + SEARCH_STEPS) }
     ensures at_least { steps.old ≤ steps.new }
     ensures at_most { steps.new ≤ steps.old + SEARCH_STEPS }
 {
@@ -104,34 +105,78 @@ pub fn reset_line<L: Ledger>(
     reset_text(line, &breaks, &[level], levels, steps);
 }
 
-/// Does what `reset_line` does, unless `uniform` says that each remaining position has the level of its paragraph. L1
-/// then changes no level.
-pub(crate) fn reset_line_unless_uniform<L: Ledger>(
+/// Does what `reset_line` does, for a text without segment separators. It looks only at the spaces at the end of the
+/// line and at the position before them. Takes at most one step for each position.
+fn reset_line_end<L: Ledger>(
     text: &[Unit],
     line: Range<usize>,
     level: ParaLevel,
-    uniform: bool,
     levels: &mut [Option<Level>],
     steps: &mut Steps<L>,
 )
+    requires none { HasNoSegments text.now }
     requires forward { line.start < line.end }
     requires within { line.end ≤ length text.now }
+    requires small { line.end < 2 ^ 32 }
     requires paragraph { IsWithinParagraph text.now line.start line.end }
     requires levels { length levels.old ≡ line.end - line.start }
-    ensures levels { uniform ≡ false → (breaks : List ℕ) (paras : List Para) (all : List (Option ℕ))
+    ensures levels { (breaks : List ℕ) (paras : List Para) (all : List (Option ℕ))
         → IsLineIn text.now breaks line.start line.end
         → HasParaLevel text.now paras line.start (level_of_para level)
         → length all ≡ length text.now → slice_range all line.start line.end ≡ levels.old
         → levels.new ≡ slice_range (levels_reset text.now breaks paras all) line.start line.end }
-    ensures same { IsTrue uniform → levels.new ≡ levels.old }
     ensures at_least { steps.old ≤ steps.new }
     ensures at_most { steps.new ≤ steps.old + (line.end - line.start) }
-    ensures if_uniform { IsTrue uniform → steps.new ≡ steps.old }
 {
-    if uniform {
+    let units = &text[line.start..line.end];
+    let breaks = Breaks::new(&[], units.len()).unwrap();
+    let ends = [units.len() as u32];
+    reset_unsegmented(units, &breaks, &ends, &[level], levels, steps);
+}
+
+/// What is known about the text of a line.
+#[derive(Clone, Copy)]
+pub(crate) struct KnownOfText {
+    /// True only if each remaining position has the level of its paragraph.
+    pub(crate) uniform: bool,
+    /// False only if the text has no segment separator (L1).
+    pub(crate) segmented: bool,
+}
+
+/// Does what `reset_line` does, unless each remaining position is known to have the level of its paragraph. L1 then
+/// changes no level.
+pub(crate) fn reset_line_unless_uniform<L: Ledger>(
+    text: &[Unit],
+    line: Range<usize>,
+    level: ParaLevel,
+    known: KnownOfText,
+    levels: &mut [Option<Level>],
+    steps: &mut Steps<L>,
+)
+    requires none { known.segmented ≡ false → HasNoSegments text.now }
+    requires forward { line.start < line.end }
+    requires within { line.end ≤ length text.now }
+    requires small { line.end < 2 ^ 32 }
+    requires paragraph { IsWithinParagraph text.now line.start line.end }
+    requires levels { length levels.old ≡ line.end - line.start }
+    ensures levels { known.uniform ≡ false → (breaks : List ℕ) (paras : List Para) (all : List (Option ℕ))
+        → IsLineIn text.now breaks line.start line.end
+        → HasParaLevel text.now paras line.start (level_of_para level)
+        → length all ≡ length text.now → slice_range all line.start line.end ≡ levels.old
+        → levels.new ≡ slice_range (levels_reset text.now breaks paras all) line.start line.end }
+    ensures same { IsTrue known.uniform → levels.new ≡ levels.old }
+    ensures at_least { steps.old ≤ steps.new }
+    ensures at_most { steps.new ≤ steps.old + (line.end - line.start) }
+    ensures if_uniform { IsTrue known.uniform → steps.new ≡ steps.old }
+{
+    if known.uniform {
         return;
     }
-    reset_line(text, line.start, line.end, level, levels, steps);
+    if known.segmented {
+        reset_line(text, line.start, line.end, level, levels, steps);
+    } else {
+        reset_line_end(text, line, level, levels, steps);
+    }
 }
 
 /// Adds `start`, the position at which a line begins in its text, to each position of the line. Takes one step for

@@ -1,5 +1,7 @@
 //! The levels of a text after L1, and the orders of its lines (L2).
-ghost use Rattle.std.specs.Prelude.{◌≡◌, ◌≤◌, ◌<◌, ◌+◌, ◌*◌, ◌^◌, false, length, take, IsTrue};
+ghost use Rattle.std.specs.Prelude.{◌≡◌, ◌≤◌, ◌<◌, ◌+◌, ◌*◌, ◌^◌, false, length, true, take, IsTrue};
+ghost use Rattle.std.specs.List.{list_all};
+ghost use Rattle.std.specs.Option.{is_some};
 ghost use Rattle.units.specs.Classes.{classes_of};
 ghost use Rattle.units.specs.Layout.{lines_cut_at};
 ghost use Rattle.units.specs.Paragraphs.{paragraphs_of};
@@ -41,6 +43,8 @@ pub(crate) fn arrange<L: Ledger>(
     requires segments { resolved.segmented ≡ false → HasNoSegments text.units.now }
     requires uniform { IsTrue resolved.uniform → StaysAtParas text.units.now text.paras.now
         (take (length text.units.now) levels.old) }
+    requires complete { resolved.complete ≡ true
+        → list_all is_some (take (length text.units.now) levels.old) ≡ true }
     requires small { length text.units.now < 2 ^ 32 }
     requires room { HasLineRoom columns.old (length text.units.now) }
     requires ends { AreAllLineEnds text.units.now breaks.now.positions resolved.lines (bounds_in columns.old) }
@@ -62,7 +66,7 @@ pub(crate) fn arrange<L: Ledger>(
     ensures at_most { steps.new ≤ steps.old + arranging_steps * length text.entry.units.now }
     ensures if_uniform { IsTrue resolved.uniform
         → steps.new ≤ steps.old + uniform_line_steps * length text.entry.units.now }
-    ensures twice { IsTrue resolved.uniform → steps.old + 2 * length text.entry.units.now ≤ steps.new }
+    ensures twice { IsTrue resolved.uniform → resolved.complete ≡ false → steps.old + 2 * length text.entry.units.now ≤ steps.new }
 {
     let TextWithParagraphs { units, paras, .. } = text;
     let levels = &mut levels[..units.len()];

@@ -1,5 +1,7 @@
 //! The orders of all lines of a text (L2), written one after another.
-ghost use Rattle.std.specs.Prelude.{◌≡◌, ◌<◌, ◌≤◌, ◌+◌, ◌-◌, ◌*◌, ◌^◌, ◌++◌, IfSome, IsTrue, List, ℕ, length, take};
+ghost use Rattle.std.specs.Prelude.{◌≡◌, ◌<◌, ◌≤◌, ◌+◌, ◌-◌, ◌*◌, ◌^◌, ◌++◌, IfSome, IsTrue, List, ℕ, false, length, take, true};
+ghost use Rattle.std.specs.List.{list_all};
+ghost use Rattle.std.specs.Option.{is_some};
 ghost use Rattle.units.specs.Classes.{classes_of};
 ghost use Rattle.units.specs.Isolates.{level_of_para};
 ghost use Rattle.units.specs.Layout.{lines_cut_at};
@@ -14,7 +16,7 @@ ghost use Rattle.lines.specs.Spans.{IsSpanAtLevel, order_of, units_in_span};
 
 use crate::bounds::Bound;
 use crate::columns::LineColumns;
-use crate::order::write_order;
+use crate::order::{write_known_order, write_order};
 use crate::resolving::ResolvedText;
 use crate::runs::Run;
 use crate::spans::LineSpan;
@@ -58,6 +60,55 @@ fn write_line<L: Ledger>(
     written + write_order(line, uniform, runs, &mut orders[written..], steps)
 }
 
+/// Does what `fill_lines` does, for a text of one line.
+#[inline(always)]
+fn fill_line<L: Ledger>(
+    own: &[Unit],
+    resolved: ResolvedText,
+    paras: &[ParaLevel],
+    levels: &[Option<Level>],
+    columns: &mut LineColumns,
+    steps: &mut Steps<L>,
+) -> Filled
+    requires one { resolved.lines ≡ 1 }
+    requires ends { AreEndsOfLines own.now 1 (bounds_in columns.old) }
+    requires some { 0 < length own.now }
+    requires paras { length paras.now ≡ length (paragraphs_of own.now) }
+    requires levels { length levels.now ≡ length own.now }
+    requires uniform { IsTrue resolved.uniform → StaysAtParas own.now paras.now levels.now }
+    requires complete { IsTrue resolved.uniform → resolved.complete ≡ true → list_all is_some levels.now ≡ true }
+    requires small { length own.now < 2 ^ 32 }
+    requires room { HasLineRoom columns.old (length own.now) }
+    ensures room { KeepsLineRoom columns.old columns.new }
+    ensures bounds { AreBounds levels.now (orders_filled result columns.new) (bounds_filled result columns.new) }
+    ensures lines { (breaks : List ℕ) → AreAllLineEnds own.now breaks 1 (bounds_in columns.old)
+        → lines_filled result columns.new ≡ lines_cut_at levels.now (cuts_of (classes_of own.now) breaks) }
+    ensures all { result.lines ≡ 1 }
+    ensures few_positions { result.positions ≤ length own.now }
+    ensures at_least { steps.old + length own.now + 1 ≤ steps.new }
+    ensures at_most { steps.new ≤ steps.old + line_steps * length own.now }
+    ensures if_uniform { IsTrue resolved.uniform → steps.new ≤ steps.old + uniform_line_steps * length own.now }
+    ensures twice { IsTrue resolved.uniform → resolved.complete ≡ false
+        → steps.old + 2 * length own.now ≤ steps.new }
+{
+    steps.tick();
+    let runs: &mut [Run] = &mut columns.runs;
+    let orders: &mut [usize] = &mut columns.orders;
+    let bounds: &mut [Bound] = &mut columns.bounds;
+    let span = LineSpan {
+        levels,
+        start: 0,
+        end: levels.len(),
+    };
+    let level = resolved.uniform.then_some(paras[0]);
+    let positions = write_known_order(span, level, resolved.complete, runs, orders, steps);
+    bounds[1].order = positions as u32;
+    Filled {
+        lines: 1,
+        positions,
+    }
+}
+
 /// Writes the orders of a text's lines (L2) to the front of their column, and returns the number of lines and of
 /// positions. The bounds already have the ends of the lines in the text; the function adds the ends of their orders.
 ///
@@ -79,6 +130,7 @@ pub(crate) fn fill_lines<L: Ledger>(
     requires paras { length paras.now ≡ length (paragraphs_of own.now) }
     requires levels { length levels.now ≡ length own.now }
     requires uniform { IsTrue resolved.uniform → StaysAtParas own.now paras.now levels.now }
+    requires complete { IsTrue resolved.uniform → resolved.complete ≡ true → list_all is_some levels.now ≡ true }
     requires small { length own.now < 2 ^ 32 }
     requires room { HasLineRoom columns.old (length own.now) }
     ensures room { KeepsLineRoom columns.old columns.new }
@@ -90,8 +142,12 @@ pub(crate) fn fill_lines<L: Ledger>(
     ensures at_least { steps.old + length own.now + resolved.lines ≤ steps.new }
     ensures at_most { steps.new ≤ steps.old + line_steps * length own.now }
     ensures if_uniform { IsTrue resolved.uniform → steps.new ≤ steps.old + uniform_line_steps * length own.now }
-    ensures twice { IsTrue resolved.uniform → steps.old + 2 * length own.now ≤ steps.new }
+    ensures twice { IsTrue resolved.uniform → resolved.complete ≡ false
+        → steps.old + 2 * length own.now ≤ steps.new }
 {
+    if resolved.lines == 1 {
+        return fill_line(own, resolved, paras, levels, columns, steps);
+    }
     let runs: &mut [Run] = &mut columns.runs;
     let orders: &mut [usize] = &mut columns.orders;
     let bounds: &mut [Bound] = &mut columns.bounds;

@@ -183,7 +183,7 @@ fn start_of_paragraph(para_ends: &[u32], paragraph: usize) -> usize
 /// Does what `reset_text` does, for a text without segment separators. It takes at most as many steps, and at least one
 /// for each paragraph. Once it reaches a position of a line that nothing later resets, it continues before the start of
 /// that line. `para_ends` has the ends of the paragraphs.
-fn reset_unsegmented<L: Ledger>(
+pub(crate) fn reset_unsegmented<L: Ledger>(
     own: &[Unit],
     breaks: &Breaks,
     para_ends: &[u32],

@@ -3,8 +3,13 @@ ghost use Rattle.std.specs.Prelude.{◌≡◌, ◌<◌, ◌≤◌, ◌+◌, ◌*
 ghost use Rattle.units.specs.Limits.{LimitsOf};
 ghost use Rattle.lines.specs.Bounds.{bound_at, first_bound};
 ghost use Rattle.lines.specs.Columns.{levels_filled, para_ends_filled, paras_filled, HasTextRoom, KeepsTextRoom};
-ghost use Rattle.lines.specs.Unchanged.{each_keeps_level};
-ghost use Rattle.lines.specs.ResolvedTexts.{IsResolved, one_unit};
+ghost use Rattle.std.specs.List.{list_all};
+ghost use Rattle.std.specs.Option.{is_some};
+ghost use Rattle.units.specs.Classes.{classes_of, is_removed};
+ghost use Rattle.explicit.specs.FirstParagraph.{first_length};
+ghost use Rattle.paragraph.specs.Contents.{Describes, IsFirstOf, has_none};
+ghost use Rattle.lines.specs.Unchanged.{each_keeps_level, keeps_own_level};
+ghost use Rattle.lines.specs.ResolvedTexts.{IsResolved, one_line};
 ghost use Rattle.lines.specs.Spaces.{HasNoSegments, has_segments};
 ghost use Rattle.lines.specs.StepBounds.{uniform_text_steps, text_steps};
 
@@ -12,9 +17,10 @@ use crate::bounds::Bound;
 use crate::breaks::Breaks;
 use crate::columns::TextColumns;
 use crate::cutting::{cut_paragraph, start_cut};
-use paragraph::contents::FirstParagraph;
-use paragraph::one_unit::{RemainingUnit, remaining_unit};
+use paragraph::contents::{Contents, FirstParagraph};
+use paragraph::one_unit::remaining_unit;
 use paragraph::resolver::Resolver;
+use paragraph::uniform::resolve_uniform;
 use std::sync::ledger::Ledger;
 use units::bracket::Unit;
 use units::level::{Direction, Level, ParaLevel};
@@ -30,6 +36,8 @@ pub struct ResolvedText {
     pub lines: usize,
     /// True only if each paragraph keeps its level: each remaining position (X9) has the level of its paragraph.
     pub uniform: bool,
+    /// True only if X9 removes no position of a uniform text.
+    pub complete: bool,
     /// False only if the text has no segment separator (L1).
     pub segmented: bool,
 }
@@ -56,27 +64,27 @@ pub struct LayoutOptions<'a> {
     pub limits: Limits,
 }
 
-/// Writes the level and the end of the paragraph, the level of its only unit and the end of its line to the fronts of
-/// their columns.
-fn write_unit(unchanged: RemainingUnit, columns: &mut TextColumns, bounds: &mut [Bound])
+/// Writes the level and the end of a text's only paragraph, and the ends of its only line, to the fronts of their
+/// columns.
+fn write_paragraph(level: ParaLevel, end: usize, columns: &mut TextColumns, bounds: &mut [Bound])
+    requires small { end < 2 ^ 32 }
     requires room { HasTextRoom columns.old 1 }
     requires bounds { 1 < length bounds.old }
     ensures room { KeepsTextRoom columns.old columns.new }
-    ensures paras { paras_filled 1 columns.new ≡ unchanged.para ∷ [] }
-    ensures para_ends { para_ends_filled 1 columns.new ≡ 1 ∷ [] }
-    ensures levels { levels_filled 1 columns.new ≡ unchanged.level ∷ [] }
+    ensures paras { paras_filled 1 columns.new ≡ level ∷ [] }
+    ensures para_ends { para_ends_filled 1 columns.new ≡ end ∷ [] }
+    ensures levels { columns.new.levels ≡ columns.old.levels }
     ensures first { bound_at bounds.new 0 ≡ first_bound }
-    ensures last { (bound_at bounds.new 1).position ≡ 1 }
+    ensures last { (bound_at bounds.new 1).position ≡ end }
 {
-    columns.paras[0] = unchanged.para;
-    columns.para_ends[0] = 1;
-    columns.levels[0] = unchanged.level;
+    columns.paras[0] = level;
+    columns.para_ends[0] = end as u32;
     bounds[0] = Bound {
         position: 0,
         order: 0,
     };
     bounds[1] = Bound {
-        position: 1,
+        position: end as u32,
         order: 0,
     };
 }
@@ -97,7 +105,7 @@ fn resolve_unit<L: Ledger>(
     ensures known { result ≡ each_keeps_level text.now direction }
     ensures room { KeepsTextRoom columns.old columns.new }
     ensures resolved { result ≡ true → (limits : LimitsOf) (breaks : List ℕ)
-        → IsResolved limits text.now direction breaks one_unit columns.new bounds.new }
+        → IsResolved limits text.now direction breaks one_line columns.new bounds.new }
     ensures steps { result ≡ true → steps.new ≡ steps.old + uniform_text_steps }
     ensures columns { result ≡ false → columns.new ≡ columns.old }
     ensures no_steps { result ≡ false → steps.new ≡ steps.old }
@@ -106,13 +114,52 @@ fn resolve_unit<L: Ledger>(
         return false;
     };
     steps.add(4);
-    write_unit(unchanged, columns, bounds);
+    columns.levels[0] = unchanged.level;
+    write_paragraph(unchanged.para, 1, columns, bounds);
     true
 }
 
-/// Does what `resolve_text` does, for any text.
+/// Does what `resolve_text` does, for a text that is one paragraph with these contents and one line, if each position
+/// that remains keeps the level of the paragraph. Its paragraph and its line take one step each, and each unit takes
+/// one. Returns false, and takes no step, if a position may leave that level.
+fn resolve_paragraph<L: Ledger>(
+    text: &[Unit],
+    contents: Contents,
+    direction: Direction,
+    columns: &mut TextColumns,
+    bounds: &mut [Bound],
+    steps: &mut Steps<L>,
+) -> bool
+    requires some { 0 < length text.now }
+    requires small { length text.now < 2 ^ 32 }
+    requires one { first_length text.now ≡ length text.now }
+    requires contents { Describes contents (classes_of text.now) }
+    requires room { HasTextRoom columns.old (length text.now) }
+    requires bounds { length text.now < length bounds.old }
+    ensures known { result ≡ keeps_own_level direction text.now }
+    ensures room { KeepsTextRoom columns.old columns.new }
+    ensures resolved { result ≡ true → (limits : LimitsOf)
+        → IsResolved limits text.now direction [] one_line columns.new bounds.new }
+    ensures complete { result ≡ true → has_none is_removed (classes_of text.now) ≡ true
+        → list_all is_some (levels_filled (length text.now) columns.new) ≡ true }
+    ensures steps { result ≡ true → steps.new ≡ steps.old + length text.now + 2 }
+    ensures no_steps { result ≡ false → steps.new ≡ steps.old }
+{
+    let levels = &mut columns.levels;
+    match resolve_uniform(text, contents, direction, levels, steps) {
+        Some(level) => {
+            steps.add(2);
+            write_paragraph(level, text.len(), columns, bounds);
+            true
+        }
+        None => false,
+    }
+}
+
+/// Does what `resolve_text` does, for any text. Its first paragraph is known.
 fn resolve_paragraphs<L: Ledger>(
     text: &[Unit],
+    first: FirstParagraph,
     options: &LayoutOptions<'_>,
     resolver: &mut Resolver,
     columns: &mut TextColumns,
@@ -124,14 +171,20 @@ fn resolve_paragraphs<L: Ledger>(
     requires resolver { length text.now ≤ resolver.old }
     requires room { HasTextRoom columns.old (length text.now) }
     requires bounds { length text.now < length bounds.old }
+    requires first { IsFirstOf first text.now }
+    requires within { first.length ≤ length text.now }
+    requires some { 0 < length text.now → 0 < first.length }
     ensures resolver { resolver.new ≡ resolver.old }
     ensures room { KeepsTextRoom columns.old columns.new }
     ensures resolved { IsResolved options.now.limits text.now options.now.direction
         options.now.breaks.now.positions result columns.new bounds.new }
+    ensures not_complete { result.complete ≡ false }
     ensures segments { result.segmented ≡ has_segments text.now }
-    ensures at_least { steps.old + 2 * length text.now + result.paragraphs + result.lines ≤ steps.new }
-    ensures at_most { steps.new ≤ steps.old + text_steps * length text.now }
-    ensures if_uniform { result.uniform ≡ true → steps.new ≤ steps.old + uniform_text_steps * length text.now }
+    ensures at_least { steps.old + 2 * length text.now + result.paragraphs + result.lines
+        ≤ steps.new + first.length }
+    ensures at_most { steps.new + first.length ≤ steps.old + text_steps * length text.now }
+    ensures if_uniform { result.uniform ≡ true
+        → steps.new + first.length ≤ steps.old + uniform_text_steps * length text.now }
 {
     let paras: &mut [ParaLevel] = &mut columns.paras;
     let para_ends: &mut [u32] = &mut columns.para_ends;
@@ -142,11 +195,10 @@ fn resolve_paragraphs<L: Ledger>(
     let mut uniform = true;
     let mut segmented = false;
     let mut start = 0;
+    let mut next = first;
     while start < text.len() {
         steps.tick();
-
-        // P1.
-        let first = FirstParagraph::of(&text[start..], steps);
+        let first = next;
         let end = start + first.length;
         cut = cut_paragraph(at, text.len(), start..end, cut, bounds, steps);
 
@@ -165,11 +217,15 @@ fn resolve_paragraphs<L: Ledger>(
         segmented |= first.contents.has_segment_separator();
         paragraphs += 1;
         start = end;
+
+        // P1.
+        next = FirstParagraph::of(&text[start..], steps);
     }
     ResolvedText {
         paragraphs,
         lines: cut.lines,
         uniform,
+        complete: false,
         segmented,
     }
 }
@@ -194,6 +250,8 @@ pub(crate) fn resolve_text<L: Ledger>(
     ensures room { KeepsTextRoom columns.old columns.new }
     ensures resolved { IsResolved options.now.limits text.now options.now.direction
         options.now.breaks.now.positions result columns.new bounds.new }
+    ensures complete { result.complete ≡ true
+        → list_all is_some (levels_filled (length text.now) columns.new) ≡ true }
     ensures segments { result.segmented ≡ false → HasNoSegments text.now }
     ensures at_least { steps.old + 2 * length text.now + result.paragraphs + result.lines ≤ steps.new }
     ensures at_most { steps.new ≤ steps.old + text_steps * length text.now }
@@ -204,8 +262,30 @@ pub(crate) fn resolve_text<L: Ledger>(
             paragraphs: 1,
             lines: 1,
             uniform: true,
+            complete: false,
             segmented: true,
         };
     }
-    resolve_paragraphs(text, options, resolver, columns, bounds, steps)
+    let first = FirstParagraph::of(text, steps);
+    if !text.is_empty()
+        && first.length == text.len()
+        && options.breaks.positions().is_empty()
+        && resolve_paragraph(
+            text,
+            first.contents,
+            options.direction,
+            columns,
+            bounds,
+            steps,
+        )
+    {
+        return ResolvedText {
+            paragraphs: 1,
+            lines: 1,
+            uniform: true,
+            complete: first.contents.all_remain(),
+            segmented: true,
+        };
+    }
+    resolve_paragraphs(text, first, options, resolver, columns, bounds, steps)
 }

@@ -1,7 +1,7 @@
 //! The runs of a line (L2): stretches of one level, linked in their order on the line from left to right.
-ghost use Rattle.std.specs.Prelude.{◌≡◌, ◌≢◌, ◌≤◌, ◌<◌, ◌+◌, ◌-◌, ◌*◌, ◌^◌, ◌⊎◌, ℕ, [], MatchOption, length};
-ghost use Rattle.lines.specs.RunLinks.{BeginsRun, IsFollowed, IsJoined, IsLinkedStretch, StopsBelow};
-ghost use Rattle.lines.specs.RunLinks.{run_in};
+ghost use Rattle.std.specs.Prelude.{◌≡◌, ◌≢◌, ◌≤◌, ◌<◌, ◌+◌, ◌-◌, ◌*◌, ◌^◌, ◌⊎◌, ℕ, [], MatchOption, false, length, true};
+ghost use Rattle.lines.specs.RunLinks.{BeginsRun, IsFollowed, IsJoined, IsLinkedStretch, IsRunAt, StopsBelow};
+ghost use Rattle.lines.specs.RunLinks.{run_alone, run_in};
 ghost use Rattle.lines.specs.LinePositions.{HasLevel, IsAtOneLevel};
 ghost use Rattle.lines.specs.Spans.{IsChainOfSpan, order_of, units_in_span};
 ghost use Rattle.lines.specs.StepBounds.{linking_steps};
@@ -101,6 +101,22 @@ fn end_of_run<L: Ledger>(
     end
 }
 
+/// Returns the stretch of the run of this level that begins at the position and ends at `run_end`.
+#[inline(always)]
+fn one_run(position: usize, run_end: usize, level: Level) -> Stretch
+    requires { position < 2 ^ 32 }
+    ensures { result ≡ run_alone position run_end level }
+{
+    Stretch {
+        end: run_end,
+        level,
+        chain: Chain {
+            first: position as u32,
+            last: position as u32,
+        },
+    }
+}
+
 /// Starts a stretch with the run of this level that begins at the position. Takes at most one step for each position of
 /// the run.
 fn link_run<L: Ledger>(
@@ -120,13 +136,76 @@ fn link_run<L: Ledger>(
 {
     let run_end = end_of_run(line, position, level, steps);
     runs[position].end = run_end as u32;
-    Stretch {
-        end: run_end,
-        level,
-        chain: Chain {
-            first: position as u32,
-            last: position as u32,
-        },
+    one_run(position, run_end, level)
+}
+
+/// Returns the level of the position at which a run ends, if it is at least `least`, or none at the line's end.
+#[inline(always)]
+fn level_from(line: &LineSpan<'_>, run_end: usize, least: u8) -> Option<Level>
+    requires within { run_end ≤ line.now.end }
+    requires stops { (run_end ≡ line.now.end) ⊎ ((v : ℕ) × HasLevel line.now.levels.now run_end v) }
+    ensures { MatchOption result (StopsBelow line.now.levels.now least run_end line.now.end)
+        (λ level. (run_end < line.now.end) × HasLevel line.now.levels.now run_end level × (least ≤ level)) }
+{
+    let LineSpan { levels, end, .. } = *line;
+    if run_end >= end {
+        return None;
+    }
+    levels[run_end].filter(|level| level.get() >= least)
+}
+
+/// Returns whether the level is at least `least`, and the position at which its run ends has such a level too.
+#[inline(always)]
+fn continues_above(line: &LineSpan<'_>, run_end: usize, level: Level, least: u8) -> bool
+    requires within { run_end ≤ line.now.end }
+    requires stops { (run_end ≡ line.now.end) ⊎ ((v : ℕ) × HasLevel line.now.levels.now run_end v) }
+    ensures above { result ≡ true → least ≤ level }
+    ensures alone { result ≡ false → (level < least) ⊎ StopsBelow line.now.levels.now least run_end line.now.end }
+{
+    level.get() >= least && level_from(line, run_end, least).is_some()
+}
+
+/// Links to the run of this level, which begins at the position and ends at `run_end`, the longest stretch after it
+/// whose levels are all at least `least`. Takes at most four steps for each position of that stretch.
+fn link_on<L: Ledger>(
+    line: &LineSpan<'_>,
+    position: usize,
+    run_end: usize,
+    level: Level,
+    least: u8,
+    runs: &mut [Run],
+    steps: &mut Steps<L>,
+) -> Stretch
+    requires begun { IsRunAt line.now.levels.now runs.old line.now.end position run_end level }
+    requires room { line.now.end ≤ length runs.old }
+    requires small { line.now.end < 2 ^ 32 }
+    requires least { least ≤ level }
+    ensures linked { IsLinkedStretch line.now.levels.now runs.new position result }
+    ensures from { run_end ≤ result.end }
+    ensures within { result.end ≤ line.now.end }
+    ensures least { least ≤ result.level }
+    ensures stops { StopsBelow line.now.levels.now least result.end line.now.end }
+    ensures unchanged { (p : ℕ) → p < position → run_in runs.new p ≡ run_in runs.old p }
+    ensures at_least { steps.old + (result.end - run_end) ≤ steps.new }
+    ensures at_most { steps.new ≤ steps.old + linking_steps * (result.end - run_end) }
+{
+    let span = *line;
+    let mut stretch = one_run(position, run_end, level);
+    loop {
+        let start = stretch.end;
+        let Some(level) = level_from(line, start, least) else {
+            return stretch;
+        };
+        steps.tick();
+        let run = link_run(span, start, level, runs, steps);
+        let end = run.end;
+        let least_above = stretch.level.get() + 1;
+        let later = if continues_above(line, end, level, least_above) {
+            link_on(line, start, end, level, least_above, runs, steps)
+        } else {
+            one_run(start, end, level)
+        };
+        stretch = stretch.joined(later, runs);
     }
 }
 
@@ -155,25 +234,8 @@ fn link_from<L: Ledger>(
 {
     steps.tick();
     let span = *line;
-    let LineSpan { levels, end, .. } = span;
-    let mut stretch = link_run(span, position, level, runs, steps);
-    while stretch.end < end {
-        steps.tick();
-        let Some(level) = levels[stretch.end] else {
-            unreachable!("a run ends where one of another level begins");
-        };
-        if level.get() < least {
-            break;
-        }
-        let least_above = stretch.level.get() + 1;
-        let later = if level.get() >= least_above {
-            link_from(line, stretch.end, level, least_above, runs, steps)
-        } else {
-            link_run(span, stretch.end, level, runs, steps)
-        };
-        stretch = stretch.joined(later, runs);
-    }
-    stretch
+    let run = link_run(span, position, level, runs, steps);
+    link_on(line, position, run.end, level, least, runs, steps)
 }
 
 /// Links the runs of the line from left to right. Returns `None` if no position remains.

@@ -68,7 +68,7 @@ fn shows_bytes(
 ) {
     let mut out = [0; 4];
     assert!(rt; k < room.line_count());
-    assert!(rt; bytes.len() == room.size());
+    assert!(rt; bytes.len() == room.text_len());
     let count = room.shown_utf8(tables, bytes, k, &mut out);
     assert_eq!(rt; out.get(..count), Some(shown), "line {k}");
     assert_eq!(rt; room.shown_utf8(tables, bytes, k, &mut [0; 2]), count);
@@ -103,7 +103,7 @@ const UTF16_SHOWN: [u16; 5] = [0xD83D, 0xDE00, 0xFFFD, 0x5D0, 0x29];
 fn shows_units(rt: &impl Abort, room: &Room, tables: &Tables, units: &[u16], shown: &[u16]) {
     let mut out = [0; 6];
     assert!(rt; room.line_count() == 1);
-    assert!(rt; units.len() == room.size());
+    assert!(rt; units.len() == room.text_len());
     let count = room.shown_utf16(tables, units, 0, &mut out);
     assert_eq!(rt; out.get(..count), Some(shown));
 }

@@ -1,5 +1,5 @@
 use Rattle.std.proofs.Common.{arith, rules, ap, sym, ◌∙◌, subst, ◌≡◌, ◌<◌, ◌≤◌, ◌+◌, ◌-◌, ◌++◌, ◌∷◌, [], ℕ, Bool, List, Option, length, take, drop, refl}
-use Rattle.std.specs.List.{list_all, list_any}
+use Rattle.std.specs.List.{list_all}
 use Rattle.std.specs.Prelude.{◌&&◌, slice_range}
 use Rattle.std.proofs.Math.Bool.{and-true, and_assoc}
 use Rattle.std.proofs.lemmas.Bool.{and_parts}
@@ -11,10 +11,8 @@ use Rattle.units.specs.declared.level.Direction.{Direction}
 use Rattle.explicit.specs.FirstParagraph.{first_length}
 use Rattle.explicit.proofs.LevelsComputed.OneCutting.{paragraphs_of_split}
 use Rattle.units.specs.Classes.{classes_of}
-use Rattle.paragraph.specs.Contents.{keeps_level}
+use Rattle.paragraph.specs.Contents.{Describes, IsFirstOf, keeps_level}
 use Rattle.lines.specs.Unchanged.{each_keeps_level, keeps_own_level}
-use Rattle.units.specs.declared.class.Class.TheVariants.{S}
-use Rattle.paragraph.specs.ClassSets.{is_class}
 use Rattle.lines.specs.Spaces.{has_segments}
 use Rattle.lines.proofs.Unsegmented.{segments_on}
 use Rattle.lines.specs.LineBreaks.{AreBreaks}
@@ -54,6 +52,9 @@ loop-start-init g c = record {
   few = omega arith;
   inside = omega arith;
   resolver = search rules;
+  first = c.requires.first;
+  some = c.requires.some;
+  short = omega arith;
   at_least = omega (arith, c.start_cut-cut.ensures.lines);
   at_most = omega arith;
   if_uniform = λ known. omega arith;
@@ -72,38 +73,35 @@ pub resolve_known-resolved-requires-clause-separators : goal.resolve_known-resol
 resolve_known-resolved-requires-clause-separators g c =
     let l = c.loop-start in
     let text : List BidiUnit = c.args.text.now in
-    let n : ℕ = c.of-first.result.length in
+    let n : ℕ = l.next.length in
     let P : List (List BidiUnit) → Type 0 =
     λ pieces. IsWritten c.args.options.now.limits text c.args.options.now.direction l.start (take l.paragraphs l.paras)
     l.levels pieces in
     let w : P (take n (drop l.start text) ∷ paragraphs_of (drop (l.start + n) text)) =
-    subst P (next_piece text l.start n c.loop-start-test.true (c.of-first.ensures.first.length ∙
-    ap first_length (take_rest text l.start))) l.invariant.written in
+    subst P (next_piece text l.start n c.loop-start-test.true (l.invariant.first.length)) l.invariant.written in
     subst SeparatorOnlyLast (sym (piece_is text l.start n (l.start + n) refl)) (separator_last w)
+
+pub resolve_known-resolved-requires-clause-contents : goal.resolve_known-resolved-requires-clause-contents
+resolve_known-resolved-requires-clause-contents g c =
+    let l = c.loop-start in
+    let P : List BidiUnit → Type 0 = λ us. Describes l.next.contents (classes_of us) in
+    subst P (sym (piece_is c.args.text.now l.start l.next.length (l.start + l.next.length) refl))
+    l.invariant.first.contents
 
 pub loop-start-preserved : goal.loop-start-preserved
 loop-start-preserved g c =
     let l = c.loop-start in
     let text : List BidiUnit = c.args.text.now in
     let direction : Direction = c.args.options.now.direction in
-    let n : ℕ = c.of-first.result.length in
+    let n : ℕ = l.next.length in
     let end : ℕ = l.start + n in
     let para : List BidiUnit = slice_range text l.start end in
     let known = c.resolve_known-resolved in
-    let some : 0 < n = c.of-first.ensures.some (omega (
-      arith,
-      length-drop l.start text,
-      ap length (take_rest text l.start),
-    )) in
-    let within : n ≤ length text - l.start = omega (
-      arith,
-      c.of-first.ensures.within,
-      length-drop l.start text,
-      ap length (take_rest text l.start),
-    ) in
+    let some : 0 < n = l.invariant.some c.loop-start-test.true in
+    let within : n ≤ length text - l.start = l.invariant.short in
+    let rest : take (length text - end) (drop end text) ≡ drop end text = take_rest text end in
     let split : paragraphs_of (drop l.start text) ≡ para ∷ paragraphs_of (drop end text) =
-    next_piece text l.start n c.loop-start-test.true (c.of-first.ensures.first.length ∙
-    ap first_length (take_rest text l.start))
+    next_piece text l.start n c.loop-start-test.true (l.invariant.first.length)
     ∙ ap (λ (us : List BidiUnit). us ∷ paragraphs_of (drop end text)) (sym (piece_is text l.start n end refl)) in
     let long : length para ≡ n = ap length (piece_is text l.start n end refl) ∙
     length-take-le n (drop l.start text) (omega (arith, length-drop l.start text)) in
@@ -127,8 +125,7 @@ loop-start-preserved g c =
       ap length c.deref_mut-para_ends.ensures.value,
       c.requires.room.para_ends,
     ) in
-    let next = paragraph_from text l.start n c.loop-start-test.true (c.of-first.ensures.first.length ∙
-    ap first_length (take_rest text l.start)) some within in
+    let next = paragraph_from text l.start n c.loop-start-test.true (l.invariant.first.length) some within in
     record {
       written =
           rw (take_more_set l.paras l.paragraphs known.result.level room)
@@ -142,10 +139,8 @@ loop-start-preserved g c =
           ∙ ap (λ pieces. l.uniform && list_all keeps pieces) (sym split)
           ∙ l.invariant.known;
       segments =
-          let described = c.of-first.ensures.first.contents in
           let here : c.has_segment_separator-segmented.result ≡ has_segments (take n (drop l.start text)) =
-          c.has_segment_separator-segmented.ensures _ described ∙
-          ap (λ us. list_any (is_class S) (classes_of (take n us))) (take_rest text l.start) in
+          c.has_segment_separator-segmented.ensures _ l.invariant.first.contents in
           segments_on text l.start n l.segmented c.has_segment_separator-segmented.result l.invariant.segments here;
       passed = c.cut_paragraph-cut.ensures.passed;
       ends =
@@ -159,6 +154,9 @@ loop-start-preserved g c =
       few = omega (arith, l.invariant.few);
       inside = omega arith;
       resolver = search rules;
+      first = subst (IsFirstOf c.of-next.result) rest c.of-next.ensures.first;
+      some = λ below. c.of-next.ensures.some (omega (arith, ap length rest, length-drop end text));
+      short = omega (arith, c.of-next.ensures.within, ap length rest, length-drop end text);
       at_least = omega (arith, long);
       at_most = omega (arith, long);
       if_uniform = λ both.

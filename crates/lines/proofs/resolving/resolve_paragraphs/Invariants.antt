@@ -1,8 +1,9 @@
-use Rattle.std.proofs.Common.{◌≡◌, ◌≤◌, ◌+◌, ◌-◌, ◌*◌, drop, length, take, true}
+use Rattle.std.proofs.Common.{◌≡◌, ◌<◌, ◌≤◌, ◌+◌, ◌-◌, ◌*◌, drop, length, take, true}
 use Rattle.std.specs.Prelude.{◌&&◌}
 use Rattle.std.specs.List.{list_all}
 use Rattle.units.specs.Classes.{classes_of}
 use Rattle.units.specs.Paragraphs.{paragraphs_of}
+use Rattle.paragraph.specs.Contents.{IsFirstOf}
 use Rattle.lines.specs.Unchanged.{each_keeps_level, keeps_own_level}
 use Rattle.lines.specs.LineEnds.{AreLineEnds, AreParagraphEnds, BreaksArePassed}
 use Rattle.lines.specs.Spaces.{has_segments}
@@ -25,9 +26,13 @@ invariant-loop-start g l = record {
   few : l.paragraphs ≤ l.start;
   inside : l.start ≤ length l.text;
   resolver : l.resolver ≡ l.initial.resolver;
-  at_least : l.initial.steps + 2 * l.start + l.paragraphs + l.cut.lines ≤ l.steps;
-  at_most : l.steps ≤ l.initial.steps + text_steps * l.start;
-  if_uniform : l.uniform ≡ true → l.steps ≤ l.initial.steps + uniform_text_steps * l.start;
+  first : IsFirstOf l.next (drop l.start l.text);
+  some : l.start < length l.text → 0 < l.next.length;
+  short : l.next.length ≤ length l.text - l.start;
+  at_least : l.initial.steps + 2 * l.start + l.paragraphs + l.cut.lines + l.next.length ≤ l.steps + l.fn.first.length;
+  at_most : l.steps + l.fn.first.length ≤ l.initial.steps + text_steps * l.start + l.next.length;
+  if_uniform : l.uniform ≡ true →
+      l.steps + l.fn.first.length ≤ l.initial.steps + uniform_text_steps * l.start + l.next.length;
 }
 
 abbrev pub decreases-loop-start : goal.decreases-loop-start

@@ -58,6 +58,7 @@ returns-clause-holds g c =
           ∙ unchanged.ensures.resolved
           ∙ found.ensures.resolved.levels);
       known = found.ensures.resolved.known;
+      segments = found.ensures.segments;
     }
 
 pub arrange-filled-requires-clause-uniform : goal.arrange-filled-requires-clause-uniform

@@ -85,6 +85,7 @@ returns-clause-lines g c =
             ∙ ap (λ k. resolved_filled k room.used.uniform room.text) (sym stored.units)
             ∙ stored.levels);
         known = stored.known;
+        segments = stored.segments;
       };
     }
 
@@ -94,3 +95,6 @@ arrange-self-requires-clause-para_ends g c =
 
 pub cut_text-lines-requires-clause-para_ends : goal.cut_text-lines-requires-clause-para_ends
 cut_text-lines-requires-clause-para_ends g c = rw c.deref.ensures.value c.requires.holds.2.ends
+
+pub arrange-self-requires-clause-segments : goal.arrange-self-requires-clause-segments
+arrange-self-requires-clause-segments g c = c.requires.holds.2.segments

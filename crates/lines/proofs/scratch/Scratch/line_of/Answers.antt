@@ -12,7 +12,7 @@ use Rattle.lines.specs.LinesAlone.{breaks_around}
 use Rattle.lines.specs.Scratches.{paras_in}
 use Rattle.lines.proofs.KnownLevels.{known_level, where_known}
 use Rattle.lines.proofs.LineStored.{length-text_levels, line_at_level, line_laid_out, line_reset_by, para_in_use, plain_line, range_in_use}
-use Rattle.lines.proofs.scratch.Scratch.line_alone.Goals as goal
+use Rattle.lines.proofs.scratch.Scratch.line_of.Goals as goal
 
 pub reset_line_unless_uniform-requires-clause-paragraph : goal.reset_line_unless_uniform-requires-clause-paragraph
 reset_line_unless_uniform-requires-clause-paragraph g c = λ p low high.
@@ -169,3 +169,6 @@ returns-clause-if_uniform g c = λ if_uniform.
       c.copy_line.ensures.steps,
       c.in_ok-paragraph.ensures.at_most,
     )
+
+pub reset_line_unless_uniform-requires-clause-none : goal.reset_line_unless_uniform-requires-clause-none
+reset_line_unless_uniform-requires-clause-none g c = c.requires.holds.2.segments
