@@ -13,7 +13,7 @@ pub enum LayoutFault {
     TooLong,
     /// The unit at this offset isn't part of a character, isn't a class, or has a number of no class or bracket. All
     /// units before it are well formed.
-    #[error("the unit at offset {0} is no part of a character")]
+    #[error("the unit at offset {0} is ill-formed")]
     IllFormed(usize),
     /// A break is out of range, or not above the one before.
     #[error("a break is out of range, or not above the one before")]

@@ -34,10 +34,10 @@ impl Room {
     pub fn levels(&self, out: &mut [Option<Level>]) -> usize
         ensures { WritesLevels self.now result out.old out.new }
     {
-        let size = self.size();
-        if size <= out.len() {
-            self.fill_levels(&mut out[..size]);
+        let text_len = self.text_len();
+        if text_len <= out.len() {
+            self.fill_levels(&mut out[..text_len]);
         }
-        size
+        text_len
     }
 }

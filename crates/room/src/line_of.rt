@@ -5,22 +5,29 @@ ghost use Rattle.room.specs.LineOf.{fault_of_span};
 use crate::places::put;
 use crate::room::Room;
 use lines::alone::SpanFault;
+use thiserror::Error;
 use units::level::Level;
 
 /// Why there is no line from one offset of a text up to another; if there are several reasons, the first one.
-#[derive(Clone, Copy, Debug, PartialEq, Eq)]
+#[derive(Clone, Copy, Debug, PartialEq, Eq, Error)]
 pub enum LineFault {
     /// The lists have fewer items than the line has units.
+    #[error("a list has fewer items than the line has units")]
     TooSmall,
     /// The line does not start below its end.
+    #[error("the line does not start below its end")]
     NotForward,
     /// The line ends after the text.
+    #[error("the line ends after the text")]
     BeyondText,
     /// The line starts inside a character.
+    #[error("the line starts inside a character")]
     StartsInside,
     /// The line ends inside a character.
+    #[error("the line ends inside a character")]
     EndsInside,
     /// A paragraph ends within the line, before its last character.
+    #[error("a paragraph ends within the line, before its last character")]
     CrossesParagraph,
 }
 
@@ -69,7 +76,7 @@ impl Room {
         if end <= start {
             return Err(LineFault::NotForward);
         }
-        if self.offset_of(self.characters()) < end {
+        if self.text_len() < end {
             return Err(LineFault::BeyondText);
         }
         let Some(first) = self.boundary_at(start) else {

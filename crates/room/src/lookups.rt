@@ -21,7 +21,7 @@ impl Room {
     ghost use Rattle.room.specs.Written.{WritesWhole};
 
     /// Returns how many units the text has.
-    pub fn size(&self) -> usize
+    pub fn text_len(&self) -> usize
         ensures { result ≡ size_in self.now }
     {
         self.offset_of(self.characters())

@@ -22,7 +22,8 @@ impl Room {
     ghost use Rattle.std.specs.Prelude.{ℕ, ◌≡◌, ◌<◌, length, slice_index};
     ghost use Rattle.std.specs.List.{All};
     ghost use Rattle.lines.specs.Layouts.{line_at};
-    ghost use Rattle.room.specs.Places.{ArePlaces, WritesPlaces};
+    ghost use Rattle.room.specs.Looking.{IsAt};
+    ghost use Rattle.room.specs.Places.{ArePlacesOf, WritesPlaces};
     ghost use Rattle.room.specs.Rooms.{characters_in};
 
     /// Writes the place in a line's order of each unit from the offset `start` on, as many as `out` has items.
@@ -30,7 +31,7 @@ impl Room {
     fn fill_places(&self, order: &[usize], start: usize, out: &mut [usize])
         requires { All (λ k. k < characters_in self.now) order.now }
         ensures len { length out.new ≡ length out.old }
-        ensures places { ArePlaces self.now order.now start out.new }
+        ensures places { ArePlacesOf (IsAt self.now) order.now start (length out.new) out.new }
     {
         let _count = self.characters();
         out.fill(NOWHERE);

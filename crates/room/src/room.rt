@@ -10,7 +10,7 @@ use decoding::breaking::breaks_at;
 use decoding::indices::index_of;
 use lines::alone::SpanFault;
 use lines::breaks::Breaks;
-use lines::lay_out::line_alone_into;
+use lines::lay_out::line_of_into;
 use lines::layout::Layout;
 use lines::scratch::{MOST, RoomFault, Scratch};
 use sources::source::{Ask, Source};
@@ -263,7 +263,7 @@ impl Room {
     }
 
     /// Lays out one line alone of the text of the room, from the character `first` up to `last`, as
-    /// `Scratch::line_alone` does, in positions of characters. The room is unchanged.
+    /// `Scratch::line_of` does, in positions of characters. The room is unchanged.
     pub(crate) fn line_of_characters(
         &mut self,
         first: usize,
@@ -283,7 +283,7 @@ impl Room {
     {
         let count = self.characters();
         let text = &self.units[..count];
-        line_alone_into(&mut self.scratch, text, first, last, levels, order)
+        line_of_into(&mut self.scratch, text, first, last, levels, order)
     }
 
     /// Returns the layout, in positions of characters: the levels of its paragraphs and positions, and its lines.

@@ -1,5 +1,5 @@
 -- L1 and L2 for levels that a caller gives: one for each position, also for those that X9 removes.
-use Rattle.std.specs.Prelude.{ℕ, ◌%◌, ◌==◌, Bool, ◌&&◌, ◌||◌, not, if◌then◌else◌, Option, Some, List, [], map, reverse, slice_index}
+use Rattle.std.specs.Prelude.{ℕ, ◌≡◌, ◌<◌, ◌%◌, ◌==◌, Bool, ◌&&◌, ◌||◌, not, if◌then◌else◌, Option, Some, List, [], length, map, reverse, slice_index, slice_index_or}
 use Rattle.units.specs.Classes.{class_at, is_line_separator}
 use Rattle.units.specs.Positions.{positions_of}
 use Rattle.units.specs.Reordering.{ends_spaces, is_solid, next_solid}
@@ -24,3 +24,10 @@ is_reset_in own p =
 unfoldable pub levels_reset_in : List Class → ℕ → List ℕ → List ℕ
 levels_reset_in own para_level levels =
     map (λ p. if is_reset_in own p then para_level else slice_index levels p) (positions_of levels)
+
+-- these are the classes of the items, each whatever is returned of its item
+pub record AreClassesBy {A : Type 0} (Returns : A → Class → Type 0) (items : List A) (classes : List Class) :
+    Type 0 where
+  pub len : length classes ≡ length items
+  pub each : (p : ℕ) (item : A) (class : Class) → p < length items → item ≡ slice_index_or items p item →
+      Returns item class → class ≡ class_at classes p

@@ -37,7 +37,7 @@ returns-clause-inside c =
     let long : length levels ≡ length text = length-levels self.limits text self.direction (breaks_around first last) in
     let few : length text ≤ characters_in c.args.self.now =
     omega (arith, length-take c.characters-count.result c.deref.result.now, c.characters-count.ensures) in
-    of_written (RejectsSpan text first last) c.line_alone_into.result c.line_alone_into.ensures.line
+    of_written (RejectsSpan text first last) c.line_of_into.result c.line_of_into.ensures.line
     (λ shown w.
     let laid = w.line self.limits self.direction (breaks_around first last) stored w.taken in
     let within : last ≤ length levels = omega (
