@@ -5,6 +5,7 @@ ghost use Rattle.sources.specs.Sources.{Classes, Units};
 ghost use Rattle.ucdfiles.specs.Tables.{TablesOf};
 ghost use Rattle.for_c.specs.Base.{IsBaseLevel, RejectsBase};
 ghost use Rattle.for_c.specs.Fronts.{RejectsLevels, RejectsLine, Reorders, ResetsLine};
+ghost use Rattle.for_c.specs.LimitsGiven.{ByLimits};
 ghost use Rattle.for_c.specs.Statuses.{ReturnsStatusNaming, Puts, place_named};
 ghost use Rattle.for_c.specs.LevelBytes.{level_byte};
 ghost use Rattle.room.specs.Written.{WritesWhole};
@@ -19,6 +20,7 @@ use for_c::base::base_level_of;
 use for_c::call_error::{CallError, status_and_place};
 use for_c::columns::write_levels;
 use for_c::fronts::{reorder, reset_levels, write_properties};
+use for_c::limits::BidiLimits;
 use for_c::pairs::paired_bracket;
 use sources::numbered_units::NumberedUnit;
 use sources::source::Source;
@@ -153,4 +155,28 @@ pub extern "C" fn bidi_lay_out_units(
     let source = Source::Units(units);
     let done = lay_out_without_tables(room, source, direction, breaks, Limits::standard());
     status_and_place(done, place)
+}
+
+/// Lays out a text of units as `bidi_lay_out_units` does, with these limits in place of the standard ones.
+#[unsafe(no_mangle)]
+#[tactic(auto, using(crate::proofs::LimitsRejected::limits_rejected_named))]
+pub extern "C" fn bidi_lay_out_units_with(
+    room: &mut BidiHandle,
+    units: &[NumberedUnit],
+    direction: u32,
+    breaks: &[usize],
+    limits: BidiLimits,
+    place: &mut u64,
+) -> u32
+    ensures { ReturnsStatusNaming place_named (ByLimits limits (λ limits. LaysOutWithoutTables (Units units.now) limits
+        direction breaks.now) (contents_at room.old) (contents_at room.new)) result place.old place.new }
+{
+    let source = Source::Units(units);
+    match limits.allowed() {
+        Ok(limits) => {
+            let done = lay_out_without_tables(room, source, direction, breaks, limits);
+            status_and_place(done, place)
+        }
+        Err(error) => status_and_place(Err(error), place),
+    }
 }

@@ -39,12 +39,12 @@ index_in (Order index) = index
 -- a verdict as C gets it: 0 is yes, 1 a malformed line, 2 a wrong case
 abbrev pub verdict_for_c : Verdict → BidiVerdict
 verdict_for_c (Yes rows cases) =
-    record { outcome = 0; reason = 0; direction = 0; line = 0; index = 0; rows = rows; cases = cases }
+    record { answer = 0; reason = 0; direction = 0; line = 0; index = 0; rows = rows; cases = cases }
 verdict_for_c (Malformed line cause) =
-    record { outcome = 1; reason = cause_number cause; direction = 0; line = line; index = 0; rows = 0; cases = 0 }
+    record { answer = 1; reason = cause_number cause; direction = 0; line = line; index = 0; rows = 0; cases = 0 }
 verdict_for_c (Wrong line direction place) =
     record {
-      outcome = 2;
+      answer = 2;
       reason = place_number place;
       direction = direction_number direction;
       line = line;

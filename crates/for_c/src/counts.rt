@@ -23,7 +23,7 @@ pub struct BidiCounts {
     /// The wrong cases under right-to-left.
     pub rtl: u64,
     /// The wrong cases by the first strong character, or left-to-right.
-    pub auto: u64,
+    pub auto_ltr: u64,
     /// The wrong cases by the first strong character, or right-to-left.
     pub auto_rtl: u64,
     /// The wrong cases whose paragraph level differs first.
@@ -64,7 +64,7 @@ pub(crate) fn counts_for_c(
         wrong_cases: case_counts.wrong_cases,
         ltr: case_counts.by_direction.ltr,
         rtl: case_counts.by_direction.rtl,
-        auto: case_counts.by_direction.auto,
+        auto_ltr: case_counts.by_direction.auto,
         auto_rtl: case_counts.by_direction.auto_rtl,
         para_level: case_counts.by_part.para_level,
         levels: case_counts.by_part.levels,

@@ -9,28 +9,25 @@ ghost use Rattle.for_c.specs.Statuses.{Puts};
 
 use crate::call_error::CallError;
 use crate::properties::{bracket_number, class_number};
-use lines::resets::resets_spaces_before;
 use sources::class_numbers::{check_classes, class_numbered};
 use sources::codes::check_codes;
 use ucdfiles::tables::Tables;
 use units::class::Class;
 use units::level::Level;
 use visual::by_levels::write_order;
-use visual::own_resets::level_after;
+use visual::own_resets::reset_levels_by;
 
 /// Does what `visual::own_resets::reset_levels` does, with the numbers of classes.
 fn reset_numbered(classes: &[u8], para_level: Level, levels: &mut [u8])
     requires { length classes.now ≡ length levels.old }
     ensures { levels.new ≡ levels_reset_in (classes_numbered classes.now) para_level levels.old }
 {
-    let mut reset = true;
-    let mut position = levels.len();
-    while position > 0 {
-        position -= 1;
-        let class = class_numbered(classes[position]).unwrap_or(Class::L);
-        reset = resets_spaces_before(class, reset);
-        levels[position] = level_after(reset, para_level, levels[position]);
-    }
+    reset_levels_by(
+        classes,
+        |number| class_numbered(number).unwrap_or(Class::L),
+        para_level,
+        levels,
+    );
 }
 
 /// Resets the levels of a line by L1. Separators get the level of their paragraph. So do white space, isolate

@@ -63,11 +63,11 @@ fn fill_level_bytes(room: &Room, out: &mut [u8])
 pub fn write_level_bytes(room: &Room, out: &mut [u8]) -> usize
     ensures { WritesLevelBytes room.now result out.old out.new }
 {
-    let size = room.offset_of(room.characters());
-    if size <= out.len() {
-        fill_level_bytes(room, &mut out[..size]);
+    let text_len = room.text_len();
+    if text_len <= out.len() {
+        fill_level_bytes(room, &mut out[..text_len]);
     }
-    size
+    text_len
 }
 
 /// Returns the line with the number `k`. Fails with `NoLine` if there is none.

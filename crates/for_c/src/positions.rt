@@ -1,13 +1,16 @@
 //! What a layout says about a text, in positions of its characters.
-ghost use Rattle.std.specs.Prelude.{ℕ, ◌≡◌, ◌<◌, ◌+◌, IfErr, IfOk, length, slice_index};
+ghost use Rattle.std.specs.Prelude.{◌≡◌, IfErr, IfOk, length};
 ghost use Rattle.lines.specs.Layouts.{line_at, view_of};
+ghost use Rattle.room.specs.Places.{ArePlacesOf};
 ghost use Rattle.room.specs.Written.{WritesWhole};
-ghost use Rattle.for_c.specs.Positions.{IsLineAt, IsPlace, RejectsLine, WritesPlaces};
+ghost use Rattle.for_c.specs.Positions.{IsLineAt, IsSamePosition, RejectsLine, WritesPlaces};
 
 use crate::call_error::CallError;
 use crate::columns::write_items;
-use crate::line::BidiLine;
+use crate::line::{BidiLine, line_for_c};
 use lines::layout::Layout;
+use room::lookups::Line;
+use room::places::NOWHERE;
 
 /// Returns the line with the number `k`. Fails with `NoLine` if there is none.
 pub fn line_at(layout: &Layout<'_>, k: usize) -> Result<BidiLine, CallError>
@@ -18,11 +21,11 @@ pub fn line_at(layout: &Layout<'_>, k: usize) -> Result<BidiLine, CallError>
         return Err(CallError::NoLine);
     }
     let line = layout.line(k);
-    Ok(BidiLine {
+    Ok(line_for_c(Line {
         start: line.start,
         end: line.end,
         shown: line.order.len(),
-    })
+    }))
 }
 
 /// Writes the order of the line with the number `k` to the front of `out`, if all fit there. Returns how many
@@ -39,10 +42,9 @@ pub fn write_order(layout: &Layout<'_>, k: usize, out: &mut [usize]) -> usize
 /// Writes the place in a line's order of each position from `start` on, as many as `out` has items.
 fn fill_places(order: &[usize], start: usize, out: &mut [usize])
     ensures len { length out.new ≡ length out.old }
-    ensures places { (i : ℕ) → i < length out.old → IsPlace order.now (length order.now) (start + i)
-        (slice_index out.new i) }
+    ensures places { ArePlacesOf IsSamePosition order.now start (length out.old) out.new }
 {
-    out.fill(usize::MAX);
+    out.fill(NOWHERE);
     for place in 0..order.len() {
         let position = order[place];
         if start <= position && position - start < out.len() {

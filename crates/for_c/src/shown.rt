@@ -33,7 +33,7 @@ pub fn write_shown_utf8(
 ) -> usize
     ensures { WritesUnitsIf shown_utf8 tables.now room.now text.now k result out.old out.new }
 {
-    if text.len() != room.size() {
+    if text.len() != room.text_len() {
         return 0;
     }
     if room.line_count() <= k {
@@ -54,7 +54,7 @@ pub fn write_shown_utf16(
 ) -> usize
     ensures { WritesUnitsIf shown_utf16 tables.now room.now text.now k result out.old out.new }
 {
-    if text.len() != room.size() {
+    if text.len() != room.text_len() {
         return 0;
     }
     if room.line_count() <= k {

@@ -11,7 +11,7 @@ use bidtests::verdict::{Cause, Place, Verdict};
 #[derive(Clone, Copy, PartialEq, Eq)]
 pub struct BidiVerdict {
     /// 0 if the whole file is right, 1 if a line is malformed, 2 if a case is wrong.
-    pub outcome: u32,
+    pub answer: u32,
     /// For a malformed line, the number of the cause, from 1. For a wrong case, 1 for the paragraph's level, 2 for the
     /// levels, 3 for the order.
     pub reason: u32,
@@ -61,7 +61,7 @@ pub(crate) fn numbers_of_place(place: Place) -> (u32, usize)
 
 /// Numbers that are all 0.
 const ZEROS: BidiVerdict = BidiVerdict {
-    outcome: 0,
+    answer: 0,
     reason: 0,
     direction: 0,
     line: 0,
@@ -81,7 +81,7 @@ pub fn verdict_for_c(verdict: Verdict) -> BidiVerdict
             ..ZEROS
         },
         Verdict::Malformed { line, cause } => BidiVerdict {
-            outcome: 1,
+            answer: 1,
             reason: number_of_cause(cause),
             line,
             ..ZEROS
@@ -93,7 +93,7 @@ pub fn verdict_for_c(verdict: Verdict) -> BidiVerdict
         } => {
             let (reason, index) = numbers_of_place(place);
             BidiVerdict {
-                outcome: 2,
+                answer: 2,
                 reason,
                 direction: number_of_direction(direction),
                 line,
@@ -144,7 +144,7 @@ impl BidiVerdict {
         ensures each { (verdict : Verdict) → self ≡ verdict_for_c verdict → result ≡ Some verdict }
         ensures small { IfSome result HasSmallNumbers }
     {
-        match self.outcome {
+        match self.answer {
             0 => Some(Verdict::Yes {
                 rows: self.rows,
                 cases: self.cases,

@@ -22,5 +22,5 @@ returns-then-line_count-k c =
             following = refl;
             unchanged = λ _. refl;
           });
-      other = λ ne. absurd (ne (omega (arith, c.size.ensures, c.if-text-size.false)));
+      other = λ ne. absurd (ne (omega (arith, c.text_len.ensures, c.if-text-text_len.false)));
     }
