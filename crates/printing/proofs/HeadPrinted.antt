@@ -19,7 +19,7 @@ use Rattle.lines.proofs.Lengths.{length-levels}
 use Rattle.printing.specs.Following.{levels_after, one_paragraph_after, paragraph_after, position_after, printed_as, printed_after}
 use Rattle.printing.specs.Columns.{is_column_break}
 use Rattle.printing.specs.LevelsText.{paragraph_text, printed, text_at_position, text_of_paragraph}
-use Rattle.printing.specs.UnderWay.{Follows}
+use Rattle.printing.specs.UnfinishedParagraphs.{Follows}
 use Rattle.printing.specs.PrintedTexts.{breaks_of, lines_text}
 use Rattle.printing.specs.ReorderText.{reorder_text}
 use Rattle.printing.specs.declared.form.Form.{Form}

@@ -8,17 +8,17 @@ use Rattle.std.specs.Str.Lossy.{utf8_valid_len}
 use Rattle.units.specs.Layout.{longest_text}
 use Rattle.units.specs.declared.level.Direction.{Direction}
 use Rattle.ucdfiles.specs.Tables.{TablesOf}
-use Rattle.printing.specs.Following.{printed_as, printed_after}
+use Rattle.printing.specs.Following.{printed_as}
 use Rattle.printing.specs.EndedParagraphs.{ended_paragraphs}
 use Rattle.printing.specs.ReadBytes.{IsReadTo}
 use Rattle.printing.specs.ReadTexts.{BreaksOff, EndsUnwritten, IsPrinted, printed_ended, stopped_by, utf8_front}
 use Rattle.printing.specs.TextPlaces.{place_after}
-use Rattle.printing.specs.UnderWay.{IsBegun, PrintsOn, chars_so_far}
+use Rattle.printing.specs.UnderWay.{PrintsOn, printed_next}
+use Rattle.printing.specs.UnfinishedParagraphs.{chars_so_far}
 use Rattle.printing.specs.declared.begun.Begun.{Begun}
 use Rattle.printing.specs.declared.fault.PrintStop.{PrintStop}
 use Rattle.printing.specs.declared.fault.PrintStop.TheVariants as stop
 use Rattle.printing.specs.declared.form.Form.{Form}
-use Rattle.printing.specs.declared.passed.Passed.{Passed}
 use Rattle.printing.specs.declared.place.TextPlace.{TextPlace}
 use Rattle.printing.specs.declared.reading.TextFault.{TextFault}
 use Rattle.printing.specs.declared.reading.TextFault.TheVariants.{Read, NotUtf8, Write, NobodyReads, Memory}
@@ -84,45 +84,38 @@ module _ (Failed Ended : Type 0) (form : Form) (tables : TablesOf) (direction : 
   )
 
 -- what a source returned, the bytes of it that are stored, and what was printed of it
-pub record HasRead {S : Type 0} (gives : S → List ℕ → S → Type 0) (room : S →
-    ℕ) (form : Form) (tables : TablesOf) (direction : Direction)
-    (start now : S) (before after : Option (List ℕ)) (first begun : Begun) (stored : List ℕ) (place : TextPlace) :
-    Type 0 where
+pub record HasRead {S : Type 0} (gives : S → List ℕ → S → Type 0) (room : S → ℕ) (start now : S)
+    (before after : Option (List ℕ)) (first begun : Begun) (stored : List ℕ) (place : TextPlace) : Type 0 where
   pub bytes : List ℕ
   pub front : List ℕ
   pub given : gives start bytes now
   pub cut : IsReadTo bytes front stored
   pub bound : length bytes + room now ≤ longest_text
-  pub is : IsBegun tables begun
-  pub passed_in : chars_so_far begun ≡ length (chars front)
-  pub printed : PrintsOn form tables direction (chars front) before after first begun
+  pub passed_in : chars_so_far begun.paragraph ≡ length (chars front)
+  pub printed : PrintsOn (chars front) before after first begun
   pub place_is : place ≡ place_after front
 
-module _ {S : Type 0} (gives : S → List ℕ → S → Type 0) (room : S →
-    ℕ) (form : Form) (tables : TablesOf) (direction : Direction)
-    (start : S) (before : Option (List ℕ)) (first : Begun) where
-  pub nothing_read : gives start [] start → room start ≤ longest_text → IsBegun tables first → first.chars.items ≡ []
-      → (let none : Passed = record { paragraphs = 0; characters = 0 } in first.passed ≡ none)
-      → HasRead gives room form tables direction start start before before first first [] (place_after [])
-  nothing_read given small is empty none = record {
+module _ {S : Type 0} (gives : S → List ℕ → S → Type 0) (room : S → ℕ) (start : S) (before : Option (List ℕ))
+    (first : Begun) where
+  pub nothing_read : gives start [] start → room start ≤ longest_text → chars_so_far first.paragraph ≡ 0
+      → HasRead gives room start start before before first first [] (place_after [])
+  nothing_read given small new = record {
     bytes = [];
     front = [];
     given = given;
     cut = nothing_cut;
     bound = omega arith;
-    is = is;
-    passed_in = omega (arith, ap (λ (p : Passed). p.characters) none, ap length empty, ap length chars-nil);
-    printed = subst (λ xs. PrintsOn form tables direction xs before before first first) (sym chars-nil)
-        (nothing_came form tables direction before first);
+    passed_in = omega (arith, new, ap length chars-nil);
+    printed = subst (λ xs. PrintsOn xs before before first first) (sym chars-nil) (nothing_came before first);
     place_is = refl;
   }
 
   module _ (now next : S) (after later : Option (List ℕ)) (begun then : Begun) (stored more : List ℕ)
       (place : TextPlace)
-      (read : HasRead gives room form tables direction start now before after first begun stored place)
+      (read : HasRead gives room start now before after first begun stored place)
       (falls : room next + length more ≤ room now) where
     -- the characters so far and the bytes in the buffer are within the longest text
-    pub more_fits : chars_so_far begun + length (stored ++ more) ≤ longest_text
+    pub more_fits : chars_so_far begun.paragraph + length (stored ++ more) ≤ longest_text
     more_fits =
         let cut = read.cut in
         omega (
@@ -138,13 +131,13 @@ module _ {S : Type 0} (gives : S → List ℕ → S → Type 0) (room : S →
           length-append stored more,
         )
 
-    more_read : gives start (read.bytes ++ more) next → IsBegun tables then →
-        chars_so_far then ≡ chars_so_far begun + length (chars (utf8_front (stored ++ more)))
-        → PrintsOn form tables direction (chars (utf8_front (stored ++ more))) after later begun then
+    more_read : gives start (read.bytes ++ more) next →
+        chars_so_far then.paragraph ≡ chars_so_far begun.paragraph + length (chars (utf8_front (stored ++ more)))
+        → PrintsOn (chars (utf8_front (stored ++ more))) after later begun then
         → (at : TextPlace) → IsAfter place at (utf8_front (stored ++ more))
-        → HasRead gives room form tables direction start next before later first then
+        → HasRead gives room start next before later first then
         (take 4 (drop (utf8_valid_len (stored ++ more)) (stored ++ more))) at
-    more_read given is passed_in printed at passed =
+    more_read given passed_in printed at passed =
         let both : chars (read.front ++ utf8_front (stored ++ more)) ≡ chars read.front ++
         chars (utf8_front (stored ++ more)) =
         chars-append read.front (utf8_front (stored ++ more)) read.cut.utf8 in
@@ -154,7 +147,6 @@ module _ {S : Type 0} (gives : S → List ℕ → S → Type 0) (room : S →
           given = given;
           cut = more_cut read.bytes read.front stored more read.cut;
           bound = omega (arith, falls, read.bound, length-append read.bytes more);
-          is = is;
           passed_in = omega (
             arith,
             passed_in,
@@ -162,33 +154,32 @@ module _ {S : Type 0} (gives : S → List ℕ → S → Type 0) (room : S →
             ap length both,
             length-append (chars read.front) (chars (utf8_front (stored ++ more))),
           );
-          printed = subst (λ xs. PrintsOn form tables direction xs before later first then) (sym both)
-              (more_came form tables direction _ _ _ _ _ _ _ _ read.printed printed);
+          printed = subst (λ xs. PrintsOn xs before later first then) (sym both)
+              (more_came _ _ _ _ _ _ _ _ read.printed printed);
           place_is = after_more place at read.front (utf8_front (stored ++ more)) read.place_is passed;
         }
 
     -- the same for a buffer with the stored and the new bytes, of which `taken` bytes were taken
     pub read_more : (bs unchanged : List ℕ) (taken : ℕ) → bs ≡ stored ++ more → taken ≡ length (utf8_front bs) →
         unchanged ≡ take 4 (drop taken bs)
-        → gives start (read.bytes ++ more) next → IsBegun tables then →
-        chars_so_far then ≡ chars_so_far begun + length (chars (utf8_front bs))
-        → PrintsOn form tables direction (chars (utf8_front bs)) after later begun then → (at : TextPlace) →
+        → gives start (read.bytes ++ more) next →
+        chars_so_far then.paragraph ≡ chars_so_far begun.paragraph + length (chars (utf8_front bs))
+        → PrintsOn (chars (utf8_front bs)) after later begun then → (at : TextPlace) →
         IsAfter place at (utf8_front bs)
-        → HasRead gives room form tables direction start next before later first then unchanged at
-    read_more bs unchanged taken both front remaining given is passed_in printed at passed =
+        → HasRead gives room start next before later first then unchanged at
+    read_more bs unchanged taken both front remaining given passed_in printed at passed =
         let same : unchanged ≡ take 4 (drop (utf8_valid_len (stored ++ more)) (stored ++ more)) =
         remaining ∙ ap (λ n. take 4 (drop n bs)) (front ∙ length_front bs) ∙
         ap (λ xs. take 4 (drop (utf8_valid_len xs) xs)) both in
-        subst (λ xs. HasRead gives room form tables direction start next before later first then xs at) (sym same)
-        (more_read given is (subst (λ xs. chars_so_far then ≡ chars_so_far begun + length (chars (utf8_front xs))) both
-        passed_in)
-        (subst (λ xs. PrintsOn form tables direction (chars (utf8_front xs)) after later begun then) both printed) at
+        subst (λ xs. HasRead gives room start next before later first then xs at) (sym same)
+        (more_read given (subst (λ xs. chars_so_far then.paragraph
+        ≡ chars_so_far begun.paragraph + length (chars (utf8_front xs))) both passed_in)
+        (subst (λ xs. PrintsOn (chars (utf8_front xs)) after later begun then) both printed) at
         (subst (λ xs. IsAfter place at (utf8_front xs)) both passed))
 
   module _ (now : S) (after : Option (List ℕ)) (begun : Begun) (stored : List ℕ) (place : TextPlace)
-      (read : HasRead gives room form tables direction start now before after first begun stored place)
-      (empty : first.chars.items ≡ []) (none : let nothing : Passed = record { paragraphs = 0; characters = 0 } in
-      first.passed ≡ nothing) where
+      (read : HasRead gives room start now before after first begun stored place)
+      (new : chars_so_far first.paragraph ≡ 0) where
     -- what was read, without what was printed
     pub cut_of : HasCut gives start now place stored
     cut_of = record {
@@ -201,22 +192,22 @@ module _ {S : Type 0} (gives : S → List ℕ → S → Type 0) (room : S →
     }
 
     -- the paragraphs that have ended are printed
-    pub ended_read : Appends before after (printed_ended form tables read.bytes direction)
-    ended_read = subst (λ xs.
-        Appends before after (printed_as form tables (ended_paragraphs tables (chars xs)) direction))
+    pub ended_read : Appends before after
+        (printed_ended first.settings.form first.settings.tables.now read.bytes first.settings.direction)
+    ended_read = subst (λ xs. Appends before after (printed_as first.settings.form first.settings.tables.now
+        (ended_paragraphs first.settings.tables.now (chars xs)) first.settings.direction))
         (sym (front_cut read.bytes read.front stored read.cut))
-        (ended_came form tables direction (chars read.front) before after first begun empty none read.is
-        read.printed)
+        (ended_came (chars read.front) before after first begun new read.printed)
 
     -- if no byte is stored, all paragraphs are printed once the last one is
     pub whole_read : length stored ≡ 0 → (last : Option (List ℕ)) →
-        Appends after last (printed_after form begun.passed tables begun.chars.items direction)
-        → IsPrinted form tables direction read.bytes before last
+        Appends after last (printed_next begun begun.paragraph.chars.items)
+        → IsPrinted first.settings.form first.settings.tables.now first.settings.direction read.bytes before last
     whole_read all last noted =
         let whole : read.front ≡ read.bytes = whole_cut read.bytes read.front stored read.cut all in
         record {
           utf8 = subst IsUtf8 whole read.cut.utf8;
-          noted = subst (λ xs. Appends before last (printed_as form tables (chars xs) direction)) whole
-              (all_came form tables direction (chars read.front) before after last first begun empty none read.printed
-              noted);
+          noted = subst (λ xs. Appends before last (printed_as first.settings.form first.settings.tables.now (chars xs)
+              first.settings.direction)) whole
+              (all_came (chars read.front) before after first begun new read.printed last noted);
         }

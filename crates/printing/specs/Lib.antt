@@ -11,6 +11,7 @@ pub mod ReadTexts
 pub mod ReorderText
 pub mod TextPlaces
 pub mod UnderWay
+pub mod UnfinishedParagraphs
 pub mod WaitingBytes
 pub mod EndedRows
 pub mod PrintedRows

@@ -18,5 +18,6 @@ pub mod print;
 pub mod reading;
 mod reorder_text;
 mod settings;
+mod unfinished;
 mod waiting;
 pub mod written;

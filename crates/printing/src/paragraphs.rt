@@ -8,7 +8,8 @@ ghost use Rattle.lines.specs.Scratches.{room_of};
 ghost use Rattle.ucdfiles.specs.Tables.{mirror_by, unit_by, units_by};
 ghost use Rattle.printing.specs.Following.{levels_after, printed_after, printed_units};
 ghost use Rattle.printing.specs.PrintedTexts.{breaks_of, lines_text};
-ghost use Rattle.printing.specs.UnderWay.{Follows, IsBegun, PrintsOn, chars_so_far};
+ghost use Rattle.printing.specs.UnderWay.{PrintsOn, printed_next};
+ghost use Rattle.printing.specs.UnfinishedParagraphs.{Follows, chars_so_far};
 
 use crate::begun::Begun;
 use crate::columns::breaks_of;
@@ -18,6 +19,7 @@ use crate::layout_text::print_one_paragraph;
 use crate::passed::Passed;
 use crate::reorder_text::{ShownText, print_lines};
 use crate::settings::Settings;
+use crate::unfinished::Unfinished;
 use lines::breaks::Breaks;
 use lines::lay_out::lay_out_into;
 use lines::scratch::Scratch;
@@ -34,19 +36,19 @@ fn print_levels_of<W: Write>(
     chars: &[char],
     units: &[Unit],
     direction: Direction,
-    room: &mut Scratch,
+    scratch: &mut Scratch,
 ) -> Result<(), PrintStop>
     requires units { length units.now ≡ length chars.now }
     requires some { 0 < length chars.now }
     requires one { SeparatorOnlyLast units.now }
     requires small { passed.characters + length chars.now ≤ longest_text }
-    requires room { length units.now ≤ room_of room.old }
+    requires room { length units.now ≤ room_of scratch.old }
     ensures { OnOk result (Appends (W.contents w.old) (W.contents w.new)
         (levels_after passed chars.now units.now (layout_of standard units.now direction []))) }
 {
     let breaks = Breaks::new(&[], units.len()).unwrap();
-    lay_out_into(room, units, direction, &breaks).unwrap();
-    print_one_paragraph(w, passed, chars, units, &room.layout())?;
+    lay_out_into(scratch, units, direction, &breaks).unwrap();
+    print_one_paragraph(w, passed, chars, units, &scratch.layout())?;
     Ok(())
 }
 
@@ -57,10 +59,10 @@ fn print_lines_of<W: Write>(
     text: &ShownText<'_>,
     direction: Direction,
     columns: Option<NonZeroU16>,
-    room: &mut Scratch,
+    scratch: &mut Scratch,
 ) -> Result<(), PrintStop>
     requires units { length text.now.units.now ≡ length text.now.chars.now }
-    requires room { length text.now.units.now ≤ room_of room.old }
+    requires room { length text.now.units.now ≤ room_of scratch.old }
     ensures { OnOk result (Appends (W.contents w.old) (W.contents w.new)
         (lines_text (mirror_by text.now.mirrors.now) text.now.chars.now text.now.units.now direction
         (breaks_of text.now.units.now columns))) }
@@ -68,8 +70,8 @@ fn print_lines_of<W: Write>(
     let units = text.units;
     let positions = breaks_of(alloc, units, columns)?;
     let breaks = Breaks::new(&positions, units.len()).unwrap();
-    lay_out_into(room, units, direction, &breaks).unwrap();
-    print_lines(w, text, &room.layout())?;
+    lay_out_into(scratch, units, direction, &breaks).unwrap();
+    print_lines(w, text, &scratch.layout())?;
     Ok(())
 }
 
@@ -78,35 +80,34 @@ fn print_as<W: Write>(
     alloc: Global,
     w: &mut W,
     settings: &Settings<'_>,
-    begun: &mut Begun,
+    paragraph: &mut Unfinished,
 ) -> Result<(), PrintStop>
-    requires len { length begun.old.units.items ≡ length begun.old.chars.items }
-    requires some { 0 < length begun.old.chars.items }
-    requires one { SeparatorOnlyLast begun.old.units.items }
-    requires small { chars_so_far begun.old ≤ longest_text }
-    requires room { length begun.old.units.items ≤ room_of begun.old.room }
+    requires len { length paragraph.old.units.items ≡ length paragraph.old.chars.items }
+    requires some { 0 < length paragraph.old.chars.items }
+    requires one { SeparatorOnlyLast paragraph.old.units.items }
+    requires small { chars_so_far paragraph.old ≤ longest_text }
     ensures printed { OnOk result (Appends (W.contents w.old) (W.contents w.new)
-        (printed_units settings.now.form begun.old.passed settings.now.tables.now
-        begun.old.chars.items begun.old.units.items settings.now.direction)) }
-    ensures chars { begun.new.chars.items ≡ begun.old.chars.items }
-    ensures units { begun.new.units.items ≡ begun.old.units.items }
-    ensures passed { begun.new.passed ≡ begun.old.passed }
+        (printed_units settings.now.form paragraph.old.passed settings.now.tables.now
+        paragraph.old.chars.items paragraph.old.units.items settings.now.direction)) }
+    ensures chars { paragraph.new.chars.items ≡ paragraph.old.chars.items }
+    ensures passed { paragraph.new.passed ≡ paragraph.old.passed }
 {
+    paragraph.reserve_one(alloc)?;
     match settings.form {
         Form::Levels => {
-            let Begun {
+            let Unfinished {
                 passed,
                 chars,
                 units,
-                room,
-            } = begun;
-            print_levels_of(w, *passed, chars, units, settings.direction, room)
+                scratch,
+            } = paragraph;
+            print_levels_of(w, *passed, chars, units, settings.direction, scratch)
         }
         Form::Reorder { columns } => {
             let text = ShownText {
                 mirrors: settings.tables.mirrors(),
-                chars: &begun.chars,
-                units: &begun.units,
+                chars: &paragraph.chars,
+                units: &paragraph.units,
             };
             print_lines_of(
                 alloc,
@@ -114,36 +115,35 @@ fn print_as<W: Write>(
                 &text,
                 settings.direction,
                 columns,
-                &mut begun.room,
+                &mut paragraph.scratch,
             )
         }
     }
 }
 
-/// Writes the unfinished paragraph, which now has all of its characters, and passes it.
+/// Writes the unfinished paragraph, which now has all of its characters, and passes it, also if it can't be written.
 #[inline(never)]
-fn print_begun<W: Write>(
+fn print_unfinished<W: Write>(
     alloc: Global,
     w: &mut W,
     settings: &Settings<'_>,
-    begun: &mut Begun,
+    paragraph: &mut Unfinished,
 ) -> Result<(), PrintStop>
-    requires units { begun.old.units.items ≡ units_by settings.now.tables.now begun.old.chars.items }
-    requires some { 0 < length begun.old.chars.items }
-    requires one { SeparatorOnlyLast begun.old.units.items }
-    requires small { chars_so_far begun.old ≤ longest_text }
-    requires few { begun.old.passed.paragraphs ≤ begun.old.passed.characters }
+    requires units { paragraph.old.units.items ≡ units_by settings.now.tables.now paragraph.old.chars.items }
+    requires some { 0 < length paragraph.old.chars.items }
+    requires one { SeparatorOnlyLast paragraph.old.units.items }
+    requires small { chars_so_far paragraph.old ≤ longest_text }
+    requires few { paragraph.old.passed.paragraphs ≤ paragraph.old.passed.characters }
     ensures printed { OnOk result (Appends (W.contents w.old) (W.contents w.new)
-        (printed_after settings.now.form begun.old.passed settings.now.tables.now begun.old.chars.items
+        (printed_after settings.now.form paragraph.old.passed settings.now.tables.now paragraph.old.chars.items
         settings.now.direction)) }
-    ensures chars { OnOk result (begun.new.chars.items ≡ []) }
-    ensures units { OnOk result (begun.new.units.items ≡ []) }
-    ensures passed { OnOk result (Follows begun.old.passed (length begun.old.chars.items) begun.new.passed) }
+    ensures chars { paragraph.new.chars.items ≡ [] }
+    ensures units { paragraph.new.units.items ≡ [] }
+    ensures passed { Follows paragraph.old.passed (length paragraph.old.chars.items) paragraph.new.passed }
 {
-    begun.reserve_one(alloc)?;
-    print_as(alloc, w, settings, begun)?;
-    begun.pass();
-    Ok(())
+    let printed = print_as(alloc, w, settings, paragraph);
+    paragraph.pass();
+    printed
 }
 
 /// Adds a character with its unit to the unfinished paragraph. If the character ends the paragraph (P1), writes it.
@@ -151,22 +151,19 @@ fn print_begun<W: Write>(
 pub(crate) fn take_character<W: Write>(
     alloc: Global,
     w: &mut W,
-    settings: &Settings<'_>,
-    begun: &mut Begun,
+    begun: &mut Begun<'_>,
     character: char,
     unit: Unit,
 ) -> Result<(), PrintStop>
-    requires begun { IsBegun settings.now.tables.now begun.old }
-    requires small { chars_so_far begun.old < longest_text }
-    requires unit { unit ≡ unit_by settings.now.tables.now character }
-    ensures begun { OnOk result (IsBegun settings.now.tables.now begun.new) }
-    ensures passed_in { OnOk result (chars_so_far begun.new ≡ chars_so_far begun.old + 1) }
-    ensures printed { OnOk result (PrintsOn settings.now.form settings.now.tables.now settings.now.direction
-        (character ∷ []) (W.contents w.old) (W.contents w.new) begun.old begun.new) }
+    requires small { chars_so_far begun.old.paragraph < longest_text }
+    requires unit { unit ≡ unit_by begun.old.settings.tables.now character }
+    ensures passed_in { OnOk result (chars_so_far begun.new.paragraph ≡ chars_so_far begun.old.paragraph + 1) }
+    ensures printed { OnOk result (PrintsOn (character ∷ []) (W.contents w.old) (W.contents w.new)
+        begun.old begun.new) }
 {
-    begun.add(character, unit)?;
+    begun.paragraph.add(character, unit)?;
     if unit.class.is_separator() {
-        print_begun(alloc, w, settings, begun)?;
+        print_unfinished(alloc, w, &begun.settings, &mut begun.paragraph)?;
     }
     Ok(())
 }
@@ -175,17 +172,14 @@ pub(crate) fn take_character<W: Write>(
 pub(crate) fn print_last<W: Write>(
     alloc: Global,
     w: &mut W,
-    settings: &Settings<'_>,
-    begun: &mut Begun,
+    begun: &mut Begun<'_>,
 ) -> Result<(), PrintStop>
-    requires begun { IsBegun settings.now.tables.now begun.old }
-    requires small { chars_so_far begun.old ≤ longest_text }
+    requires { chars_so_far begun.old.paragraph ≤ longest_text }
     ensures { OnOk result (Appends (W.contents w.old) (W.contents w.new)
-        (printed_after settings.now.form begun.old.passed settings.now.tables.now begun.old.chars.items
-        settings.now.direction)) }
+        (printed_next begun.old begun.old.paragraph.chars.items)) }
 {
-    if begun.chars.is_empty() {
+    if begun.paragraph.chars.is_empty() {
         return Ok(());
     }
-    print_begun(alloc, w, settings, begun)
+    print_unfinished(alloc, w, &begun.settings, &mut begun.paragraph)
 }

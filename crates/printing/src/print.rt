@@ -1,10 +1,10 @@
 //! The texts that `levels` and `reorder` print.
-ghost use Rattle.std.specs.Prelude.{◌≡◌, ◌≤◌, [], length, OnOk};
+ghost use Rattle.std.specs.Prelude.{◌≡◌, ◌≤◌, length, OnOk};
 ghost use Rattle.std.specs.Io.KnownBytes.{Appends};
 ghost use Rattle.units.specs.Layout.{longest_text};
 ghost use Rattle.printing.specs.Following.{printed_as};
 ghost use Rattle.printing.specs.PrintedTexts.{printed_levels, printed_reorder};
-ghost use Rattle.printing.specs.UnderWay.{IsBegun};
+ghost use Rattle.printing.specs.UnfinishedParagraphs.{chars_so_far};
 
 use crate::begun::Begun;
 use crate::fault::{PrintFault, PrintStop};
@@ -21,24 +21,21 @@ use units::level::Direction;
 fn print_each<W: Write>(
     alloc: Global,
     w: &mut W,
-    settings: &Settings<'_>,
     text: &[char],
-    begun: &mut Begun,
+    begun: &mut Begun<'_>,
 ) -> Result<(), PrintStop>
     requires small { length text.now ≤ longest_text }
-    requires begun { IsBegun settings.now.tables.now begun.old }
-    requires empty { begun.old.chars.items ≡ [] }
-    requires first { begun.old.passed ≡ record { paragraphs = 0; characters = 0 } }
+    requires new { chars_so_far begun.old.paragraph ≡ 0 }
     ensures { OnOk result (Appends (W.contents w.old) (W.contents w.new)
-        (printed_as settings.now.form settings.now.tables.now text.now settings.now.direction)) }
+        (printed_as begun.old.settings.form begun.old.settings.tables.now text.now begun.old.settings.direction)) }
 {
-    let borrowed = settings.tables.units();
+    let borrowed = begun.settings.tables.units();
     for k in 0..text.len() {
         let character = text[k];
         let unit = borrowed.unit(character);
-        take_character(alloc, w, settings, begun, character, unit)?;
+        take_character(alloc, w, begun, character, unit)?;
     }
-    print_last(alloc, w, settings, begun)
+    print_last(alloc, w, begun)
 }
 
 /// Writes a text in this form, paragraph by paragraph, as `print_levels` and `print_reorder` describe. Each paragraph
@@ -55,13 +52,13 @@ fn print_chars<W: Write>(
     ensures { OnOk result (Appends (W.contents w.old) (W.contents w.new)
         (printed_as form tables.now text.now direction)) }
 {
-    let mut begun = Begun::new(alloc)?;
     let settings = Settings {
         tables,
         direction,
         form,
     };
-    print_each(alloc, w, &settings, text, &mut begun)?;
+    let mut begun = Begun::new(alloc, settings)?;
+    print_each(alloc, w, text, &mut begun)?;
     Ok(())
 }
 

@@ -1,9 +1,10 @@
 //! A text printed while it is read.
-ghost use Rattle.std.specs.Prelude.{◌≡◌, ◌<◌, ◌≤◌, ◌+◌, ℕ, [], List, length, take, IfErr, IfOk, OnOk};
+ghost use Rattle.std.specs.Prelude.{◌≡◌, ◌<◌, ◌≤◌, ◌+◌, ℕ, List, length, take, IfErr, IfOk, OnOk};
 ghost use Rattle.std.specs.Str.{chars};
 ghost use Rattle.units.specs.Layout.{longest_text};
 ghost use Rattle.printing.specs.ReadTexts.{BreaksOff, EndsUnwritten, IsPrinted, IsReadUpTo, utf8_front};
-ghost use Rattle.printing.specs.UnderWay.{IsBegun, PrintsOn, chars_so_far};
+ghost use Rattle.printing.specs.UnderWay.{PrintsOn};
+ghost use Rattle.printing.specs.UnfinishedParagraphs.{chars_so_far};
 
 use crate::begun::Begun;
 use crate::cutting::{hold, utf8_front};
@@ -65,21 +66,19 @@ impl From<Memory> for TextFault {
 fn take_text<W: Write>(
     alloc: Global,
     w: &mut W,
-    settings: &Settings<'_>,
-    begun: &mut Begun,
+    begun: &mut Begun<'_>,
     text: &str,
 ) -> Result<(), PrintStop>
-    requires begun { IsBegun settings.now.tables.now begun.old }
-    requires small { chars_so_far begun.old + length text.now ≤ longest_text }
-    ensures begun { OnOk result (IsBegun settings.now.tables.now begun.new) }
-    ensures passed_in { OnOk result (chars_so_far begun.new ≡ chars_so_far begun.old + length (chars text.now)) }
-    ensures printed { OnOk result (PrintsOn settings.now.form settings.now.tables.now settings.now.direction
-        (chars text.now) (W.contents w.old) (W.contents w.new) begun.old begun.new) }
+    requires { chars_so_far begun.old.paragraph + length text.now ≤ longest_text }
+    ensures passed_in { OnOk result (chars_so_far begun.new.paragraph
+        ≡ chars_so_far begun.old.paragraph + length (chars text.now)) }
+    ensures printed { OnOk result (PrintsOn (chars text.now) (W.contents w.old) (W.contents w.new)
+        begun.old begun.new) }
 {
-    let borrowed = settings.tables.units();
+    let borrowed = begun.settings.tables.units();
     for character in text.chars() {
         let unit = borrowed.unit(character);
-        take_character(alloc, w, settings, begun, character, unit)?;
+        take_character(alloc, w, begun, character, unit)?;
     }
     Ok(())
 }
@@ -89,23 +88,20 @@ fn take_text<W: Write>(
 fn take_front<W: Write>(
     alloc: Global,
     w: &mut W,
-    settings: &Settings<'_>,
-    begun: &mut Begun,
+    begun: &mut Begun<'_>,
     bytes: &[u8],
 ) -> Result<usize, PrintStop>
-    requires begun { IsBegun settings.now.tables.now begun.old }
-    requires small { chars_so_far begun.old + length bytes.now ≤ longest_text }
+    requires { chars_so_far begun.old.paragraph + length bytes.now ≤ longest_text }
     ensures taken { IfOk result (λ taken. taken ≡ length (utf8_front bytes.now)) }
-    ensures begun { OnOk result (IsBegun settings.now.tables.now begun.new) }
-    ensures passed_in { OnOk result (chars_so_far begun.new
-        ≡ chars_so_far begun.old + length (chars (utf8_front bytes.now))) }
-    ensures printed { OnOk result (PrintsOn settings.now.form settings.now.tables.now settings.now.direction
-        (chars (utf8_front bytes.now)) (W.contents w.old) (W.contents w.new) begun.old begun.new) }
+    ensures passed_in { OnOk result (chars_so_far begun.new.paragraph
+        ≡ chars_so_far begun.old.paragraph + length (chars (utf8_front bytes.now))) }
+    ensures printed { OnOk result (PrintsOn (chars (utf8_front bytes.now)) (W.contents w.old) (W.contents w.new)
+        begun.old begun.new) }
 {
-    let passed = begun.passed.paragraphs;
+    let passed = begun.paragraph.passed.paragraphs;
     let front = utf8_front(bytes);
-    take_text(alloc, w, settings, begun, front)?;
-    if begun.passed.paragraphs > passed {
+    take_text(alloc, w, begun, front)?;
+    if begun.paragraph.passed.paragraphs > passed {
         w.flush()?;
     }
     Ok(front.len())
@@ -172,21 +168,18 @@ fn end_unwritten<S: ByteSource>(
 fn read_text<S: ByteSource, W: Write>(
     alloc: Global,
     w: &mut W,
-    settings: &Settings<'_>,
     source: &mut S,
-    begun: &mut Begun,
+    begun: &mut Begun<'_>,
 ) -> Result<(), TextFault>
     requires bound { S.most_remaining source.old ≤ longest_text }
-    requires begun { IsBegun settings.now.tables.now begun.old }
-    requires empty { begun.old.chars.items ≡ [] }
-    requires first { begun.old.passed ≡ record { paragraphs = 0; characters = 0 } }
+    requires new { chars_so_far begun.old.paragraph ≡ 0 }
     ensures whole { OnOk result (S.ended source.new) }
     ensures printed { OnOk result ((given : List ℕ) × S.gives source.old given source.new
-        × IsPrinted settings.now.form settings.now.tables.now settings.now.direction given
+        × IsPrinted begun.old.settings.form begun.old.settings.tables.now begun.old.settings.direction given
         (W.contents w.old) (W.contents w.new)) }
     ensures fault { IfErr result (λ fault. (given : List ℕ) × S.gives source.old given source.new
         × BreaksOff (S.failures source.new ≡ 1) (S.ended source.new)
-        settings.now.form settings.now.tables.now settings.now.direction given
+        begun.old.settings.form begun.old.settings.tables.now begun.old.settings.direction given
         (W.contents w.old) (W.contents w.new) fault) }
 {
     let written = Written::Whole;
@@ -199,7 +192,7 @@ fn read_text<S: ByteSource, W: Write>(
             Ok(0) => break,
             Ok(n) => {
                 let filled = stored + n;
-                match take_front(alloc, w, settings, begun, &buffer[..filled]) {
+                match take_front(alloc, w, begun, &buffer[..filled]) {
                     Ok(taken) => {
                         place = place.after(&buffer[..taken]);
                         stored = hold(&mut buffer, taken, filled);
@@ -214,7 +207,7 @@ fn read_text<S: ByteSource, W: Write>(
     if stored > 0 {
         return Err(TextFault::NotUtf8 { place, written });
     }
-    print_last(alloc, w, settings, begun)?;
+    print_last(alloc, w, begun)?;
     Ok(())
 }
 
@@ -252,11 +245,11 @@ pub fn print_source<S: ByteSource, W: Write>(
         × BreaksOff (S.failures source.new ≡ 1) (S.ended source.new) form tables.now direction given
         (W.contents w.old) (W.contents w.new) fault) }
 {
-    let mut begun = Begun::new(alloc)?;
     let settings = Settings {
         tables,
         direction,
         form,
     };
-    read_text(alloc, w, &settings, source, &mut begun)
+    let mut begun = Begun::new(alloc, settings)?;
+    read_text(alloc, w, source, &mut begun)
 }

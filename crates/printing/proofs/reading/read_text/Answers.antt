@@ -2,7 +2,7 @@ use Rattle.std.proofs.Common.{rules, [], ◌≡◌, ℕ, ◌+◌, ◌-◌, ◌�
 use Rattle.std.proofs.lemmas.List.{length-take}
 use borrow.Rule.Slice.PartMut.{put_mid}
 use Rattle.units.specs.Layout.{longest_text}
-use Rattle.printing.specs.UnderWay.{chars_so_far}
+use Rattle.printing.specs.UnfinishedParagraphs.{chars_so_far}
 use Rattle.printing.proofs.ReadBytesLemmas.{filled_is}
 use Rattle.printing.proofs.ReadSources.{HasRead, cut_of, ended_read, last_ends, more_fits, nothing_read, read_more, stop_ends, whole_read}
 use Rattle.printing.proofs.ReadingOn.{cut_broken, cut_whole, up_to}
@@ -12,14 +12,11 @@ use Rattle.printing.proofs.reading.read_text.Goals as goal
 
 pub loop-n-init : goal.loop-n-init
 loop-n-init g c =
-    let begun = c.requires in
     record {
-      read = subst (HasRead g.S.ByteSource.gives g.S.ByteSource.most_remaining c.args.settings.now.form
-          c.args.settings.now.tables.now c.args.settings.now.direction c.args.source.now c.args.source.now
+      read = subst (HasRead g.S.ByteSource.gives g.S.ByteSource.most_remaining c.args.source.now c.args.source.now
           (g.W.Write.contents c.args.w.now) (g.W.Write.contents c.args.w.now) c.args.begun.now c.args.begun.now [])
           (sym c.start-place.ensures)
-          (nothing_read _ _ _ _ _ _ _ _ (g.met.S.ByteSource.gives_nothing _) begun.bound begun.begun begun.empty
-          begun.first);
+          (nothing_read _ _ _ _ _ (g.met.S.ByteSource.gives_nothing _) c.requires.bound c.requires.new);
       few = omega arith;
       long = refl;
     }
@@ -27,16 +24,15 @@ loop-n-init g c =
 pub returns-in-Err-clause-fault : goal.returns-in-Err-clause-fault
 returns-in-Err-clause-fault g c =
     let read = c.loop-n.invariant.read in
-    let begun = c.requires in
     let failed : g.S.ByteSource.failures c.read.new.self ≡ 1 = search rules in (
       read.bytes,
       subst (λ xs. g.S.ByteSource.gives c.args.source.now xs c.read.new.self) (append-nil read.bytes)
           (g.met.S.ByteSource.gives_joined _ _ _ _ _ read.given c.in-Err.ensures.none_given),
-      (failed, ended_read _ _ _ _ _ _ _ _ _ _ _ _ _ read begun.empty begun.first),
+      (failed, ended_read _ _ _ _ _ _ _ _ _ _ read c.requires.new),
     )
 
-pub take_front-requires-clause-small : goal.take_front-requires-clause-small
-take_front-requires-clause-small g c =
+pub take_front-requires : goal.take_front-requires
+take_front-requires g c =
     let l = c.loop-n in
     let buf = c.read.new.buf in
     let n = c.in-Ok.n in
@@ -48,15 +44,14 @@ take_front-requires-clause-small g c =
     let falls : g.S.ByteSource.most_remaining c.read.new.self + length (take n buf) ≤
     g.S.ByteSource.most_remaining l.source =
     omega (arith, c.in-Ok.ensures.most_remaining, length-take n buf) in
-    subst (λ (bs : List ℕ). chars_so_far l.begun + length bs ≤ longest_text) (sym filled)
-    (more_fits _ _ _ _ _ _ _ _ l.source c.read.new.self (g.W.Write.contents l.w)
+    subst (λ (bs : List ℕ). chars_so_far l.begun.paragraph + length bs ≤ longest_text) (sym filled)
+    (more_fits _ _ _ _ _ l.source c.read.new.self (g.W.Write.contents l.w)
     (g.W.Write.contents l.w) l.begun l.begun (take l.stored l.buffer) (take n buf) l.place l.invariant.read falls)
 
 pub returns-in-Err-take_front-clause-fault : goal.returns-in-Err-take_front-clause-fault
 returns-in-Err-take_front-clause-fault g c =
     let l = c.loop-n in
     let read = l.invariant.read in
-    let begun = c.requires in
     let buf = c.read.new.buf in
     let n = c.in-Ok.n in
     let joined = g.met.S.ByteSource.gives_joined in
@@ -66,7 +61,7 @@ returns-in-Err-take_front-clause-fault g c =
       l.invariant.long,
     )) c.in-Ok.ensures.bound in
     let given = joined _ _ _ _ _ read.given c.in-Ok.ensures.given in
-    let cut = cut_of _ _ _ _ _ _ _ _ _ _ _ _ _ read begun.empty begun.first in
+    let cut = cut_of _ _ _ _ _ _ _ _ _ _ read c.requires.new in
     stop_ends _ _ _ _ _ _ _ g.S.ByteSource.gives _ c.read.new.self _ _ given c.in-Err-take_front.stop
     c.end_unwritten.result
     c.end_unwritten.ensures.unread c.end_unwritten.ensures.memory
@@ -105,9 +100,9 @@ loop-n-preserved g c =
     ) in
     record {
       read =
-          read_more _ _ _ _ _ _ _ _ l.source c.read.new.self (g.W.Write.contents l.w) _ l.begun _
+          read_more _ _ _ _ _ l.source c.read.new.self (g.W.Write.contents l.w) _ l.begun _
           (take l.stored l.buffer) (take n buf) l.place l.invariant.read falls
-          _ _ _ filled taken.taken c.hold-stored.ensures.stored given taken.begun taken.passed_in taken.printed _
+          _ _ _ filled taken.taken c.hold-stored.ensures.stored given taken.passed_in taken.printed _
           (passed_is l.place c.after-place.result whole (l.stored + n) _ within taken.taken c.after-place.ensures.line
           c.after-place.ensures.offset);
       few = c.hold-stored.ensures.few;
@@ -118,7 +113,6 @@ pub returns-then-stored-gt0-clause-fault : goal.returns-then-stored-gt0-clause-f
 returns-then-stored-gt0-clause-fault g c =
     let l = c.loop-n in
     let read = l.invariant.read in
-    let begun = c.requires in
     let none : read.bytes ++ take c.in-Ok-eq0.field-0 c.read.new.buf ≡ read.bytes =
     ap (λ k. read.bytes ++ take k c.read.new.buf) c.in-Ok-eq0.field-0-test ∙ append-nil read.bytes in
     let ended : g.S.ByteSource.ended c.read.new.self = search rules in
@@ -135,12 +129,12 @@ returns-then-stored-gt0-clause-fault g c =
           l.invariant.long,
           length-take l.stored l.buffer,
         )),
-        ended_read _ _ _ _ _ _ _ _ _ _ _ _ _ read begun.empty begun.first,
+        ended_read _ _ _ _ _ _ _ _ _ _ read c.requires.new,
       ),
     )
 
-pub print_last-requires-clause-small : goal.print_last-requires-clause-small
-print_last-requires-clause-small g c =
+pub print_last-requires : goal.print_last-requires
+print_last-requires g c =
     let read = c.loop-n.invariant.read in
     omega (
       arith,
@@ -172,14 +166,13 @@ pub returns-clause-printed : goal.returns-clause-printed
 returns-clause-printed g c =
     let l = c.loop-n in
     let read = l.invariant.read in
-    let begun = c.requires in
     let none : read.bytes ++ take c.in-Ok-eq0.field-0 c.read.new.buf ≡ read.bytes =
     ap (λ k. read.bytes ++ take k c.read.new.buf) c.in-Ok-eq0.field-0-test ∙ append-nil read.bytes in
     let all = c.if-stored-gt0.false in (
       read.bytes,
       subst (λ xs. g.S.ByteSource.gives c.args.source.now xs c.read.new.self) none
           (g.met.S.ByteSource.gives_joined _ _ _ _ _ read.given c.in-Ok-eq0.ensures.given),
-      whole_read _ _ _ _ _ _ _ _ _ _ _ _ _ read begun.empty begun.first (omega (
+      whole_read _ _ _ _ _ _ _ _ _ _ read c.requires.new (omega (
         arith,
         all,
         length-take l.stored l.buffer,

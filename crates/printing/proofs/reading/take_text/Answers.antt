@@ -8,10 +8,8 @@ use Rattle.printing.proofs.reading.take_text.Goals as goal
 
 pub loop-character-init : goal.loop-character-init
 loop-character-init g c = record {
-  begun = c.requires.begun;
   passed_in = omega arith;
-  printed = nothing_came c.args.settings.now.form c.args.settings.now.tables.now
-      c.args.settings.now.direction _ _;
+  printed = nothing_came _ _;
 }
 
 pub take_character-requires-clause-small : goal.take_character-requires-clause-small
@@ -19,18 +17,15 @@ take_character-requires-clause-small g c =
     let l = c.loop-character in
     let t = YieldsList-turn (YieldsList-from_chars c.args.text.now c.utf8.text cc) l.yielded _ l.yielded_by _ _
     c.in-Some.character c.in-Some.is c.next.ensures.steps in
-    omega (arith, t.0, l.invariant.passed_in, c.requires.small, chars_le c.args.text.now c.utf8.text)
+    omega (arith, t.0, l.invariant.passed_in, c.requires, chars_le c.args.text.now c.utf8.text)
 
 pub loop-character-preserved : goal.loop-character-preserved
 loop-character-preserved g c =
-    let settings = c.args.settings.now in
     let l = c.loop-character in
     record {
-      begun = c.in_ok-take_character.ensures.begun;
       passed_in = c.in_ok-take_character.ensures.passed_in ∙ ap (λ n. n + 1) l.invariant.passed_in ∙
           omega (arith, length_push l.yielded c.in-Some.character);
-      printed = more_came settings.form settings.tables.now settings.direction _ _ _ _ _ _ _ _
-          l.invariant.printed c.in_ok-take_character.ensures.printed;
+      printed = more_came _ _ _ _ _ _ _ _ l.invariant.printed c.in_ok-take_character.ensures.printed;
     }
 
 pub returns-clause-passed_in : goal.returns-clause-passed_in
@@ -42,10 +37,8 @@ returns-clause-passed_in g c =
 
 pub returns-clause-printed : goal.returns-clause-printed
 returns-clause-printed g c =
-    let settings = c.args.settings.now in
     let l = c.loop-character in
     let t = YieldsList-end (YieldsList-from_chars c.args.text.now c.utf8.text cc) l.yielded _ l.yielded_by _ _
     c.in-None.is c.next.ensures.steps in
-    subst (λ xs. PrintsOn settings.form settings.tables.now settings.direction xs
-    (g.W.Write.contents c.args.w.now) (g.W.Write.contents l.w) c.args.begun.now l.begun)
+    subst (λ xs. PrintsOn xs (g.W.Write.contents c.args.w.now) (g.W.Write.contents l.w) c.args.begun.now l.begun)
     (sym (map-id l.yielded) ∙ t.0) l.invariant.printed
