@@ -96,7 +96,7 @@ EXCEPTIONS = (
     Stays("as it was", "^docs/PROVED", "the layout that it held", HEADLINE),
     Stays("law", "^docs/PROVED", r"a law about the definitions|\(laws: |call it a law", HEADLINE),
     Stays("refuse", "^docs/PROVED", "A text is refused exactly", HEADLINE),
-    Stays("answer", "^(python|rust|tools/c)/", "^[aA]nswer$", "the field of `bidi_verdict`, and its class in Python"),
+    Stays("answer", "^(crates/for_c|python|rust|tools/c)/", "^[aA]nswer$", "`bidi_verdict`, and its class in Python"),
     Stays("claim", "^(README|docs|python|rust|tools)", "claimed|claims", CLAIMED),
     Stays("claim", "^crates/", "^claimed$", CLAIMED),
     Stays("edit", r"^(\.ci/|tools/(try_edits|edit_records))", "", WRONG_BODY),

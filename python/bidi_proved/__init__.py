@@ -18,7 +18,16 @@ from .tables import Bracket, Tables, edition
 from .utf8 import Utf8Layout, Utf8Line, Utf8LineAlone, Utf8Room, lay_out_utf8
 
 __version__ = "1.1.0"
-__all__ = [name for name in dir() if name[0].isupper() or name in (
-    "base_level", "base_level_utf8", "base_levels", "base_levels_utf8", "display", "edition", "is_left_to_right",
-    "is_left_to_right_utf8", "judge_characters", "judge_classes", "lay_out", "lay_out_classes", "lay_out_utf8",
-    "report_characters", "report_classes", "version")]
+# Written out, since checkers of types read it.
+__all__ = [
+    "Answer", "BidiError", "Bracket", "BracketFileFault", "BracketsRefused", "BreakInside", "BreakNotRising",
+    "BreakOutOfRange", "Cause", "ClassFileFault", "Counts", "DepthRefused", "Direction", "ENDED", "FaultKind",
+    "HAS_REPORTS", "HAS_STANDARD_TABLES", "HAS_UTF8", "IllFormed", "Judge", "Layout", "Limits", "Line", "LineAlone",
+    "LineBeyondText", "LineCrossesParagraph", "LineNotForward", "MalformedLine", "MemoryRefused", "MirrorFileFault",
+    "NoCharacter", "NoClass", "NoJudge", "NoLine", "NoReport", "NoVerdict", "Nothing", "PlacedError", "Report", "Room",
+    "RoomTooBig", "Run", "SHARES_TABLES", "StaleLayout", "TableFault", "Tables", "TextTooLong", "Utf8Layout",
+    "Utf8Line", "Utf8LineAlone", "Utf8Room", "Verdict", "Wrong", "WrongCase", "base_level", "base_level_utf8",
+    "base_levels", "base_levels_utf8", "display", "edition", "is_left_to_right", "is_left_to_right_utf8",
+    "judge_characters", "judge_classes", "lay_out", "lay_out_classes", "lay_out_utf8", "report_characters",
+    "report_classes", "version",
+]

@@ -1,5 +1,6 @@
 """Errors of the library: one exception for each of its statuses."""
 import enum
+import typing
 
 
 class BidiError(Exception):
@@ -12,11 +13,13 @@ class BidiError(Exception):
 class PlacedError(BidiError, ValueError):
     """An error that names a place: the index of the first faulty item."""
 
-    def __init__(self, place):
+    place: int
+
+    def __init__(self, place: int) -> None:
         super().__init__(f"{self.says} (at {place})")
         self.place = place
 
-    def __reduce__(self):
+    def __reduce__(self) -> typing.Tuple[typing.Any, ...]:
         return type(self), (self.place,)
 
 
@@ -170,12 +173,14 @@ class TableFault(BidiError, ValueError):
     """A property file is faulty: `line` is its first faulty line, from 1, and `kind` says what is wrong there."""
 
     file = ""
+    line: int
+    kind: FaultKind
 
-    def __init__(self, line, kind):
+    def __init__(self, line: int, kind: int) -> None:
         super().__init__(f"{self.file}: line {line}: {FaultKind(kind).name}")
         self.line, self.kind = line, FaultKind(kind)
 
-    def __reduce__(self):
+    def __reduce__(self) -> typing.Tuple[typing.Any, ...]:
         return type(self), (self.line, self.kind)
 
 
@@ -197,7 +202,7 @@ class MirrorFileFault(TableFault):
     status, file = 14, "BidiMirroring.txt"
 
 
-def _kinds(base):
+def _kinds(base: typing.Type[BidiError]) -> typing.List[typing.Type[BidiError]]:
     """Returns this class and all below it."""
     return [base, *(kind for below in base.__subclasses__() for kind in _kinds(below))]
 
@@ -205,7 +210,7 @@ def _kinds(base):
 BY_STATUS = {kind.status: kind for kind in _kinds(BidiError) if kind.status}
 
 
-def check_status(status, place=None, fault=None):
+def check_status(status: int, place: int = 0, fault: typing.Any = None) -> None:
     """Raises the exception of a status; does nothing if it is 0."""
     if status == 0:
         return

@@ -9,7 +9,7 @@ from . import library
 from .errors import check_status
 from .layout import Direction, Limits
 from .library import CALL, Handle, address, items
-from .tables import Tables, default_tables
+from .tables import Tables, need_tables, tables_or_default
 
 Piece = typing.Union[bytes, bytearray, memoryview]
 Source = typing.Union[Piece, typing.BinaryIO, typing.Iterable[bytes]]
@@ -62,7 +62,7 @@ class Verdict(typing.NamedTuple):
     reason: typing.Union[Cause, Wrong, None]
     direction: typing.Optional[Direction]
     line: typing.Optional[int]
-    index: typing.Optional[int]
+    index: typing.Optional[int]  # type: ignore[assignment]
     rows: typing.Optional[int]
     cases: typing.Optional[int]
     words: str
@@ -81,13 +81,13 @@ class Judge:
         """Makes a judge of a BidiCharacterTest.txt with tables, or of a BidiTest.txt if none are given."""
         self._handle = Handle()
         self._lock = threading.Lock()
-        limits = Limits(*limits)._for_call()
+        by = Limits(*limits)._for_call()
         if tables is None:
-            check_status(CALL.bidi_judge_new_classes_with(self._handle, limits))
+            check_status(CALL.bidi_judge_new_classes_with(self._handle, by))
         else:
-            of_its_own = tables._another()
+            of_its_own = need_tables(tables)._another()
             try:
-                check_status(CALL.bidi_judge_new_characters_with(of_its_own, self._handle, limits))
+                check_status(CALL.bidi_judge_new_characters_with(of_its_own, self._handle, by))
             finally:
                 CALL.bidi_tables_free(of_its_own)
         weakref.finalize(self, CALL.bidi_judge_free, self._handle)
@@ -106,14 +106,14 @@ class Judge:
         return _verdict_of(encoded)
 
 
-def _line_of(encoded):
+def _line_of(encoded: library.Verdict) -> str:
     """Returns the line that states a verdict, without its LF."""
     text, length = items("B", LINE), ctypes.c_size_t(0)
     check_status(CALL.bidi_verdict_text(encoded, address(text), LINE, length))
     return text[: length.value].tobytes().decode("ascii").rstrip("\n")
 
 
-def _verdict_of(encoded):
+def _verdict_of(encoded: library.Verdict) -> Verdict:
     answer, words = Answer(encoded.answer), _line_of(encoded)
     if answer == Answer.YES:
         return Verdict(answer, None, None, None, None, encoded.rows, encoded.cases, words)
@@ -123,7 +123,7 @@ def _verdict_of(encoded):
     return Verdict(answer, Wrong(encoded.reason), Direction(encoded.direction), encoded.line, index, None, None, words)
 
 
-def _pieces(source):
+def _pieces(source: typing.Any) -> typing.Any:
     """Yields the pieces of bytes, of a file that is open for reading bytes, or of what yields bytes."""
     try:
         return [memoryview(source)]
@@ -134,7 +134,7 @@ def _pieces(source):
     return source
 
 
-def _judged(judge, source):
+def _judged(judge: Judge, source: Source) -> Verdict:
     for piece in _pieces(source):
         judge.feed(piece)
     return judge.finish()
@@ -150,4 +150,4 @@ def judge_characters(
 ) -> Verdict:
     """Returns the verdict on a BidiCharacterTest.txt with tables, or with those that are built in: bytes, a file that
     is open for reading bytes, or what yields bytes."""
-    return _judged(Judge(default_tables() if tables is None else tables, limits), source)
+    return _judged(Judge(tables_or_default(tables), limits), source)

@@ -2,6 +2,7 @@
 import array
 import bisect
 import contextlib
+import ctypes
 import enum
 import functools
 import itertools
@@ -12,8 +13,8 @@ import weakref
 
 from . import library
 from .errors import StaleLayout, check_status
-from .library import CALL, Handle, address, codes_of, copied, items
-from .tables import CLASSES, RoomTables, Tables, default_tables
+from .library import CALL, Handle, address, codes_of, copied, items, need_str
+from .tables import CLASSES, RoomTables, Tables, tables_or_default
 
 REMOVED = 255
 NOWHERE = library.MOST
@@ -30,7 +31,7 @@ class Direction(enum.IntEnum):
     AUTO_RTL = 3
 
     @classmethod
-    def _missing_(cls, value):
+    def _missing_(cls, value: object) -> typing.Optional["Direction"]:
         """Returns the direction with this name, in letters of any case and with "-" for "_"."""
         return cls.__members__.get(value.upper().replace("-", "_")) if isinstance(value, str) else None
 
@@ -38,6 +39,12 @@ class Direction(enum.IntEnum):
 AnyDirection = typing.Union[Direction, int, str]
 Breaks = typing.Iterable[int]
 Levels = typing.List[typing.Optional[int]]
+SomeLayout = typing.TypeVar("SomeLayout", bound="AnyLayout")
+
+
+def direction_of(given: AnyDirection) -> Direction:
+    """Returns the direction with this number or name. ValueError: there is none."""
+    return Direction(given)  # type: ignore[arg-type]
 
 
 class Limits(typing.NamedTuple):
@@ -46,7 +53,7 @@ class Limits(typing.NamedTuple):
     depth: int = 125
     brackets: int = 63
 
-    def _for_call(self):
+    def _for_call(self) -> library.Limits:
         # A number that does not fit into a byte becomes one that is rejected too.
         return library.Limits(*(n if 0 <= n <= 255 else 255 for n in self))
 
@@ -63,13 +70,13 @@ class Run(typing.NamedTuple):
     level: int
 
 
-def _placed(breaks):
+def _placed(breaks: Breaks) -> typing.Tuple["array.array[int]", int]:
     """Returns breaks as words, and how many; one that does not fit into a word becomes one that is rejected too."""
     placed = array.array("Q", (at if 0 <= at <= NOWHERE else NOWHERE for at in breaks))
     return placed or items("Q", 0), len(placed)
 
 
-def _span(start, end, most):
+def _span(start: int, end: int, most: int) -> typing.Tuple[int, int]:
     """Returns a line as the library takes it, of a text of at most so many positions; numbers that no such text has
     become a line that is rejected for the same reason."""
     if start >= end:
@@ -77,13 +84,13 @@ def _span(start, end, most):
     return (start, end) if 0 <= start and end <= most else (most, most + 1)
 
 
-def _number_of(item):
+def _number_of(item: typing.Union[str, int]) -> int:
     """Returns the number of a class; what names none becomes one that is rejected too."""
     number = NUMBERS.get(item, REMOVED) if isinstance(item, str) else item
     return number if 0 <= number <= REMOVED else REMOVED
 
 
-def _without_removed(levels):
+def _without_removed(levels: typing.Iterable[int]) -> Levels:
     """Returns levels as lists have them: None for the number of a position that X9 removes."""
     return [None if level == REMOVED else level for level in levels]
 
@@ -91,38 +98,47 @@ def _without_removed(levels):
 class AnyRoom:
     """Memory for texts and for the layout of the last one."""
 
+    size: int
+
     def __init__(self, size: int, make: typing.Callable[..., int], items_of: str) -> None:
         if size < 0:
             raise ValueError(f"a room for {size} {items_of}")
         self.size = size
         self._handle = Handle()
         self._lock = threading.Lock()
-        self._laid_out, self._room_tables = 0, None
+        self._laid_out = 0
+        self._room_tables: typing.Optional[RoomTables] = None
         check_status(make(min(size, NOWHERE), self._handle))
         weakref.finalize(self, CALL.bidi_room_free, self._handle)
 
     def __repr__(self) -> str:
         return f"{type(self).__name__}({self.size})"
 
-    def _by_tables(self, call, tables, *text):
+    def _by_tables(self, call: typing.Any, tables: typing.Optional[Tables], *text: typing.Any) -> typing.Any:
         """Makes a call on this room with tables, or with those that are built in, on a text."""
-        if tables is None:
-            tables = default_tables()
+        used = tables_or_default(tables)
 
-        def called(*words):
-            if self._room_tables is None or self._room_tables.tables is not tables:
-                self._room_tables = RoomTables(tables)
+        def called(*words: typing.Any) -> int:
+            if self._room_tables is None or self._room_tables.tables is not used:
+                self._room_tables = RoomTables(used)
             with self._room_tables.guard:
-                return call(self._handle, self._room_tables.handle, *text, *words)
+                return int(call(self._handle, self._room_tables.handle, *text, *words))
 
         return called
 
-    def _hold(self, call, laid_out, direction, breaks, limits):
+    def _hold(
+        self,
+        call: typing.Any,
+        laid_out: typing.Callable[..., SomeLayout],
+        direction: AnyDirection,
+        breaks: Breaks,
+        limits: Limits,
+    ) -> SomeLayout:
         """Returns what a call lays out: `laid_out(room, number, room_tables)`."""
         placed, count = _placed(breaks)
-        by, place = Limits(*limits)._for_call(), library.c_uint64(0)
+        by, place = Limits(*limits)._for_call(), ctypes.c_uint64(0)
         with self._lock:
-            status = call(Direction(direction), address(placed), count, by, place)
+            status = call(direction_of(direction), address(placed), count, by, place)
             check_status(status, place=place.value)
             self._laid_out += 1
             return laid_out(self, self._laid_out, self._room_tables)
@@ -153,9 +169,9 @@ class Room(AnyRoom):
         Fails with TextTooLong, BreakOutOfRange, BreakNotRising, NoCharacter, DepthRefused or BracketsRefused; the room
         is unchanged then. TypeError: the text is bytes, which Utf8Room lays out.
         """
-        codes = codes_of(text)
+        codes = codes_of(text, "Utf8Room.lay_out")
         call = self._by_tables(CALL.bidi_lay_out_with, tables, address(codes), len(text))
-        return self._hold(call, lambda *state: Layout(*state, text, codes), direction, breaks, limits)
+        return self._hold(call, functools.partial(Layout, text=text, codes=codes), direction, breaks, limits)
 
     def lay_out_classes(
         self,
@@ -167,51 +183,60 @@ class Room(AnyRoom):
         """Does the same for a text of classes, by their short names (such as "AL") or numbers; it has no brackets."""
         numbers = bytes(_number_of(it) for it in classes)
 
-        def call(*words):
-            return CALL.bidi_lay_out_classes_with(self._handle, numbers, len(numbers), *words)
+        def call(*words: typing.Any) -> int:
+            return int(CALL.bidi_lay_out_classes_with(self._handle, numbers, len(numbers), *words))
 
-        return self._hold(call, lambda *state: Layout(*state, None, numbers), direction, breaks, limits)
+        return self._hold(call, functools.partial(Layout, text=None, codes=numbers), direction, breaks, limits)
 
 
 class AnyLayout:
     """What a room laid out, until it lays out another text."""
 
-    def __init__(self, room, number, room_tables):
+    para_level_at: typing.Callable[[int], typing.Optional[int]]
+    _lay_out_line: typing.Callable[..., None]
+    _last_character: typing.Callable[..., typing.Tuple[str, int]]
+
+    def __init__(self, room: AnyRoom, number: int, room_tables: typing.Any) -> None:
         self._room, self._number, self._room_tables = room, number, room_tables
+        self._level_numbers: typing.Optional["array.array[int]"] = None
 
     @property
     def paragraph_levels(self) -> typing.List[int]:
         """The level of each paragraph (P2, P3)."""
         return self._asked("B", CALL.bidi_para_levels).tolist()
 
-    def with_lines(self, breaks: Breaks) -> "AnyLayout":
+    def set_lines(self: SomeLayout, breaks: Breaks) -> SomeLayout:
+        """Returns the layout of the same text with lines that begin at these breaks (L1, L2)."""
+        raise NotImplementedError
+
+    def with_lines(self: SomeLayout, breaks: Breaks) -> SomeLayout:
         """The old name of `set_lines`."""
         warnings.warn("with_lines is set_lines now", DeprecationWarning, stacklevel=2)
         return self.set_lines(breaks)
 
-    def _broken(self, call, breaks, laid_out):
+    def _broken(self, call: typing.Any, breaks: Breaks, laid_out: typing.Callable[..., SomeLayout]) -> SomeLayout:
         """Returns what a call makes of the text with these breaks: `laid_out(room, number, room_tables)`."""
         placed, count = _placed(breaks)
-        place = library.c_uint64(0)
+        place = ctypes.c_uint64(0)
         with self._locked_handle() as handle:
             check_status(call(handle, address(placed), count, place), place=place.value)
             self._room._laid_out += 1
             return laid_out(self._room, self._room._laid_out, self._room_tables)
 
-    def _line_count(self):
+    def _line_count(self) -> int:
         with self._locked_handle() as handle:
-            return CALL.bidi_line_count(handle)
+            return int(CALL.bidi_line_count(handle))
 
-    def _line_alone(self, start, end):
+    def _line_alone(self, start: int, end: int) -> typing.Tuple[Levels, typing.List[int]]:
         """Returns the levels and the order of one line alone."""
         start, end = _span(start, end, self._room.size)
-        n, shown = end - start, library.c_size_t(0)
+        n, shown = end - start, ctypes.c_size_t(0)
         levels, order = items("B", n), items("Q", n)
         with self._locked_handle() as handle:
             self._lay_out_line(handle, start, end, address(levels), n, address(order), n, shown)
         return _without_removed(levels), order[: shown.value].tolist()
 
-    def _without_separator(self, line, shown):
+    def _without_separator(self, line: typing.Any, shown: str) -> str:
         """Returns the characters that a line shows without the paragraph separator at its end."""
         last, at = self._last_character(line)
         if not self._room_tables.tables._separates(last):
@@ -219,15 +244,23 @@ class AnyLayout:
         place = line.order.index(at)
         return shown[:place] + shown[place + 1 :]
 
-    def _asked(self, code, call, *words):
+    def _asked(self, code: str, call: typing.Any, *words: typing.Any) -> "array.array[int]":
         """Returns what a look-up of the library writes."""
         with self._locked_handle() as handle:
-            return copied(code, lambda at, place: call(handle, *words, at, place))
+            return copied(code, lambda at, place: int(call(handle, *words, at, place)))
 
-    def _runs(self, name, number):
+    def _levels_of(self, call: typing.Any, positions: slice) -> Levels:
+        """Returns the levels at a slice of positions, or of offsets. The call writes all of them, and is made once, so
+        the levels of all lines take linear time."""
+        with self._locked_handle() as handle:
+            if self._level_numbers is None:
+                self._level_numbers = copied("B", lambda at, place: int(call(handle, at, place)))
+            return _without_removed(self._level_numbers[positions])
+
+    def _runs(self, name: str, number: int) -> typing.List[Run]:
         """Returns the visual runs of a line from left to right, with the call of this name."""
         if not library.HAS_RUNS:
-            raise NotImplementedError("this library does not tell all runs of a line")
+            raise NotImplementedError("this library does not return all runs of a line")
         call = getattr(CALL, name)
         with self._locked_handle() as handle:
             found = (library.Run * call(handle, number, None, 0))()
@@ -235,7 +268,7 @@ class AnyLayout:
         return [Run(run.start, run.length, run.shown, run.level) for run in found]
 
     @contextlib.contextmanager
-    def _locked_handle(self):
+    def _locked_handle(self) -> typing.Iterator[Handle]:
         """Yields the room's handle, for one thread at a time. Fails with StaleLayout if the room has another layout."""
         with self._room._lock:
             if self._room._laid_out != self._number:
@@ -246,7 +279,9 @@ class AnyLayout:
 class Layout(AnyLayout):
     """What a room laid out: levels, paragraphs and lines. Places of lines are counted from the left."""
 
-    def __init__(self, room, number, room_tables, text, codes):
+    def __init__(
+        self, room: AnyRoom, number: int, room_tables: typing.Any, text: typing.Optional[str], codes: typing.Any
+    ) -> None:
         """The text is None if it is one of classes; `codes` are their numbers then."""
         super().__init__(room, number, room_tables)
         self._text, self._codes = text, codes
@@ -254,7 +289,7 @@ class Layout(AnyLayout):
     @property
     def levels(self) -> Levels:
         """The level of each position after L1, None if X9 removes it."""
-        return _without_removed(self._asked("B", CALL.bidi_levels))
+        return self._levels_of(CALL.bidi_levels, slice(None))
 
     def __repr__(self) -> str:
         return f"<Layout of {len(self._items)} positions>"
@@ -269,7 +304,7 @@ class Layout(AnyLayout):
         """
         if not library.SETS_LINES:
             raise NotImplementedError("this library breaks no text into other lines")
-        return self._broken(CALL.bidi_set_lines, breaks, lambda *state: Layout(*state, self._text, self._codes))
+        return self._broken(CALL.bidi_set_lines, breaks, functools.partial(Layout, text=self._text, codes=self._codes))
 
     def line_of(self, start: int, end: int) -> "LineAlone":
         """Returns one line alone of the text (L1, L2), from `start` to before `end`, at the cost of that line, wherever
@@ -302,35 +337,38 @@ class Layout(AnyLayout):
         paragraph separator at its end and without what X9 removes. What shows them must not reorder them again."""
         return [line.display() for line in self.lines]
 
-    def _characters(self):
+    def _characters(self) -> str:
         """The text that was laid out."""
         if self._text is None:
             raise ValueError("a text of classes has no characters")
         return self._text
 
     @property
-    def _items(self):
+    def _items(self) -> typing.Any:
         """What was laid out: a str, or the numbers of classes."""
         return self._codes if self._text is None else self._text
 
     @functools.cached_property
-    def _paragraphs(self):
+    def _paragraphs(self) -> typing.Tuple[typing.List[int], typing.List[int]]:
         """The positions of the paragraph separators, and the level of each paragraph."""
         separates = NUMBERS["B"].__eq__ if self._text is None else self._room_tables.tables._separates
         separators = {item for item in set(self._items) if separates(item)}
         return [at for at, item in enumerate(self._items) if item in separators], self.paragraph_levels
 
-    def _lay_out_line(self, *words):
+    def _lay_out_line(self, *words: typing.Any) -> None:
         """Makes the call for one line alone."""
         check_status(CALL.bidi_line_of(*words))
 
-    def _last_character(self, line):
+    def _last_character(self, line: typing.Any) -> typing.Tuple[str, int]:
         """Returns the last character of a line and its position."""
-        return self._text[line.end - 1], line.end - 1
+        return self._characters()[line.end - 1], line.end - 1
 
 
 class Line:
     """A line of a layout: positions [start, end) of the text."""
+
+    start: int
+    end: int
 
     def __init__(self, layout: Layout, number: int) -> None:
         self._layout, self._number = layout, number
@@ -345,7 +383,7 @@ class Line:
     @property
     def levels(self) -> Levels:
         """The level of each of its positions after L1, None if X9 removes it."""
-        return self._layout.levels[self.start : self.end]
+        return self._layout._levels_of(CALL.bidi_levels, slice(self.start, self.end))
 
     @property
     def order(self) -> typing.List[int]:
@@ -371,10 +409,10 @@ class Line:
         layout = self._layout
         n = len(layout._characters())
 
-        def call(handle, *words):
+        def call(handle: Handle, *words: typing.Any) -> int:
             tables = layout._room_tables
             with tables.guard:
-                return CALL.bidi_shown(handle, tables.handle, address(layout._codes), n, self._number, *words)
+                return int(CALL.bidi_shown(handle, tables.handle, address(layout._codes), n, self._number, *words))
 
         return layout._asked("I", call).tobytes().decode("utf-32-le")
 
@@ -387,8 +425,11 @@ class AnyLineAlone:
     """A line of a text that was laid out, without the text's other lines: [start, end) of the text. It stays valid when
     the room lays out another text."""
 
+    start: int
+    end: int
     levels: Levels
     order: typing.List[int]
+    _layout: typing.Any
 
     def __init__(self, layout: AnyLayout, start: int, end: int) -> None:
         self._layout, self.start, self.end = layout, start, end
@@ -414,17 +455,17 @@ class AnyLineAlone:
         run_levels, places, found = self._run_levels(), self.places, []
         for level, group in itertools.groupby(range(len(run_levels)), run_levels.__getitem__):
             positions = list(group)
-            taken = {places[at] for at in positions} - {None}
+            taken = {place for place in map(places.__getitem__, positions) if place is not None}
             first = min(taken, default=-1 if level % 2 else len(self.order))
             found.append((first, Run(self.start + positions[0], len(positions), len(taken), level)))
         return [run for _, run in sorted(found)]
 
-    def _shown(self, character_at):
+    def _shown(self, character_at: typing.Callable[[int], str]) -> str:
         """Returns its characters as they are shown; `character_at` returns the one at a position."""
         mirror = self._layout._room_tables.tables.mirror
         return "".join(mirror(character_at(at)) if self._level(at) % 2 else character_at(at) for at in self.order)
 
-    def _run_levels(self):
+    def _run_levels(self) -> typing.List[typing.Any]:
         """The level of each of its positions: if X9 removes it, that of the next one that is shown, else the
         paragraph's."""
         after, run_levels = self._end_level, []
@@ -433,7 +474,7 @@ class AnyLineAlone:
             run_levels.append(after)
         return run_levels[::-1]
 
-    def _level(self, at):
+    def _level(self, at: int) -> typing.Any:
         return self.levels[at - self.start]
 
 
@@ -443,6 +484,8 @@ class LineAlone(AnyLineAlone):
     `levels` has the level of each of them after L1, None if X9 removes it, and `order` those that are shown, from left
     to right (L2). It stays valid when the room lays out another text.
     """
+
+    _layout: Layout
 
     @property
     def shown(self) -> str:
@@ -462,7 +505,9 @@ def lay_out(
     breaks: Breaks = (),
     limits: Limits = Limits(),
 ) -> Layout:
-    """Lays out a str in a room of its own, as Room.lay_out does. The layout stays valid."""
+    """Lays out a str in a room of its own, as Room.lay_out does. The layout stays valid. TypeError: the text is bytes,
+    which lay_out_utf8 lays out."""
+    need_str(text, "lay_out_utf8")
     return Room(len(text)).lay_out(text, tables, direction, breaks, limits)
 
 
@@ -483,5 +528,6 @@ def display(
     breaks: Breaks = (),
     limits: Limits = Limits(),
 ) -> typing.List[str]:
-    """Returns the lines of a str as they are shown, as Layout.display does."""
+    """Returns the lines of a str as they are shown, as Layout.display does. TypeError: the text is bytes, which
+    lay_out_utf8 lays out."""
     return lay_out(text, tables, direction, breaks, limits).display()

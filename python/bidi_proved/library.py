@@ -3,9 +3,11 @@ import array
 import ctypes
 import os
 import pathlib
+import typing
 from ctypes import POINTER, c_bool, c_char_p, c_size_t, c_uint8, c_uint32, c_uint64, c_void_p
 
 SONAME = "libbidi_c.so.1"
+Text = typing.Union[str, bytes, bytearray, memoryview]
 
 
 class Handle(ctypes.Structure):
@@ -73,13 +75,15 @@ class Counts(ctypes.Structure):
     ]
 
 
+# What each call returns, and what it takes.
+Calls = typing.Dict[str, typing.Tuple[typing.Any, typing.List[typing.Any]]]
 HANDLE = POINTER(Handle)
 TEXT = [HANDLE, HANDLE, c_void_p, c_size_t, c_uint32, c_void_p, c_size_t]
 CLASSES = [HANDLE, c_char_p, c_size_t, c_uint32, c_void_p, c_size_t]
 PLACE = POINTER(c_uint64)
 BYTE = POINTER(c_uint8)
 RUNS = [HANDLE, c_size_t, POINTER(Run), c_size_t]
-CALLS = {
+CALLS: Calls = {
     "bidi_tables_new": (c_uint32, [c_char_p, c_size_t] * 3 + [HANDLE, POINTER(Fault)]),
     "bidi_tables_free": (None, [HANDLE]),
     "bidi_mirror": (c_uint32, [HANDLE, c_uint32]),
@@ -102,7 +106,7 @@ CALLS = {
     "bidi_verdict_text": (c_uint32, [POINTER(Verdict), c_void_p, c_size_t, POINTER(c_size_t)]),
 }
 # Calls that not every library has.
-NEWER_CALLS = {
+NEWER_CALLS: Calls = {
     "bidi_tables_standard": (c_uint32, [HANDLE]),
     "bidi_tables_share": (c_uint32, [HANDLE, HANDLE]),
     "bidi_edition": (c_size_t, [c_void_p, c_size_t]),
@@ -121,7 +125,7 @@ NEWER_CALLS = {
 }
 # Those for texts in UTF-8.
 UTF8_TEXT = [HANDLE, HANDLE, c_char_p, c_size_t, c_uint32, c_void_p, c_size_t, Limits, PLACE]
-UTF8_CALLS = {
+UTF8_CALLS: Calls = {
     "bidi_room_new_encoded": (c_uint32, [c_size_t, HANDLE]),
     "bidi_lay_out_utf8_with": (c_uint32, UTF8_TEXT),
     "bidi_lay_out_utf8_lossy_with": (c_uint32, UTF8_TEXT),
@@ -134,13 +138,13 @@ UTF8_CALLS = {
     "bidi_encoded_order": (c_size_t, [HANDLE, c_size_t, c_void_p, c_size_t]),
 }
 # Those for one line alone of such a text, and for the place and the paragraph of each byte.
-UTF8_LINE_CALLS = {
+UTF8_LINE_CALLS: Calls = {
     "bidi_encoded_line_of": (c_uint32, [HANDLE, c_size_t, c_size_t, *[c_void_p, c_size_t] * 2, POINTER(c_size_t)]),
     "bidi_encoded_places": (c_size_t, [HANDLE, c_size_t, c_void_p, c_size_t]),
     "bidi_encoded_para_level_at": (c_uint8, [HANDLE, c_size_t]),
 }
 # Those for such texts without a layout.
-UTF8_BASE_CALLS = {
+UTF8_BASE_CALLS: Calls = {
     "bidi_base_level_utf8": (c_uint32, [HANDLE, c_char_p, c_size_t, c_uint32, BYTE, PLACE]),
     "bidi_base_levels_utf8": (
         c_uint32, [HANDLE, c_char_p, c_size_t, c_uint32, c_void_p, c_size_t, POINTER(c_size_t), PLACE],
@@ -148,11 +152,11 @@ UTF8_BASE_CALLS = {
     "bidi_is_left_to_right_utf8": (c_uint32, [HANDLE, c_char_p, c_size_t, BYTE, PLACE]),
 }
 # That for a line of such a text as it is shown.
-UTF8_SHOWN_CALLS = {
+UTF8_SHOWN_CALLS: Calls = {
     "bidi_encoded_shown_utf8": (c_size_t, [HANDLE, HANDLE, c_char_p, c_size_t, c_size_t, c_void_p, c_size_t]),
 }
 # Those for reports on test files.
-REPORT_CALLS = {
+REPORT_CALLS: Calls = {
     "bidi_report_new_classes_with": (c_uint32, [HANDLE, Limits]),
     "bidi_report_new_characters_with": (c_uint32, [HANDLE, HANDLE, Limits]),
     "bidi_report_free": (None, [HANDLE]),
@@ -164,7 +168,7 @@ REPORT_CALLS = {
 MOST = 2**64 - 1
 
 
-def candidates():
+def candidates() -> typing.List[str]:
     """Returns the names under which the library is looked for: only that of BIDI_LIBRARY if it is set, else the one
     that was installed with this package, and then the system's."""
     named = os.environ.get("BIDI_LIBRARY")
@@ -174,7 +178,7 @@ def candidates():
     return [str(inside), SONAME] if inside.exists() else [SONAME]
 
 
-def load():
+def load() -> ctypes.CDLL:
     """Loads the library and declares its calls. While one runs, other threads of Python do too."""
     reasons = []
     for name in candidates():
@@ -188,7 +192,7 @@ def load():
     raise ImportError("no library libbidi_c: " + "; ".join(reasons))
 
 
-def declare(found):
+def declare(found: ctypes.CDLL) -> None:
     """Declares what the calls take and return."""
     utf8 = {**UTF8_CALLS, **UTF8_LINE_CALLS, **UTF8_BASE_CALLS, **UTF8_SHOWN_CALLS}
     newer = {**NEWER_CALLS, **utf8, **REPORT_CALLS}
@@ -206,6 +210,8 @@ SHARES_TABLES = hasattr(CALL, "bidi_tables_share")
 SETS_LINES = hasattr(CALL, "bidi_set_lines")
 # Whether one line alone of such a text can be laid out.
 HAS_LINE_OF = hasattr(CALL, "bidi_line_of")
+# Whether it returns the class and the bracket of a character.
+HAS_PROPERTIES = hasattr(CALL, "bidi_class") and hasattr(CALL, "bidi_bracket")
 # Whether it returns all visual runs of a line at once, with removed positions.
 HAS_RUNS = hasattr(CALL, "bidi_runs") and hasattr(CALL, "bidi_encoded_runs")
 # Whether it says of a text what is known without a layout.
@@ -224,19 +230,19 @@ HAS_UTF8_SHOWN = all(hasattr(CALL, name) for name in UTF8_SHOWN_CALLS)
 HAS_REPORTS = all(hasattr(CALL, name) for name in REPORT_CALLS)
 
 
-def items(code, n):
+def items(code: str, n: int) -> "array.array[int]":
     """Returns memory for n items of a type of the module array, and for one if n is 0, so that it has an address."""
-    memory = array.array(code)
+    memory: "array.array[int]" = array.array(code)
     memory.frombytes(bytes(memory.itemsize * max(n, 1)))
     return memory
 
 
-def address(memory):
+def address(memory: "array.array[int]") -> int:
     """Returns the address of the items of an array."""
     return memory.buffer_info()[0]
 
 
-def copied(code, ask):
+def copied(code: str, ask: typing.Callable[[int, int], int]) -> "array.array[int]":
     """Returns the items that a look-up writes: `ask(address, place)` returns how many there are."""
     memory = items(code, 0)
     n = ask(address(memory), 0)
@@ -245,23 +251,29 @@ def copied(code, ask):
     return memory[:n]
 
 
-def codes_of(text):
-    """Returns the code points of a str. Half of a surrogate pair is unchanged, and the library rejects it. Fails with
-    TypeError if the text is bytes."""
+def need_str(text: str, utf8_call: str) -> None:
+    """Fails with TypeError if a text is no str. The message names the call that takes bytes of UTF-8."""
     if not isinstance(text, str):
-        kind = type(text).__name__
-        raise TypeError(f"a text is a str, not {kind}: lay_out_utf8 and Utf8Room lay out bytes of UTF-8")
+        raise TypeError(f"a text is a str, not {type(text).__name__}: {utf8_call} takes bytes of UTF-8")
+
+
+def codes_of(text: str, utf8_call: str) -> "array.array[int]":
+    """Returns the code points of a str. Half of a surrogate pair is unchanged, and the library rejects it. Fails as
+    need_str does."""
+    need_str(text, utf8_call)
     codes = array.array("I")
     codes.frombytes(text.encode("utf-32-le", "surrogatepass"))
     return codes or items("I", 0)
 
 
-def bytes_of(text):
+def bytes_of(text: Text) -> bytes:
     """Returns the bytes of a text, those of its UTF-8 if it is a str. Half of a surrogate pair becomes bytes that are
-    not UTF-8, which the library rejects or replaces."""
+    not UTF-8, which the library rejects or replaces. Fails with TypeError if a text is a number."""
+    if isinstance(text, int):
+        raise TypeError(f"a text in UTF-8 is a str or bytes, not {type(text).__name__}")
     return text.encode("utf-8", "surrogatepass") if isinstance(text, str) else bytes(text)
 
 
-def version():
+def version() -> typing.Optional[str]:
     """Returns the version of the library that was loaded, such as "1.1.0", or None if it has no call for that."""
     return copied("B", CALL.bidi_version).tobytes().decode("ascii") if hasattr(CALL, "bidi_version") else None

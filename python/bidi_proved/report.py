@@ -10,7 +10,7 @@ from .errors import BidiError, NoReport, check_status
 from .judge import Cause, Piece, Source, Wrong, _pieces
 from .layout import Direction, Limits
 from .library import CALL, Handle
-from .tables import Tables, default_tables
+from .tables import Tables, need_tables, tables_or_default
 
 NO_CASE = 27
 LEVEL, POSITION, REMOVED = 2, 3, 1
@@ -29,7 +29,7 @@ ENDED = Nothing.ENDED
 Item = typing.Union[int, None, Nothing]
 
 
-def _words(item):
+def _words(item: Item) -> str:
     if item is ENDED:
         return ENDED.value
     return "x" if item is None else str(item)
@@ -46,7 +46,7 @@ class WrongCase(typing.NamedTuple):
     line: int
     direction: Direction
     place: Wrong
-    index: typing.Optional[int]
+    index: typing.Optional[int]  # type: ignore[assignment]
     claimed: Item
     defined: Item
 
@@ -80,28 +80,31 @@ class MalformedLine(BidiError, ValueError):
     """A line of a test file is malformed: `line` is the first such line, from 1, and `cause` says why. Nothing after it
     is reported on."""
 
+    line: int
+    cause: Cause
+
     def __init__(self, line: int, cause: int) -> None:
         super().__init__(f"line {line}: malformed: {Cause(cause).name}")
         self.line, self.cause = line, Cause(cause)
 
-    def __reduce__(self):
+    def __reduce__(self) -> typing.Tuple[typing.Any, ...]:
         return type(self), (self.line, self.cause)
 
 
-def _item_of(encoded):
+def _item_of(encoded: library.Item) -> Item:
     if encoded.kind in (LEVEL, POSITION):
-        return encoded.value
+        return int(encoded.value)
     return None if encoded.kind == REMOVED else ENDED
 
 
-def _case_of(encoded):
+def _case_of(encoded: library.WrongCase) -> WrongCase:
     place = Wrong(encoded.place)
     index = None if place == Wrong.PARA_LEVEL else encoded.index
     return WrongCase(
         encoded.line, Direction(encoded.direction), place, index, _item_of(encoded.claimed), _item_of(encoded.defined))
 
 
-def _counts_of(encoded):
+def _counts_of(encoded: library.Counts) -> Counts:
     directions = {
         Direction.LTR: encoded.ltr, Direction.RTL: encoded.rtl, Direction.AUTO: encoded.auto_ltr,
         Direction.AUTO_RTL: encoded.auto_rtl,
@@ -120,19 +123,19 @@ class Report:
             raise NotImplementedError("this library has no reports")
         self._handle = Handle()
         self._lock = threading.Lock()
-        self._counts = None
-        limits = Limits(*limits)._for_call()
+        self._counts: typing.Optional[Counts] = None
+        by = Limits(*limits)._for_call()
         if tables is None:
-            check_status(CALL.bidi_report_new_classes_with(self._handle, limits))
+            check_status(CALL.bidi_report_new_classes_with(self._handle, by))
         else:
-            of_its_own = tables._another()
+            of_its_own = need_tables(tables)._another()
             try:
-                check_status(CALL.bidi_report_new_characters_with(of_its_own, self._handle, limits))
+                check_status(CALL.bidi_report_new_characters_with(of_its_own, self._handle, by))
             finally:
                 CALL.bidi_tables_free(of_its_own)
         weakref.finalize(self, CALL.bidi_report_free, self._handle)
 
-    def _next(self):
+    def _next(self) -> typing.Optional[WrongCase]:
         """Returns the next of the wrong cases that were found last, or None if none is left."""
         encoded = library.WrongCase()
         status = CALL.bidi_report_next(self._handle, encoded)
@@ -145,7 +148,8 @@ class Report:
         """Takes the next bytes of the file, and returns the wrong cases on the lines that end in them. NoReport: the
         file has ended."""
         piece = bytes(memoryview(piece))
-        found, used = [], ctypes.c_size_t(0)
+        used = ctypes.c_size_t(0)
+        found: typing.List[WrongCase] = []
         with self._lock:
             if self._counts is not None:
                 raise NoReport(NoReport.says)
@@ -170,11 +174,11 @@ class Report:
         return self._counts
 
 
-def _reported(report, source):
+def _reported(report: Report, source: Source) -> typing.Generator[WrongCase, None, typing.Any]:
     for piece in _pieces(source):
         yield from report.feed(piece)
     yield from report.finish()
-    counts = report.counts
+    counts: typing.Any = report.counts
     if counts.malformed is not None:
         raise MalformedLine(counts.malformed, counts.cause)
     return counts
@@ -191,4 +195,4 @@ def report_characters(
 ) -> typing.Iterator[WrongCase]:
     """Yields the wrong cases of a BidiCharacterTest.txt with tables, or with those that are built in, in its order, as
     `report_classes` does."""
-    return _reported(Report(default_tables() if tables is None else tables, limits), source)
+    return _reported(Report(tables_or_default(tables), limits), source)

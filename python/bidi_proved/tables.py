@@ -24,7 +24,7 @@ class Bracket(enum.IntEnum):
     CLOSING = 2
 
 
-def _file_of(folder, name):
+def _file_of(folder: pathlib.Path, name: str) -> pathlib.Path:
     """Returns the file of this name in the folder, or else in its folder `extracted`, as Unicode publishes it."""
     here = folder / name
     return here if here.exists() or not (folder / "extracted" / name).exists() else folder / "extracted" / name
@@ -87,27 +87,27 @@ class Tables:
     def __repr__(self) -> str:
         return "Tables.standard()" if self._files is None else "<Tables of three property files>"
 
-    def _asked(self, name, character):
+    def _asked(self, name: str, character: str) -> int:
         """Returns the number that a call of the library returns for a character."""
-        if not hasattr(CALL, name):
+        if not library.HAS_PROPERTIES:
             raise NotImplementedError("this library returns no properties of single characters")
-        found = library.c_uint8(0)
+        found = ctypes.c_uint8(0)
         with self._lock:
             status = getattr(CALL, name)(self._handle, ord(character), found)
         check_status(status, place=0)
         return found.value
 
-    def __reduce__(self):
+    def __reduce__(self) -> typing.Tuple[typing.Any, ...]:
         return (Tables, self._files) if self._files else (Tables.standard, ())
 
-    def _begin(self, files):
+    def _begin(self, files: typing.Optional[typing.Tuple[bytes, bytes, bytes]]) -> None:
         self._files = files
         self._handle = self._made()
         self._lock = threading.Lock()
-        self._separators = {}
+        self._separators: typing.Dict[str, bool] = {}
         weakref.finalize(self, CALL.bidi_tables_free, self._handle)
 
-    def _made(self):
+    def _made(self) -> Handle:
         """Returns a handle on new tables; the caller frees it."""
         handle, fault = Handle(), Fault()
         if self._files is None:
@@ -117,7 +117,7 @@ class Tables:
             check_status(CALL.bidi_tables_new(*words, handle, ctypes.byref(fault)), fault=fault)
         return handle
 
-    def _another(self):
+    def _another(self) -> Handle:
         """Returns another handle on these tables; the caller frees it."""
         if not SHARES_TABLES:
             return self._made()
@@ -126,13 +126,20 @@ class Tables:
             check_status(CALL.bidi_tables_share(self._handle, handle))
         return handle
 
-    def _separates(self, character):
-        """Returns whether a character ends a paragraph (class B): whether one after it begins another."""
+    def _separates(self, character: str) -> bool:
+        """Returns whether a character ends a paragraph (class B)."""
         if character not in self._separators:
-            from .layout import lay_out
-
-            self._separators[character] = len(lay_out(character + "a", self).paragraph_levels) == 2
+            self._separators[character] = self._has_class_b(character)
         return self._separators[character]
+
+    def _has_class_b(self, character: str) -> bool:
+        """Returns whether the class of a character is B. In a library without classes of characters, it is if one after
+        it begins another paragraph."""
+        if library.HAS_PROPERTIES:
+            return self.class_of(character) == "B"
+        from .layout import lay_out
+
+        return len(lay_out(character + "a", self).paragraph_levels) == 2
 
 
 @functools.lru_cache(maxsize=None)
@@ -141,11 +148,27 @@ def default_tables() -> Tables:
     return Tables.standard()
 
 
+def need_tables(given: typing.Any) -> Tables:
+    """Returns the tables that a call was given. Fails with TypeError if they are something else, such as a direction
+    without its name."""
+    if not isinstance(given, Tables):
+        kind = type(given).__name__
+        raise TypeError(f"tables are a Tables or None, not {kind}: a direction is passed as direction=")
+    return given
+
+
+def tables_or_default(given: typing.Optional[Tables]) -> Tables:
+    """Returns the tables that a call was given, or those that are built in. Fails as need_tables does."""
+    return default_tables() if given is None else need_tables(given)
+
+
 class RoomTables:
     """Tables as a room uses them: through a handle of its own, or, if the library shares none, through that of the
     tables, for one thread at a time."""
 
-    def __init__(self, tables):
+    guard: typing.ContextManager[typing.Any]
+
+    def __init__(self, tables: Tables) -> None:
         self.tables = tables
         if SHARES_TABLES:
             self.handle, self.guard = tables._another(), contextlib.nullcontext()

@@ -1,4 +1,5 @@
 """Texts in UTF-8, laid out, with the offsets of bytes as positions."""
+import functools
 import typing
 
 from . import library
@@ -6,13 +7,18 @@ from .errors import check_status
 from .layout import (
     NOWHERE, REMOVED, AnyDirection, AnyLayout, AnyLineAlone, AnyRoom, Breaks, Direction, Levels, Limits, Run,
 )
-from .library import CALL, bytes_of
+from .library import CALL, Handle, Text, bytes_of
 from .tables import Tables
-
-Text = typing.Union[str, bytes, bytearray, memoryview]
 
 # The call for each way to read ill-formed bytes.
 _CALLS = {"strict": "bidi_lay_out_utf8_with", "replace": "bidi_lay_out_utf8_lossy_with"}
+
+
+def _call_for(errors: str) -> typing.Any:
+    """Returns the call for a way to read ill-formed bytes."""
+    if errors not in _CALLS:
+        raise ValueError(f'errors is "strict" or "replace", not {errors!r}')
+    return getattr(CALL, _CALLS[errors])
 
 
 class Utf8Room(AnyRoom):
@@ -45,17 +51,19 @@ class Utf8Room(AnyRoom):
         part is one character.
 
         Fails with TextTooLong, IllFormed, BreakOutOfRange, BreakNotRising, BreakInside, DepthRefused or
-        BracketsRefused; the room is unchanged then.
+        BracketsRefused; the room is unchanged then. ValueError: `errors` is another word.
         """
-        encoded = bytes_of(text)
-        call = self._by_tables(getattr(CALL, _CALLS[errors]), tables, encoded, len(encoded))
-        return self._hold(call, lambda *state: Utf8Layout(*state, encoded), direction, breaks, limits)
+        call, encoded = _call_for(errors), bytes_of(text)
+        call = self._by_tables(call, tables, encoded, len(encoded))
+        return self._hold(call, functools.partial(Utf8Layout, text=encoded), direction, breaks, limits)
 
 
 class Utf8Layout(AnyLayout):
     """What such a room laid out: levels, paragraphs and lines, in offsets. `text` are the bytes."""
 
-    def __init__(self, room, number, room_tables, text):
+    text: bytes
+
+    def __init__(self, room: AnyRoom, number: int, room_tables: typing.Any, text: bytes) -> None:
         super().__init__(room, number, room_tables)
         self.text = text
 
@@ -65,7 +73,7 @@ class Utf8Layout(AnyLayout):
     @property
     def levels(self) -> Levels:
         """The level of each byte after L1, that of its character: None if X9 removes it."""
-        return [None if level == REMOVED else level for level in self._asked("B", CALL.bidi_encoded_levels)]
+        return self._levels_of(CALL.bidi_encoded_levels, slice(None))
 
     def level_at(self, offset: int) -> typing.Optional[int]:
         """The level of the byte at an offset: None if X9 removes its character, and if there is no such byte."""
@@ -94,7 +102,7 @@ class Utf8Layout(AnyLayout):
 
         Fails with BreakOutOfRange, BreakNotRising or BreakInside; the room is unchanged then.
         """
-        return self._broken(CALL.bidi_encoded_set_lines, breaks, lambda *state: Utf8Layout(*state, self.text))
+        return self._broken(CALL.bidi_encoded_set_lines, breaks, functools.partial(Utf8Layout, text=self.text))
 
     def line_of(self, start: int, end: int) -> "Utf8LineAlone":
         """Returns one line alone of the text (L1, L2), from the offset `start` to before `end`, at the cost of that
@@ -117,30 +125,33 @@ class Utf8Layout(AnyLayout):
         NotImplementedError: the library is an older one."""
         return [line.display() for line in self.lines]
 
-    def _lay_out_line(self, handle, start, *words):
+    def _lay_out_line(self, handle: Handle, start: int, *words: typing.Any) -> None:
         """Makes the call for one line alone."""
         status = CALL.bidi_encoded_line_of(handle, start, *words)
         begins = CALL.bidi_offset_of(handle, CALL.bidi_index_of(handle, start)) == start
         check_status(status, place=int(begins))
 
-    def _character_at(self, offset):
+    def _character_at(self, offset: int) -> str:
         """Returns the character that begins at an offset, or U+FFFD for bytes that are not UTF-8."""
         return self.text[offset : offset + 4].decode("utf-8", "replace")[0]
 
-    def _last_character(self, line):
+    def _last_character(self, line: typing.Any) -> typing.Tuple[str, int]:
         """Returns the last character of a line and its offset. A character has at most four bytes."""
         last = self.text[max(line.end - 4, line.start) : line.end].decode("utf-8", "replace")[-1]
         return last, line.end - len(last.encode("utf-8"))
 
-    def _looked_up(self, call, number):
+    def _looked_up(self, call: typing.Any, number: int) -> int:
         if number < 0:
             raise ValueError(f"no offset or index: {number}")
         with self._locked_handle() as handle:
-            return call(handle, min(number, library.MOST))
+            return int(call(handle, min(number, library.MOST)))
 
 
 class Utf8Line:
     """A line of such a layout: the bytes at offsets [start, end)."""
+
+    start: int
+    end: int
 
     def __init__(self, layout: Utf8Layout, number: int) -> None:
         self._layout, self._number = layout, number
@@ -155,7 +166,7 @@ class Utf8Line:
     @property
     def levels(self) -> Levels:
         """The level of each of its bytes after L1, that of its character: None if X9 removes it."""
-        return self._layout.levels[self.start : self.end]
+        return self._layout._levels_of(CALL.bidi_encoded_levels, slice(self.start, self.end))
 
     @property
     def order(self) -> typing.List[int]:
@@ -185,10 +196,11 @@ class Utf8Line:
             raise NotImplementedError("this library shows no line in UTF-8")
         layout = self._layout
 
-        def call(handle, *words):
+        def call(handle: Handle, *words: typing.Any) -> int:
             tables, text = layout._room_tables, layout.text
+            words = (len(text), self._number, *words)
             with tables.guard:
-                return CALL.bidi_encoded_shown_utf8(handle, tables.handle, text, len(text), self._number, *words)
+                return int(CALL.bidi_encoded_shown_utf8(handle, tables.handle, text, *words))
 
         return layout._asked("B", call).tobytes()
 
@@ -203,6 +215,8 @@ class Utf8LineAlone(AnyLineAlone):
     `levels` has the level of each byte after L1, that of its character, None if X9 removes it, and `order` the offsets
     at which its shown characters begin, from left to right (L2). It stays valid when the room lays out another text.
     """
+
+    _layout: Utf8Layout
 
     @property
     def shown(self) -> bytes:
@@ -228,7 +242,7 @@ def lay_out_utf8(
     return Utf8Room(len(text)).lay_out(text, tables, direction, breaks, limits, errors)
 
 
-def _need_lines():
+def _need_lines() -> None:
     """Fails with NotImplementedError if the library is older than lines alone of texts in UTF-8."""
     if not library.HAS_UTF8_LINE_OF:
-        raise NotImplementedError("this library tells no line alone, place or paragraph of UTF-8")
+        raise NotImplementedError("this library has no lines alone, places or paragraphs of UTF-8")

@@ -1,12 +1,13 @@
 """Arguments of calls: tables and directions left out or by name, bytes for a str; properties; and texts for people."""
 import pathlib
 import unittest
+import unittest.mock
 import warnings
 
 import bidi_proved as bidi
 from bidi_proved import library
 
-from . import small_tables
+from . import all_tables, small_tables
 
 ALEF, BET = "\u05d0\u05d1"
 HAS_BUILT_IN = unittest.skipUnless(bidi.HAS_STANDARD_TABLES, "no tables built in")
@@ -40,11 +41,35 @@ class Calls(unittest.TestCase):
             bidi.lay_out("a", tables, "right")
 
     def test_bytes_are_rejected(self):
+        """The message names the call that takes bytes."""
         tables = small_tables()
-        room = bidi.Room(10)
-        for call in (bidi.lay_out, room.lay_out, bidi.display, bidi.base_level, bidi.base_levels, bidi.is_left_to_right):
-            with self.assertRaisesRegex(TypeError, "lay_out_utf8"):
+        for call, utf8_call in (
+            (bidi.lay_out, "lay_out_utf8"), (bidi.display, "lay_out_utf8"), (bidi.Room(2).lay_out, "Utf8Room.lay_out"),
+            (bidi.base_level, "base_level_utf8"), (bidi.base_levels, "base_levels_utf8"),
+            (bidi.is_left_to_right, "is_left_to_right_utf8"),
+        ):
+            with self.assertRaises(TypeError) as raised:
                 call(b"ab", tables)
+            self.assertEqual(str(raised.exception), f"a text is a str, not bytes: {utf8_call} takes bytes of UTF-8")
+
+    def test_other_words_for_tables(self):
+        """The message says how a direction is passed."""
+        room, utf8_room = bidi.Room(2), bidi.Utf8Room(2)
+        earlier = room.lay_out("a", small_tables())
+        calls = [
+            bidi.lay_out, bidi.display, bidi.lay_out_utf8, room.lay_out, utf8_room.lay_out, bidi.base_level,
+            bidi.base_levels, bidi.is_left_to_right, bidi.judge_characters, bidi.report_characters,
+            lambda _, tables: bidi.Judge(tables), lambda _, tables: bidi.Report(tables),
+        ]
+        if library.HAS_UTF8_BASE_LEVELS:
+            calls += [bidi.base_level_utf8, bidi.base_levels_utf8, bidi.is_left_to_right_utf8]
+        for call in calls:
+            for other, kind in (("rtl", "str"), (1, "int"), (bidi.Direction.RTL, "Direction"), (bidi.Tables, "type")):
+                with self.assertRaises(TypeError) as raised:
+                    call("", other)
+                message = f"tables are a Tables or None, not {kind}: a direction is passed as direction="
+                self.assertEqual(str(raised.exception), message)
+        self.assertEqual(earlier.levels, [0])
 
     def test_levels_of_a_line(self):
         tables = small_tables()
@@ -52,6 +77,19 @@ class Calls(unittest.TestCase):
         self.assertEqual([line.levels for line in layout.lines], [[0, 0, 0], [1, 1]])
         layout = bidi.lay_out_utf8(f"ab\n{ALEF}{BET}", tables)
         self.assertEqual([line.levels for line in layout.lines], [[0, 0, 0], [1, 1, 1, 1]])
+
+    def test_levels_are_copied_once(self):
+        """The levels of all lines take linear time."""
+        for name, lay_out in (("bidi_levels", bidi.lay_out), ("bidi_encoded_levels", bidi.lay_out_utf8)):
+            layout = lay_out(f"a\n{ALEF}\nb", small_tables())
+            with unittest.mock.patch.object(library.CALL, name, wraps=getattr(library.CALL, name)) as call:
+                levels = [level for line in layout.lines for level in line.levels]
+                self.assertEqual(levels, layout.levels)
+            # The first call returns how many levels there are, and the second writes them.
+            self.assertEqual(call.call_count, 2)
+            layout.set_lines([])
+            with self.assertRaises(bidi.StaleLayout):
+                layout.levels  # pylint: disable=pointless-statement
 
     @HAS_BUILT_IN
     def test_properties_of_characters(self):
@@ -63,6 +101,19 @@ class Calls(unittest.TestCase):
         for call in (tables.class_of, tables.bracket_of):
             with self.assertRaises(bidi.NoCharacter):
                 call("\ud800")
+
+    def test_separators(self):
+        """Whether a character ends a paragraph: by its class or, in an older library, by a layout of two characters."""
+        characters = "\n\r\x1c\x85\u2029\u2028a \t"
+        with unittest.mock.patch("bidi_proved.layout.lay_out", side_effect=AssertionError):
+            tables = all_tables()
+            found = [tables._separates(character) for character in characters]
+        self.assertEqual(found, [True] * 5 + [False] * 4)
+        with unittest.mock.patch("bidi_proved.library.HAS_PROPERTIES", False):
+            tables = all_tables()
+            self.assertEqual([tables._separates(character) for character in characters], found)
+            with self.assertRaises(NotImplementedError):
+                tables.class_of("a")
 
     def test_texts_for_people(self):
         tables = small_tables()

@@ -88,8 +88,13 @@ class Worked(unittest.TestCase):
             layout.set_lines([10])
         with self.assertRaises(bidi.IllFormed):
             bidi.lay_out_utf8("a\ud800", self.tables)
-        with self.assertRaises(LookupError):
-            bidi.lay_out_utf8("a", self.tables, errors="ignore")
+        for errors in ("ignore", "", None):
+            with self.assertRaises(ValueError) as raised:
+                bidi.lay_out_utf8("a", self.tables, errors=errors)
+            self.assertEqual(str(raised.exception), f'errors is "strict" or "replace", not {errors!r}')
+        with self.assertRaises(TypeError) as raised:
+            bidi.lay_out_utf8(5, self.tables)
+        self.assertEqual(str(raised.exception), "a text in UTF-8 is a str or bytes, not int")
 
     def test_rejected_by_a_room(self):
         room = bidi.Utf8Room(11)

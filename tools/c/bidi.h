@@ -343,6 +343,9 @@ typedef struct { uint8_t class_number, bracket; uint32_t key; } bidi_unit;
  * first unit whose class or bracket is none of these numbers. */
 uint32_t bidi_lay_out_units(bidi_room *room, const bidi_unit *units, size_t n, uint32_t direction, const size_t *breaks,
                             size_t break_count, uint64_t *place);
+/* Does the same by the given limits. */
+uint32_t bidi_lay_out_units_with(bidi_room *room, const bidi_unit *units, size_t n, uint32_t direction,
+                                 const size_t *breaks, size_t break_count, bidi_limits limits, uint64_t *place);
 /* Write the level of each position of the text that was laid out last, in positions of characters, as bidi_levels
  * writes those after L1. bidi_resolved_levels: before L1 (P1 to I2), BIDI_REMOVED if X9 removes the position.
  * bidi_whole_levels: after L1. There a position that X9 removes has the level of the one before it, but in two cases

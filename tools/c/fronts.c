@@ -108,6 +108,36 @@ static void lay_out_units(void) {
   bidi_room_free(&encoded);
 }
 
+static void lay_out_with(bidi_room *room, const bidi_unit *units, size_t n, uint32_t direction, bidi_limits limits) {
+  uint64_t place = 77;
+  uint32_t status = bidi_lay_out_units_with(room, units, n, direction, NULL, 0, limits, &place);
+  printf("units by limits %u place %llu:", status, (unsigned long long)place);
+  print_layout(room);
+}
+
+/* The brackets pair only if one can be open. The embedding has a level of its own only if the depth is 2 or more. */
+static void lay_out_units_with(void) {
+  enum { L, R, ON = 13, LRE };
+  bidi_room room = BIDI_NONE, encoded = BIDI_NONE;
+  const bidi_unit units[] = { { R, 0, 0 }, { ON, 1, 7 }, { R, 0, 0 }, { ON, 2, 7 }, { LRE, 0, 0 }, { R, 0, 0 } };
+  const bidi_unit no_class[] = { { L, 0, 0 }, { 23, 0, 0 } };
+  const bidi_limits standard = { 125, 63 }, no_pairs = { 125, 0 }, shallow = { 1, 63 };
+  const bidi_limits deep = { 126, 64 }, wide = { 125, 64 };
+  lay_out_with(&room, units, 6, BIDI_LTR, standard);
+  lay_out_with(&room, units, 6, BIDI_LTR, deep);
+  printf("rooms %u %u\n", bidi_room_new(6, &room), bidi_room_new_encoded(6, &encoded));
+  lay_out_with(&room, units, 6, BIDI_LTR, standard);
+  lay_out_with(&room, units, 6, BIDI_LTR, no_pairs);
+  lay_out_with(&room, units, 6, BIDI_LTR, shallow);
+  lay_out_with(&room, units, 6, 4, deep);
+  lay_out_with(&room, no_class, 2, BIDI_LTR, wide);
+  lay_out_with(&room, no_class, 2, 4, standard);
+  lay_out_with(&room, no_class, 2, BIDI_LTR, standard);
+  lay_out_with(&encoded, units, 6, BIDI_LTR, standard);
+  bidi_room_free(&room);
+  bidi_room_free(&encoded);
+}
+
 int main(int argc, char **argv) {
   enum { L, R, BN = 9, S = 11, WS = 12, LRI = 19, PDI = 22, NONE };
   bidi_tables tables = BIDI_NONE;
@@ -151,5 +181,6 @@ int main(int argc, char **argv) {
   reorder(high, 3, 2);
   reorder(NULL, 0, 0);
   lay_out_units();
+  lay_out_units_with();
   return 0;
 }

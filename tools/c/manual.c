@@ -82,7 +82,7 @@ static size_t width_of(uint32_t code) {
 struct row { size_t count, *order; };
 
 /* Lays out the text of a row, without its line end, in the room of all rows, and keeps the order. */
-uint32_t lay_out_row(bidi_room *room, bidi_tables *tables, const uint32_t *codes, size_t n, struct row *row) {
+uint32_t lay_out_row(bidi_room *room, const bidi_tables *tables, const uint32_t *codes, size_t n, struct row *row) {
   uint64_t place;
   uint32_t status = n > bidi_room_size(room) ? bidi_room_new(n, room) : BIDI_DONE;
   if (!status) status = bidi_lay_out(room, tables, codes, n, BIDI_AUTO, NULL, 0, &place);

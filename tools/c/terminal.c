@@ -17,7 +17,7 @@ static size_t read_line(void) { /* the next line of the file, without its LF */
 }
 
 /* Breaks each paragraph of the line after so many columns. What X9 removes takes none. */
-static size_t wrap(bidi_room *room, size_t width) {
+static size_t wrap(const bidi_room *room, size_t width) {
   size_t count = 0;
   bidi_line_t line;
   for (size_t k = 0; bidi_encoded_line(room, k, &line) == BIDI_DONE; k++) {
@@ -34,7 +34,7 @@ static size_t wrap(bidi_room *room, size_t width) {
   return count;
 }
 
-static void print_row(bidi_room *room, bidi_tables *tables, size_t n, size_t k) {
+static void print_row(const bidi_room *room, const bidi_tables *tables, size_t n, size_t k) {
   size_t m = bidi_encoded_shown_utf8(room, tables, text, n, k, shown, sizeof shown);
   putchar('|');
   fwrite(shown, 1, m, stdout);
@@ -46,7 +46,7 @@ static void print_row(bidi_room *room, bidi_tables *tables, size_t n, size_t k) 
   printf("\n");
 }
 
-static uint32_t show(bidi_room *room, bidi_tables *tables, size_t n, size_t width) {
+static uint32_t show(bidi_room *room, const bidi_tables *tables, size_t n, size_t width) {
   uint64_t place = 0;
   uint32_t status = bidi_lay_out_utf8_lossy(room, tables, text, n, BIDI_AUTO, NULL, 0, &place);
   if (status) return status;

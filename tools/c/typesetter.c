@@ -41,7 +41,7 @@ static void shape(size_t start, size_t end) {
   }
 }
 
-static size_t shape_runs(bidi_room *room) { /* returns how many runs there are */
+static size_t shape_runs(const bidi_room *room) { /* returns how many runs there are */
   size_t all = 0;
   for (size_t k = 0, n; (n = bidi_runs(room, k, runs, MOST)) > 0; k++, all += n)
     for (size_t i = 0; i < n; i++) shape(runs[i].start, runs[i].start + runs[i].length);
@@ -63,7 +63,7 @@ static size_t break_lines(size_t n, size_t width) { /* after the last space that
   return count;
 }
 
-static uint32_t set(bidi_room *room, bidi_tables *tables, size_t n, size_t width) {
+static uint32_t set(bidi_room *room, const bidi_tables *tables, size_t n, size_t width) {
   uint64_t place = 0;
   uint32_t status = bidi_set_lines(room, breaks, break_lines(n, width), &place);
   if (status) return status;
