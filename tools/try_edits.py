@@ -7,8 +7,8 @@ usage: tools/try_edits.py [--all] [--read] [CRATE | CRATE/EDIT ..]      (at the 
 
 An edit is a file that describes a wrong body (docs/CHANGING.md). The tool takes the edits in crates/CRATE/wrong/ and,
 with --all, those in must-fail/ too. A named edit may be in either folder. With --read it checks nothing and lists the
-edits that can't be applied to the files as they are. It prints a line for each edit, and the last line is 'N passed, M
-failed'. The status is 1 if any failed.
+edits that can't be applied to the files as they are, or that don't parse then. It prints a line for each edit, and the
+last line is 'N passed, M failed'. The status is 1 if any failed.
 
 With --record it tries all edits of both folders. If all of a crate's were rejected, it writes that to a record in the
 crate (edit_records.py), with a sum over all that it depends on. With --changed it tries all edits in wrong/ of each
@@ -229,6 +229,13 @@ def pairs_of(text):
     return pairs
 
 
+def stray_line(text):
+    """Returns what is wrong with an edit that has a line of another kind: each text of an edit is one line."""
+    known = ("file: ", "old: ", "new:")
+    stray = next((it for it in text.split("\n") if it and not it.startswith(known)), None)
+    return "" if stray is None else f"a line is no 'file:', 'old:' or 'new:': {stray.strip()!r}"
+
+
 def applied(crate, pairs, texts):
     """Returns texts of files with these pairs put in, and what keeps one from it."""
     texts = dict(texts)
@@ -259,7 +266,8 @@ def read_edit(crate, file):
         functions |= {function} - {None}
         touched.add(function or (path, row))
         texts, _ = applied(crate, [pairs[at]], texts)
-    return Edit(label, content, pairs, functions, touched, applied(crate, pairs, {})[1])
+    fault = applied(crate, pairs, {})[1] or stray_line(content)
+    return Edit(label, content, pairs, functions, touched, fault)
 
 
 def round_of(crate, edits):
@@ -487,9 +495,30 @@ def unknown(crates, names):
     return [it for it in names if it not in known]
 
 
+def put_unparsed(crate, edits):
+    """Writes into each of these edits of a crate whether the formatter can't parse what it makes of a file."""
+    with tempfile.TemporaryDirectory() as top:
+        copy = Crate(crate.name, [], set(), top)
+        copy.put("../../crates.txt", f"{crate.name}:\n")
+        copy.put("../../HANDLES", "Handles allowed: none.\n")
+        by_file = {}
+        for number, edit in enumerate(edits):
+            for path, text in applied(crate, edit.pairs, {})[0].items():
+                if path.endswith(".rt"):
+                    copy.put(f"src/{number}_{os.path.basename(path)}", text)
+                    by_file[f"{number}_{os.path.basename(path)}"] = edit
+        _, output = command(["fmt"], copy.folder)
+    for file, said in re.findall(r"^\S*/(\d+_\S+\.rt): it does not parse: ([^\n]*)", output, re.M):
+        by_file[file].fault = f"it does not parse: {said}"
+
+
 def read_all(crates, asked):
-    """Says which edits can't be applied, and returns the status."""
-    edits = [read_edit(crates[name], f"{crates[name].folder}/{it}") for name, files in asked.items() for it in files]
+    """Says which edits can't be applied or don't parse, and returns the status."""
+    edits = []
+    for name, files in asked.items():
+        of_crate = [read_edit(crates[name], f"{crates[name].folder}/{it}") for it in files]
+        put_unparsed(crates[name], [it for it in of_crate if not it.fault])
+        edits += of_crate
     faults = [it for it in edits if it.fault]
     for it in faults:
         print(f"{it.label}: BAD EDIT: {it.fault}")

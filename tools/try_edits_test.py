@@ -4,10 +4,10 @@
 usage: tools/try_edits_test.py      (its status is 0 if all is as expected; it takes about four processor minutes)
 
 Edits that break a contract must pass. Each edit that shows nothing must fail, and its run must end with 1: one that
-changes nothing, one that can't be applied, one that doesn't compile, one that means the same as the right code, and one
-that is rejected only because a proof file cites a name that it removed. No such run writes a record. A record of
-rejected edits serves until what they depend on changes, and the edits that a commit draws show that a false one is
-false. With --here the checkout is unchanged afterwards, except for records.
+changes nothing, one that can't be applied, one with a text of two lines, one that doesn't compile, one that means the
+same as the right code, and one that is rejected only because a proof file cites a name that it removed. No such run
+writes a record. A record of rejected edits serves until what they depend on changes, and the edits that a commit draws
+show that a false one is false. With --here the checkout is unchanged afterwards, except for records.
 """
 import os
 import pathlib
@@ -82,6 +82,7 @@ GOOD = {
 BAD = {
     "nothing": (SMALLER, SMALLER, "BAD EDIT: it changes nothing"),
     "gone": ("    if x < z { x } else { y }", SMALLER, "BAD EDIT: an 'old:' text is in src/lib.rt 0 times"),
+    "two_lines": (SMALLER, "    if y < x { x } else { y }\n    // More.", "BAD EDIT: a line is no 'file:'"),
     "misread": (SMALLER, "    if x < y { z } else { y }", "FAILED (singly): BAD EDIT: it did not reach the prover"),
     "as_before": (SMALLER, "    if x <= y { x } else { y }", "FAILED (singly): NOT REFUSED"),
     "by_name": ("    same(x)", "    x", "FAILED (singly): refused, as it must be (only because a proof file names"),
