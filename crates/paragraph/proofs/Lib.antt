@@ -9,3 +9,5 @@ pub mod FirstSides
 pub mod Unresolved
 pub mod UniformLevels
 pub mod KnownLevels
+pub mod FlatApart
+pub mod FewLevels

@@ -20,7 +20,7 @@ use Rattle.explicit.proofs.Holders.Roles.{class_read}
 use Rattle.units.proofs.Lengths.{length-classes_of}
 
 -- the classes of one unit more
-classes_more : (us : List BidiUnit) (k : ℕ) (d : BidiUnit) → k < length us →
+pub classes_more : (us : List BidiUnit) (k : ℕ) (d : BidiUnit) → k < length us →
     classes_of (take (k + 1) us) ≡ classes_of (take k us) ++ (get_or us k d).class ∷ []
 classes_more us k d lt = ap classes_of (take_more us k d lt) ∙
     map-append (λ (u : BidiUnit). u.class) (take k us) (get_or us k d ∷ [])

@@ -1,10 +1,11 @@
 //! The contents of a paragraph, which show the rules that have nothing to do in it, and the end of a paragraph.
-ghost use Rattle.std.specs.Prelude.{◌≡◌, ◌+◌, ◌<◌, ◌≤◌, IfSome, IsNone, List, MatchOption, [], ◌∷◌, Some, false, find, length, take, true};
+ghost use Rattle.std.specs.Prelude.{◌≡◌, ◌+◌, ◌<◌, ◌≤◌, IfSome, IsNone, List, MatchOption, [], ◌++◌, ◌∷◌, Some, false, find, if◌then◌else◌, length, take, true};
 ghost use Rattle.std.specs.List.{list_all, list_any};
 ghost use Rattle.units.specs.Classes.{classes_of, is_initiator, is_removed, is_strong};
 ghost use Rattle.units.specs.Isolates.{level_of_para};
 ghost use Rattle.units.specs.declared.class.Class.{Class as BidiClass};
 ghost use Rattle.explicit.specs.Flat.{is_flat};
+ghost use Rattle.explicit.specs.Sides.{noted};
 ghost use Rattle.explicit.specs.Uniform.{may_rise_at_even, may_rise_at_odd};
 ghost use Rattle.paragraph.specs.ClassSets.{IsSetOf, is_class};
 ghost use Rattle.paragraph.specs.Contents.{Describes, IsFirstOf, IsFront, IsUniformLevel, are_flat, has_none, keeps_level, keeps_own};
@@ -61,6 +62,17 @@ pub(crate) fn has_removed(classes: ClassSet) -> bool
         | classes.has(Class::BN)
 }
 
+/// P2: Returns this side, or that of this class if it is the first strong one.
+fn side_with(side: Side, class: Class) -> Side
+    ensures { result ≡ (if is_strong class then noted side class else side) }
+{
+    if class.is_strong() {
+        side.noting(class)
+    } else {
+        side
+    }
+}
+
 /// I1: Returns whether a class can raise a position above an even level; EN counts as L there.
 fn may_rise_at_even(classes: ClassSet) -> bool
     ensures { (cs : List BidiClass) → IsSetOf classes cs → result ≡ list_any may_rise_at_even cs }
@@ -89,6 +101,32 @@ impl Contents {
             classes: ClassSet::none().with(class),
             side,
         }
+    }
+
+    /// Returns the contents of a paragraph with one more unit, of this class.
+    fn with(self, class: Class) -> Contents
+        ensures { (cs : List BidiClass) → Describes self cs → Describes result (cs ++ class ∷ []) }
+    {
+        Contents {
+            classes: self.classes.with(class),
+            side: side_with(self.side, class),
+        }
+    }
+
+    /// Returns the contents of a paragraph of these units, with a step for each of them.
+    pub(crate) fn of_units<L: Ledger>(units: &[Unit], steps: &mut Steps<L>) -> Contents
+        ensures contents { Describes result (classes_of units.now) }
+        ensures steps { steps.new ≡ steps.old + length units.now }
+    {
+        let mut contents = Contents {
+            classes: ClassSet::none(),
+            side: Side::Unknown,
+        };
+        for k in 0..units.len() {
+            steps.tick();
+            contents = contents.with(units[k].class);
+        }
+        contents
     }
 
     /// Returns whether there is no initiator: X1 to X9 then leave all positions that remain at the paragraph's level.

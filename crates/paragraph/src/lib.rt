@@ -4,6 +4,7 @@
 mod class_set;
 pub mod contents;
 mod fast_paths;
+mod few;
 mod found;
 pub mod one_unit;
 pub mod resolver;

@@ -1,16 +1,21 @@
 //! The resolved levels of a paragraph, rule after rule (P2 to I2).
-ghost use Rattle.std.specs.Prelude.{◌≡◌, ℕ, true, ◌+◌, ◌*◌, ◌≤◌, IfOk, length};
+ghost use Rattle.std.specs.Prelude.{◌≡◌, ℕ, false, true, ◌+◌, ◌*◌, ◌≤◌, IfOk, length};
 ghost use Rattle.units.specs.Classes.{classes_of};
+ghost use Rattle.units.specs.Isolates.{level_of_para};
+ghost use Rattle.units.specs.Layout.{resolved_levels};
 ghost use Rattle.units.specs.Paragraphs.{SeparatorOnlyLast};
-ghost use Rattle.paragraph.specs.Contents.{Describes};
+ghost use Rattle.explicit.specs.IsolateMaps.{IsFilledFrom};
+ghost use Rattle.paragraph.specs.Contents.{Describes, are_flat};
 ghost use Rattle.paragraph.specs.Resolvers.{IsResolved};
-ghost use Rattle.paragraph.specs.StepBounds.{driver_steps, paragraph_steps};
+ghost use Rattle.paragraph.specs.StepBounds.{driver_steps, paragraph_steps, w_to_i_steps, x_rules_steps};
 
 use crate::contents::{Contents, FirstParagraph};
 use crate::fast_paths::{find_level, find_sequences, write_level};
+use crate::few::{few_column, resolve_if_few};
 use crate::found::{KnownParagraph, resolve_sequences};
 use crate::rooms::{RoomToFind, RoomToResolve};
 use std::alloc::Global;
+use std::boxed::BoxedSlice;
 use std::marker::Model;
 use std::sync::ledger::Ledger;
 use units::bracket::Unit;
@@ -24,6 +29,7 @@ use units::steps::Steps;
 pub struct Resolver {
     found: RoomToFind,
     work: RoomToResolve,
+    few: BoxedSlice<Unit>,
 }
 
 impl Model for Resolver {
@@ -32,6 +38,43 @@ impl Model for Resolver {
     ghost view = { λ r. r.work.room };
 
     ghost invariant = { λ r. r.found.room ≡ r.work.room };
+}
+
+/// Applies X1 to I2 to a paragraph of this level. If the paragraph isn't flat, its isolates (BD9) are in `found`.
+#[inline(always)]
+fn resolve_at<L: Ledger>(
+    para: &KnownParagraph,
+    level: ParaLevel,
+    few: &mut [Unit],
+    found: &mut RoomToFind,
+    work: &mut RoomToResolve,
+    levels: &mut [Option<Level>],
+    steps: &mut Steps<L>,
+)
+    requires contents { Describes para.now.contents (classes_of para.now.units.now) }
+    requires separators { SeparatorOnlyLast para.now.units.now }
+    requires isolates { are_flat (classes_of para.now.units.now) ≡ false
+        → IsFilledFrom found.old.isolates (classes_of para.now.units.now) }
+    requires found { length para.now.units.now ≤ found.old.room }
+    requires work { length para.now.units.now ≤ work.old.room }
+    requires levels { length levels.old ≡ length para.now.units.now }
+    ensures levels { levels.new ≡ resolved_levels para.now.limits para.now.units.now (level_of_para level) }
+    ensures found { found.new.room ≡ found.old.room }
+    ensures work { work.new.room ≡ work.old.room }
+    ensures at_least { steps.old + length para.now.units.now ≤ steps.new }
+    ensures at_most { steps.new ≤ steps.old + x_rules_steps * length para.now.units.now
+        + w_to_i_steps * length para.now.units.now + 1 }
+{
+    // By few of its units, if these suffice.
+    if resolve_if_few(para, level, few, found, work, levels, steps) {
+        return;
+    }
+
+    // X1 to X9, BD13, X10.
+    find_sequences(para.units, para.contents, level, para.limits, found, steps);
+
+    // W1 to W7, BD14 to BD16 and N0, N1 and N2, I1 and I2, sequence by sequence.
+    resolve_sequences(para, found, work, levels, steps);
 }
 
 /// The known properties of a paragraph that was resolved.
@@ -53,6 +96,7 @@ impl Resolver {
         Ok(Resolver {
             found: RoomToFind::with_room(alloc, n)?,
             work: RoomToResolve::with_room(alloc, n)?,
+            few: few_column(alloc, n)?,
         })
     }
 
@@ -113,16 +157,21 @@ impl Resolver {
             };
         }
 
-        // X1 to X9, BD13, X10.
-        find_sequences(para, contents, level, limits, &mut self.found, steps);
-
-        // W1 to W7, BD14 to BD16 and N0, N1 and N2, I1 and I2, sequence by sequence.
         let known = KnownParagraph {
             units: para,
             contents,
             limits,
         };
-        resolve_sequences(&known, &self.found, &mut self.work, levels, steps);
+        let few = &mut self.few[..];
+        resolve_at(
+            &known,
+            level,
+            few,
+            &mut self.found,
+            &mut self.work,
+            levels,
+            steps,
+        );
         Resolved {
             level,
             uniform: false,

@@ -1,6 +1,11 @@
-use Rattle.std.proofs.Common.{arith, sym, ◌∙◌}
+use Rattle.std.proofs.Common.{arith, sym, subst, ◌∙◌, List, length}
 use Rattle.std.proofs.lemmas.Bool.{both_ways}
 use Rattle.units.specs.Classes.{classes_of, is_removed}
+use Rattle.units.specs.Isolates.{level_of_para}
+use Rattle.units.specs.Runs.{SequenceView}
+use Rattle.sequences.proofs.FilledFrom.{level_of_para-low}
+use Rattle.paragraph.specs.Covering.{AreDisjoint}
+use Rattle.paragraph.proofs.AllSequences.{sequences_are_apart}
 use Rattle.paragraph.proofs.FlatLevels.{flat_from, none_from, remaining_few}
 use Rattle.paragraph.proofs.fast_paths.find_sequences.Goals as goal
 
@@ -37,3 +42,20 @@ fill-requires-clause-levels g c = record {
 
 pub returns-clause-all : goal.returns-clause-all
 returns-clause-all g c = c.fill.ensures.all c.args.limits.depth c.explicit_levels.ensures.found
+
+pub returns-then-is_flat-clause-if_flat : goal.returns-then-is_flat-clause-if_flat
+returns-then-is_flat-clause-if_flat g c = λ flat. omega (arith, remaining_few c.args.para.now)
+
+pub returns-then-is_flat-clause-apart : goal.returns-then-is_flat-clause-apart
+returns-then-is_flat-clause-apart g c =
+    let P : List SequenceView → Type 0 = λ all. AreDisjoint (length c.args.para.now) all in
+    subst P (sym (c.fill_flat.ensures.all c.args.limits.depth))
+    (sequences_are_apart c.args.limits.depth (omega arith) c.args.para.now (level_of_para c.args.level)
+    (level_of_para-low c.args.level) c.requires.separators)
+
+pub returns-clause-apart : goal.returns-clause-apart
+returns-clause-apart g c =
+    let P : List SequenceView → Type 0 = λ all. AreDisjoint (length c.args.para.now) all in
+    subst P (sym (c.fill.ensures.all c.args.limits.depth c.explicit_levels.ensures.found))
+    (sequences_are_apart c.args.limits.depth (omega arith) c.args.para.now (level_of_para c.args.level)
+    (level_of_para-low c.args.level) c.requires.separators)

@@ -1,0 +1,11 @@
+-- A flat paragraph by few of its units.
+use Rattle.std.specs.Prelude.{true, ◌≡◌, List}
+use Rattle.units.specs.Classes.{classes_of, is_removed}
+use Rattle.units.specs.declared.bracket.Unit.{Unit as BidiUnit}
+use Rattle.compress.specs.Laid.{RemainAll}
+use Rattle.paragraph.proofs.FlatLevels.{none_from, unit_remains}
+use Rattle.paragraph.specs.Contents.{has_none}
+
+-- X9: if no class of a paragraph is removed, all its units remain
+pub all_remain : (us : List BidiUnit) → has_none is_removed (classes_of us) ≡ true → RemainAll us
+all_remain us none p lt = unit_remains us p lt (none_from is_removed (classes_of us) none)

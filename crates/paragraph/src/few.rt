@@ -1,0 +1,149 @@
+//! A long flat paragraph by few of its units, which are resolved in its place (X1 to I2).
+ghost use Rattle.std.specs.Prelude.{◌≡◌, ◌+◌, ◌*◌, ◌<◌, ◌≤◌, ◌^◌, false, length, true};
+ghost use Rattle.units.specs.Classes.{classes_of};
+ghost use Rattle.units.specs.Isolates.{level_of_para};
+ghost use Rattle.units.specs.Layout.{resolved_levels};
+ghost use Rattle.paragraph.specs.Contents.{Describes, are_flat};
+ghost use Rattle.paragraph.specs.StepBounds.{w_to_i_steps, x_rules_steps};
+
+use crate::contents::Contents;
+use crate::found::{KnownParagraph, resolve_sequences};
+use crate::rooms::{RoomToFind, RoomToResolve};
+use compress::levels::{FlatPara, spread};
+use compress::pass::squeeze;
+use std::alloc::Global;
+use std::boxed::BoxedSlice;
+use std::sync::ledger::Ledger;
+use units::bracket::{Bracket, Unit};
+use units::class::Class;
+use units::level::{Level, ParaLevel};
+use units::memory::Memory;
+use units::steps::Steps;
+
+/// How many units a paragraph has at least that is resolved by few of them. In a shorter one, looking for these costs
+/// more than it saves.
+const LEAST: usize = 128;
+
+/// Makes a column for the few units of paragraphs of up to `n` positions, and for the positions at which these begin:
+/// one in eight positions at most. If there are more, the paragraph is resolved by all its units.
+pub fn few_column(alloc: Global, n: usize) -> Result<BoxedSlice<Unit>, Memory> {
+    let unused = Unit {
+        class: Class::BN,
+        bracket: Bracket::No,
+    };
+    Ok(vec![in alloc; unused; n.div_ceil(4)]?.into_boxed_slice())
+}
+
+/// Applies X1 to I2 to a flat paragraph of this level.
+fn resolve_flat<L: Ledger>(
+    para: &KnownParagraph,
+    level: ParaLevel,
+    found: &mut RoomToFind,
+    work: &mut RoomToResolve,
+    levels: &mut [Option<Level>],
+    steps: &mut Steps<L>,
+)
+    requires contents { Describes para.now.contents (classes_of para.now.units.now) }
+    requires flat { are_flat (classes_of para.now.units.now) ≡ true }
+    requires found { length para.now.units.now ≤ found.old.room }
+    requires work { length para.now.units.now ≤ work.old.room }
+    requires levels { length levels.old ≡ length para.now.units.now }
+    ensures levels { levels.new ≡ resolved_levels para.now.limits para.now.units.now (level_of_para level) }
+    ensures found { found.new.room ≡ found.old.room }
+    ensures work { work.new.room ≡ work.old.room }
+    ensures at_least { steps.old ≤ steps.new }
+    ensures at_most { steps.new ≤ steps.old + 2 * length para.now.units.now
+        + w_to_i_steps * length para.now.units.now }
+{
+    found
+        .sequences
+        .fill_flat(para.units, para.contents.all_remain(), level, steps);
+    resolve_sequences(para, found, work, levels, steps);
+}
+
+/// Applies X1 to I2 to a flat paragraph of this level by few of its units: resolves these as a paragraph of their own,
+/// and gives their levels to the units after them. Returns whether it did so; it didn't if the units aren't few.
+#[inline(never)]
+fn resolve_by_few<L: Ledger>(
+    para: &KnownParagraph,
+    level: ParaLevel,
+    few: &mut [Unit],
+    found: &mut RoomToFind,
+    work: &mut RoomToResolve,
+    levels: &mut [Option<Level>],
+    steps: &mut Steps<L>,
+) -> bool
+    requires contents { Describes para.now.contents (classes_of para.now.units.now) }
+    requires flat { are_flat (classes_of para.now.units.now) ≡ true }
+    requires short { length para.now.units.now < 2 ^ 32 }
+    requires found { length para.now.units.now ≤ found.old.room }
+    requires work { length para.now.units.now ≤ work.old.room }
+    requires levels { length levels.old ≡ length para.now.units.now }
+    ensures levels { result ≡ true
+        → levels.new ≡ resolved_levels para.now.limits para.now.units.now (level_of_para level) }
+    ensures found { found.new.room ≡ found.old.room }
+    ensures work { work.new.room ≡ work.old.room }
+    ensures at_least { result ≡ true → steps.old + length para.now.units.now ≤ steps.new }
+    ensures at_most { steps.new ≤ steps.old + x_rules_steps * length para.now.units.now
+        + w_to_i_steps * length para.now.units.now }
+    ensures if_many { result ≡ false → steps.old ≤ steps.new }
+    ensures if_many_at_most { result ≡ false → steps.new ≤ steps.old + 2 * length para.now.units.now }
+{
+    let (chosen, starts) = few.split_at_mut(few.len() / 2);
+    let direction = level.level().direction();
+    let Some(m) = squeeze(para.units, direction, chosen, starts, steps) else {
+        return false;
+    };
+    let units = &chosen[..m];
+    let contents = Contents::of_units(units, steps);
+    if !contents.is_flat() {
+        return false;
+    }
+    let chosen_para = KnownParagraph {
+        units,
+        contents,
+        limits: para.limits,
+    };
+    resolve_flat(&chosen_para, level, found, work, &mut levels[..m], steps);
+    let flat = FlatPara {
+        units: para.units,
+        all_remain: para.contents.all_remain(),
+    };
+    spread(&flat, starts, m, levels, steps);
+    true
+}
+
+/// Applies X1 to I2 to a paragraph of this level by few of its units, if it is long and flat and if they are few.
+/// Returns whether it did so.
+#[inline(always)]
+pub fn resolve_if_few<L: Ledger>(
+    para: &KnownParagraph,
+    level: ParaLevel,
+    few: &mut [Unit],
+    found: &mut RoomToFind,
+    work: &mut RoomToResolve,
+    levels: &mut [Option<Level>],
+    steps: &mut Steps<L>,
+) -> bool
+    requires contents { Describes para.now.contents (classes_of para.now.units.now) }
+    requires found { length para.now.units.now ≤ found.old.room }
+    requires work { length para.now.units.now ≤ work.old.room }
+    requires levels { length levels.old ≡ length para.now.units.now }
+    ensures levels { result ≡ true
+        → levels.new ≡ resolved_levels para.now.limits para.now.units.now (level_of_para level) }
+    ensures if_deep { are_flat (classes_of para.now.units.now) ≡ false → found.new ≡ found.old }
+    ensures found { found.new.room ≡ found.old.room }
+    ensures work { work.new.room ≡ work.old.room }
+    ensures at_least { result ≡ true → steps.old + length para.now.units.now ≤ steps.new }
+    ensures at_most { steps.new ≤ steps.old + x_rules_steps * length para.now.units.now
+        + w_to_i_steps * length para.now.units.now }
+    ensures if_many { result ≡ false → steps.old ≤ steps.new }
+    ensures if_many_at_most { result ≡ false → steps.new ≤ steps.old + 2 * length para.now.units.now }
+    ensures if_deep_steps { are_flat (classes_of para.now.units.now) ≡ false → steps.new ≡ steps.old }
+{
+    let n = para.units.len();
+    if n < LEAST || n > u32::MAX as usize || !para.contents.is_flat() {
+        return false;
+    }
+    resolve_by_few(para, level, few, found, work, levels, steps)
+}
