@@ -1,5 +1,5 @@
 //! W1 to I2 over a paragraph whose sequences are known.
-ghost use Rattle.std.specs.Prelude.{◌≡◌, false, true, ◌+◌, ◌*◌, ◌<◌, ◌≤◌, ℕ, None, length, slice_index_or, take};
+ghost use Rattle.std.specs.Prelude.{◌≡◌, false, true, ◌+◌, ◌*◌, ◌<◌, ◌≤◌, ℕ, None, drop, length, slice_index_or, take};
 ghost use Rattle.std.specs.List.{list_any};
 ghost use Rattle.std.specs.Option.{option_map_or};
 ghost use Rattle.units.specs.Brackets.{is_open};
@@ -65,8 +65,8 @@ fn begin<L: Ledger>(
     ensures steps { steps.new ≡ steps.old + length para.now }
 {
     let explicit = found.explicit.column();
-    let before = &mut work.before[..];
-    let classes = &mut work.classes[..];
+    let room = work.classes.len() / 2;
+    let (before, classes) = work.classes.split_at_mut(room);
     let mut opened = false;
     for p in 0..para.len() {
         steps.tick();
@@ -128,6 +128,49 @@ pub struct KnownParagraph<'a> {
     pub limits: Limits,
 }
 
+/// Applies W1 to I2 to the sequences of a paragraph, which has an opening bracket if `openings`. The front of `columns`
+/// has its classes before W1, and the front of its second half a copy of these to work on.
+#[inline(always)]
+fn resolve_begun<L: Ledger>(
+    sequences: &Sequences,
+    para: &KnownParagraph,
+    openings: bool,
+    pairs: &mut Pairs,
+    columns: &mut [Class],
+    levels: &mut [Option<Level>],
+    steps: &mut Steps<L>,
+)
+    requires contents { Describes para.now.contents (classes_of para.now.units.now) }
+    requires openings { openings ≡ list_any (λ unit. is_open unit.bracket) para.now.units.now }
+    requires apart { AreDisjoint (length para.now.units.now) sequences.now.all }
+    requires own { AreOwn (positions_in sequences.now.all) para.now.units.now
+        (take (length para.now.units.now) columns.old) }
+    requires columns { length columns.old ≡ length pairs.old + length pairs.old }
+    requires copy { take (length para.now.units.now) (drop (length pairs.old) columns.old)
+        ≡ take (length para.now.units.now) columns.old }
+    requires levels { length levels.old ≡ length para.now.units.now }
+    requires fresh { (p : ℕ) → resolved_at levels.old p ≡ None }
+    requires room { length para.now.units.now ≤ length pairs.old }
+    ensures levels { HasLevelsBy para.now.limits.brackets para.now.units.now
+        (take (length para.now.units.now) columns.old) sequences.now.all levels.new }
+    ensures room { length pairs.new ≡ length pairs.old }
+    ensures at_least { steps.old + length sequences.now.all ≤ steps.new }
+    ensures at_most { steps.new ≤ steps.old + sequences_steps * length para.now.units.now }
+{
+    let room = columns.len() / 2;
+    let (before, classes) = columns.split_at_mut(room);
+    let unresolved = Unresolved {
+        units: para.units,
+        before: &before[..para.units.len()],
+        wanted: Wanted {
+            weak: para.contents.has_weak(),
+            openings,
+        },
+        limits: para.limits,
+    };
+    resolve_each(sequences, &unresolved, pairs, classes, levels, steps);
+}
+
 /// Applies W1 to I2 to a paragraph whose sequences are in `found`.
 pub fn resolve_sequences<L: Ledger>(
     para: &KnownParagraph,
@@ -152,18 +195,10 @@ pub fn resolve_sequences<L: Ledger>(
 {
     let flat = para.contents.is_flat();
     let openings = begin(para.units, flat, found, work, levels, steps);
-    let unresolved = Unresolved {
-        units: para.units,
-        before: &work.before[..para.units.len()],
-        wanted: Wanted {
-            weak: para.contents.has_weak(),
-            openings,
-        },
-        limits: para.limits,
-    };
-    resolve_each(
+    resolve_begun(
         &found.sequences,
-        &unresolved,
+        para,
+        openings,
         &mut work.pairs,
         &mut work.classes,
         levels,

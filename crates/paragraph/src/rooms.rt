@@ -1,5 +1,5 @@
 //! The buffers for the resolution of paragraphs, in two parts: those to find the sequences, and those to resolve them.
-ghost use Rattle.std.specs.Prelude.{◌≡◌, IfOk, length};
+ghost use Rattle.std.specs.Prelude.{◌≡◌, ◌+◌, IfOk, drop, length, take};
 ghost use Rattle.std.specs.Box.{boxed_slice_items, boxed_slice_len};
 ghost use Rattle.explicit.specs.IsolateMaps.{room};
 ghost use Rattle.paragraph.specs.Resolvers.{Results, Work};
@@ -50,18 +50,21 @@ impl RoomToFind {
     }
 }
 
-/// A column of `n` classes.
-fn class_column(alloc: Global, n: usize) -> Result<BoxedSlice<Class>, Memory>
-    ensures { IfOk result (λ classes. boxed_slice_len classes ≡ n) }
+/// Makes two columns of `n` classes, one after the other. Fails with `Memory` if memory is refused, or if `n` is
+/// 2^32 - 1 or more.
+fn class_columns(alloc: Global, n: usize) -> Result<BoxedSlice<Class>, Memory>
+    ensures { IfOk result (λ classes. boxed_slice_len classes ≡ n + n) }
 {
-    Ok(vec![in alloc; Class::BN; n]?.into_boxed_slice())
+    if n >= u32::MAX as usize {
+        return Err(Memory);
+    }
+    Ok(vec![in alloc; Class::BN; n + n]?.into_boxed_slice())
 }
 
-/// The buffers to resolve the sequences of a paragraph (W1 to I2): its classes before W1, a copy of them to work on,
-/// and its bracket pairs. Contracts see the capacity in positions, and the classes.
+/// The buffers to resolve the sequences of a paragraph (W1 to I2): its classes before W1 and after these a copy of them
+/// to work on, and its bracket pairs. Contracts see the capacity in positions, and the two columns of classes.
 #[derive(Drop)]
 pub struct RoomToResolve {
-    pub before: BoxedSlice<Class>,
     pub classes: BoxedSlice<Class>,
     pub pairs: Pairs,
 }
@@ -71,13 +74,12 @@ impl Model for RoomToResolve {
 
     ghost view = { λ r. record {
       room = length r.pairs;
-      before = boxed_slice_items r.before;
+      before = take (length r.pairs) (boxed_slice_items r.classes);
       classes =
-          boxed_slice_items r.classes;
+          drop (length r.pairs) (boxed_slice_items r.classes);
     } };
 
-    ghost invariant = { λ r. (boxed_slice_len r.before ≡ length r.pairs) ×
-        (boxed_slice_len r.classes ≡ length r.pairs) };
+    ghost invariant = { λ r. boxed_slice_len r.classes ≡ length r.pairs + length r.pairs };
 }
 
 impl RoomToResolve {
@@ -86,8 +88,7 @@ impl RoomToResolve {
         ensures { IfOk result (λ made. made.room ≡ n) }
     {
         Ok(RoomToResolve {
-            before: class_column(alloc, n)?,
-            classes: class_column(alloc, n)?,
+            classes: class_columns(alloc, n)?,
             pairs: Pairs::with_room(alloc, n)?,
         })
     }
