@@ -74,9 +74,9 @@ fn begin<L: Ledger>(
         opened = opened | is_open(unit.bracket);
         let class = class_before(flat, unit, explicit, p);
         before[p] = class;
-        classes[p] = class;
         levels[p] = None;
     }
+    classes[..para.len()].copy_from_slice(&before[..para.len()]);
     opened
 }
 
