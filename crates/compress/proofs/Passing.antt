@@ -9,8 +9,8 @@ use Rattle.units.specs.declared.class.Class.{Class}
 use Rattle.units.specs.declared.class.Class.TheVariants.{L, R, AL, EN, ES, ET, AN, CS, NSM, S, WS, ON}
 use Rattle.compress.specs.Laid.{start_at, class_after, IsApart, remaining_before, stack_of, IsLaid, IsPassed, LeadsOn}
 use Rattle.compress.specs.Remaining.{remaining_units}
-use Rattle.compress.specs.Spread.{may_repeat, is_space, is_quiet, is_firm, is_no_number}
-use Rattle.compress.specs.Squeeze.{Stack, is_bare, repeats, is_directed, is_one_way, joins, is_between, is_sign, passes, passes_after, comma_between, class_for, is_number_or_sign, unit_for, known_after, popped, added, next_for, turned, first_unit, squeezed}
+use Rattle.compress.specs.Spread.{may_repeat, is_space, is_quiet, is_firm, is_apart, is_no_number}
+use Rattle.compress.specs.Squeeze.{Stack, is_bare, repeats, is_directed, is_one_way, joins, is_between, is_sign, passes, passes_after, comma_between, class_for, is_number_or_sign, needs_next, unit_for, known_after, popped, added, next_for, turned, first_unit, squeezed}
 use Rattle.compress.proofs.Counting.{at, remaining_chosen, removed_between, remaining_here}
 use Rattle.compress.proofs.Laying.{stack_of-joins, laid_later}
 use Rattle.compress.proofs.Sound.{both_parts, join_parts}
@@ -298,25 +298,39 @@ apart_at_stop d chosen (suc k) has u some h stop =
       }
     ]
 
--- nothing replaces other classes
-class_for-plain : (s c u n : Class) → is_number_or_sign u ≡ false → class_for s c u n ≡ u
-class_for-plain s c EN n h = cc
-class_for-plain s c ES n h = cc
-class_for-plain s c ET n h = cc
-class_for-plain s c CS n h = cc
-class_for-plain s c u n h = refl
+-- no number, sign or separator needs the next class, whatever the last strong class is
+plain_needs-none : (s u : Class) → is_number_or_sign u ≡ false → needs_next s u ≡ false
+plain_needs-none s EN h = cc
+plain_needs-none s u h = h
 
-unit_for-plain : (s : Class) (c u : BidiUnit) (n : Class) → is_number_or_sign u.class ≡ false → unit_for s c u n ≡ u
-unit_for-plain s c u n h =
+no_letter : (a b : Bool) → ((a && false) && b) ≡ false
+no_letter true b = refl
+no_letter false b = refl
+
+-- what needs no next class is not replaced
+class_for-kept : (s c u n : Class) → needs_next s u ≡ false → class_for s c u n ≡ u
+class_for-kept s c EN n h =
+    cond-false ((is_quiet c && is_directed L s) && is_apart n) L EN (ap (λ b. (is_quiet c && b) && is_apart n) h ∙ no_letter (is_quiet c) (is_apart n))
+class_for-kept s c ES n h = cc
+class_for-kept s c ET n h = cc
+class_for-kept s c CS n h = cc
+class_for-kept s c u n h = refl
+
+unit_for-kept : (s : Class) (c u : BidiUnit) (n : Class) → needs_next s u.class ≡ false → unit_for s c u n ≡ u
+unit_for-kept s c u n h =
     let v : BidiUnit = record { class = class_for s c.class u.class n; bracket = u.bracket } in
     elim (cases_Bool (is_bare u.bracket)) [
-      | inl t ↦ cond-true (is_bare u.bracket) v u t ∙ ap (λ (k : Class). record { class = k; bracket = u.bracket }) (class_for-plain s c.class u.class n h)
+      | inl t ↦ cond-true (is_bare u.bracket) v u t ∙ ap (λ (k : Class). record { class = k; bracket = u.bracket }) (class_for-kept s c.class u.class n h)
       | inr f ↦ cond-false (is_bare u.bracket) v u f
     ]
 
+pub next_for-kept : (sos : Class) (stack : Stack) (u : BidiUnit) (n s : Class) → s ≡ (known_after sos stack).strong → needs_next s u.class ≡ false → u ≡ next_for sos stack u n
+next_for-kept sos [] u n s e h = refl
+next_for-kept sos (c ∷ back) u n s e h =
+    sym (unit_for-kept (known_after sos (c ∷ back)).strong c.0 u n (ap (λ t. needs_next t u.class) (sym e) ∙ h))
+
 pub next_for-plain : (sos : Class) (stack : Stack) (u : BidiUnit) (n : Class) → is_number_or_sign u.class ≡ false → u ≡ next_for sos stack u n
-next_for-plain sos [] u n h = refl
-next_for-plain sos (c ∷ back) u n h = sym (unit_for-plain (known_after sos (c ∷ back)).strong c.0 u n h)
+next_for-plain sos stack u n h = next_for-kept sos stack u n (known_after sos stack).strong refl (plain_needs-none (known_after sos stack).strong u.class h)
 
 -- nothing is tail at the end
 pub leads_to_end : (d : Class) (us : List BidiUnit) (stack : Stack) (p : ℕ) → length us ≤ p → LeadsOn d us stack p → stack ≡ squeezed d d [] (remaining_units us)

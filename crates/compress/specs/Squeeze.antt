@@ -79,6 +79,11 @@ is_number_or_sign ET = true
 is_number_or_sign CS = true
 is_number_or_sign c = false
 
+-- the same, if this is the last strong class: a number stays what it is after others than L
+abbrev pub needs_next : Class → Class → Bool
+needs_next strong EN = is_directed L strong
+needs_next strong u = is_number_or_sign u
+
 -- a bracket stays what it is
 abbrev pub unit_for : Class → BidiUnit → BidiUnit → Class → BidiUnit
 unit_for strong c u n = if is_bare u.bracket then record { class = class_for strong c.class u.class n; bracket = u.bracket } else u

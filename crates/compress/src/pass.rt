@@ -11,8 +11,8 @@ ghost use Rattle.compress.specs.Squeeze.{Stack, is_bare, passes_after, popped, a
 
 use crate::passed_set::PassedSet;
 use crate::rules::{
-    is_bare, is_between, is_letter_again, is_mark, is_neutral_unit, is_number_or_sign,
-    is_open_letter, joins, unit_for,
+    is_bare, is_between, is_letter_again, is_mark, is_neutral_unit, is_open_letter, joins,
+    needs_next, unit_for,
 };
 use std::sync::ledger::Ledger;
 use units::bracket::{Bracket, Key, Unit};
@@ -56,6 +56,8 @@ fn popped(chosen: &[Unit], m: usize, unit: Unit) -> usize
 }
 
 /// Lets the unit at the position `p` join the last chosen one, or chooses it. Returns how many are chosen then.
+// Inlined, most turns take more instructions.
+#[inline(never)]
 fn added(
     direction: Class,
     chosen: &mut [Unit],
@@ -193,9 +195,6 @@ fn turn_plain(
     ensures some { 0 < result }
 {
     let count = popped(chosen, m, unit);
-    if count < m && count > 0 && joins(direction, chosen[count - 1], unit) {
-        return count;
-    }
     if count < m || is_mark(unit.class) {
         return added(direction, chosen, starts, count, unit, p);
     }
@@ -236,7 +235,7 @@ fn turn<L: Ledger>(
     ensures steps { steps.new + p + 1 ≡ steps.old + result.end }
 {
     let unit = para[p];
-    if is_number_or_sign(unit.class) {
+    if needs_next(known.strong, unit.class) {
         return turn_by_next(known, chosen, starts, m, para, p, steps);
     }
     let m = turn_plain(known.direction, chosen, starts, m, unit, p);
@@ -280,6 +279,72 @@ fn is_passed(set: PassedSet, unit: Unit) -> bool
     set.has(unit.class) && (is_bare(unit.bracket) || is_removed(unit))
 }
 
+/// How many units are passed together.
+const BLOCK: usize = 4;
+
+/// Returns whether the four units from `p` on are of these classes.
+fn four_are_of(set: PassedSet, para: &[Unit], p: usize) -> bool
+    requires { p + 4 ≤ length para.now }
+    ensures { result ≡ true → (q : ℕ) → p ≤ q → q < p + 4
+        → has set (slice_index_or para.now q no_unit).class ≡ true }
+{
+    set.has(para[p].class)
+        & set.has(para[p + 1].class)
+        & set.has(para[p + 2].class)
+        & set.has(para[p + 3].class)
+}
+
+/// Returns whether the four units from `p` on have no bracket.
+fn four_are_bare(para: &[Unit], p: usize) -> bool
+    requires { p + 4 ≤ length para.now }
+    ensures { result ≡ true → (q : ℕ) → p ≤ q → q < p + 4
+        → is_bare (slice_index_or para.now q no_unit).bracket ≡ true }
+{
+    is_bare(para[p].bracket)
+        & is_bare(para[p + 1].bracket)
+        & is_bare(para[p + 2].bracket)
+        & is_bare(para[p + 3].bracket)
+}
+
+/// Passes units from `start` on, four at a time, as long as these are of these classes and have no bracket. Returns the
+/// position after them.
+fn pass_fours<L: Ledger>(para: &[Unit], start: usize, set: PassedSet, steps: &mut Steps<L>) -> usize
+    requires { start ≤ length para.now }
+    ensures from_start { start ≤ result }
+    ensures within { result ≤ length para.now }
+    ensures passed { (p : ℕ) → start ≤ p → p < result
+        → has set (slice_index_or para.now p no_unit).class ≡ true }
+    ensures bare { (p : ℕ) → start ≤ p → p < result → (is_bare (slice_index_or para.now p no_unit).bracket
+        || is_removed (slice_index_or para.now p no_unit).class) ≡ true }
+    ensures steps { steps.new + start ≡ steps.old + result }
+{
+    let mut p = start;
+    while para.len() - p >= BLOCK && four_are_of(set, para, p) && four_are_bare(para, p) {
+        steps.add(BLOCK);
+        p += BLOCK;
+    }
+    p
+}
+
+/// Passes the unit at `start` and most of those after it, as long as they are of these classes and have no bracket. A
+/// run that has no white space is short, so only others are passed four at a time. Returns the position after them.
+fn pass_most<L: Ledger>(para: &[Unit], start: usize, set: PassedSet, steps: &mut Steps<L>) -> usize
+    requires { start ≤ length para.now }
+    ensures from_start { start ≤ result }
+    ensures within { result ≤ length para.now }
+    ensures passed { (p : ℕ) → start ≤ p → p < result
+        → has set (slice_index_or para.now p no_unit).class ≡ true }
+    ensures bare { (p : ℕ) → start ≤ p → p < result → (is_bare (slice_index_or para.now p no_unit).bracket
+        || is_removed (slice_index_or para.now p no_unit).class) ≡ true }
+    ensures steps { steps.new + start ≡ steps.old + result }
+{
+    if start >= para.len() || !set.has(Class::WS) || !is_passed(set, para[start]) {
+        return start;
+    }
+    steps.tick();
+    pass_fours(para, start + 1, set, steps)
+}
+
 /// Passes units from `start` on, as long as they are of these classes and have no bracket. Returns the position after
 /// them.
 fn pass_run<L: Ledger>(para: &[Unit], start: usize, set: PassedSet, steps: &mut Steps<L>) -> usize
@@ -295,7 +360,7 @@ fn pass_run<L: Ledger>(para: &[Unit], start: usize, set: PassedSet, steps: &mut 
         || is_removed (slice_index_or para.now result no_unit).class)) ≡ false }
     ensures steps { steps.new + start ≡ steps.old + result }
 {
-    let mut p = start;
+    let mut p = pass_most(para, start, set, steps);
     while p < para.len() && is_passed(set, para[p]) {
         steps.tick();
         p += 1;
@@ -381,11 +446,12 @@ fn next_remaining<L: Ledger>(para: &[Unit], start: usize, steps: &mut Steps<L>) 
     p
 }
 
-/// Returns how many turns the pass may have made at this position before it gives up.
+/// Returns how many turns the pass may have made at this position before it gives up: at first few, so that it gives up
+/// early where directions change often, and later more, since then the most part is done.
 fn most_turns(p: usize) -> usize
-    ensures { (n : ℕ) → p ≤ n → result ≤ n + 4 }
+    ensures { (n : ℕ) → p ≤ n → result ≤ n + 10 }
 {
-    p / 4 + 4
+    if p < 256 { p / 12 + 3 } else { p / 8 + 10 }
 }
 
 /// Chooses the few units that are to be resolved in place of this paragraph, in a sequence of this direction, and the

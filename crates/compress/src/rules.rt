@@ -2,7 +2,7 @@
 ghost use Rattle.std.specs.Prelude.{◌≡◌};
 ghost use Rattle.units.specs.Classes.{is_nonspacing};
 ghost use Rattle.compress.specs.Spread.{may_repeat, is_space, is_quiet, is_firm, is_still, is_apart, is_no_number};
-ghost use Rattle.compress.specs.Squeeze.{is_bare, repeats, is_directed, is_letter_again, is_neutral_unit, is_open_letter, is_one_way, joins, is_between, comma_between, class_for, is_number_or_sign, unit_for};
+ghost use Rattle.compress.specs.Squeeze.{is_bare, repeats, is_directed, is_letter_again, is_neutral_unit, is_open_letter, is_one_way, joins, is_between, comma_between, class_for, needs_next, unit_for};
 
 use units::bracket::{Bracket, Unit};
 use units::class::Class;
@@ -221,11 +221,15 @@ fn class_for(strong: Class, before: Class, class: Class, next: Class) -> Class
     }
 }
 
-/// Returns whether another class may replace this one: EN, ES, ET or CS.
-pub fn is_number_or_sign(class: Class) -> bool
-    ensures { result ≡ is_number_or_sign class }
+/// Returns whether another class may replace this one, by the class of the next unit: ES, ET or CS, and EN if the last
+/// strong class is L.
+pub fn needs_next(strong: Class, class: Class) -> bool
+    ensures { result ≡ needs_next strong class }
 {
-    matches!(class, Class::EN | Class::ES | Class::ET | Class::CS)
+    match class {
+        Class::EN => is_directed(Class::L, strong),
+        other => matches!(other, Class::ES | Class::ET | Class::CS),
+    }
 }
 
 /// Returns what replaces a unit after another and before this class, if `strong` is the last strong class.

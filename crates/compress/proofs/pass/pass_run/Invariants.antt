@@ -8,11 +8,11 @@ use Rattle.compress.proofs.pass.pass_run.Given as goal
 
 abbrev pub invariant-loop-p : goal.invariant-loop-p
 invariant-loop-p g l = record {
-  from_start : l.start ≤ l.p;
+  from_start : l.fn.start ≤ l.p;
   within : l.p ≤ length l.para;
-  passed : (p : ℕ) → l.start ≤ p → p < l.p → has l.set (slice_index_or l.para p no_unit).class ≡ true;
-  bare : (p : ℕ) → l.start ≤ p → p < l.p → (is_bare (slice_index_or l.para p no_unit).bracket || is_removed (slice_index_or l.para p no_unit).class) ≡ true;
-  steps : l.steps + l.start ≡ l.initial.steps + l.p;
+  passed : (p : ℕ) → l.fn.start ≤ p → p < l.p → has l.set (slice_index_or l.para p no_unit).class ≡ true;
+  bare : (p : ℕ) → l.fn.start ≤ p → p < l.p → (is_bare (slice_index_or l.para p no_unit).bracket || is_removed (slice_index_or l.para p no_unit).class) ≡ true;
+  steps : l.steps + l.fn.start ≡ l.fn.steps + l.p;
 }
 
 abbrev pub decreases-loop-p : goal.decreases-loop-p

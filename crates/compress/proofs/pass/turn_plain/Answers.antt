@@ -3,7 +3,7 @@ use Rattle.units.specs.declared.bracket.Unit.{Unit as BidiUnit}
 use Rattle.compress.specs.Laid.{stack_of}
 use Rattle.compress.specs.Squeeze.{Stack, added, joins}
 use Rattle.compress.proofs.Counting.{at}
-use Rattle.compress.proofs.Laying.{adds_joined, adds_chosen, laid_later, laid_push}
+use Rattle.compress.proofs.Laying.{adds_chosen, laid_push}
 use Rattle.compress.proofs.Passing.{unjoined}
 use Rattle.compress.proofs.pass.turn_plain.Goals as goal
 
@@ -14,7 +14,7 @@ returns-clause-stack c = λ us end laid next apart.
     let u : BidiUnit = c.args.unit in
     let chosen : List BidiUnit = c.args.chosen.now in
     let starts : List BidiUnit = c.args.starts.now in
-    let same : c.popped-count.result ≡ m = omega (arith, c.if-count-m-2.false, c.popped-count.ensures.within) in
+    let same : c.popped-count.result ≡ m = omega (arith, c.if-count-m.false, c.popped-count.ensures.within) in
     let unmarked = sym c.is_mark.ensures ∙ c.if-is_mark.false in
     let last : 0 < m → joins d (at chosen (m - 1)) u ≡ false = λ lt.
     let e : m ≡ suc (m - 1) = omega arith in
@@ -26,16 +26,3 @@ returns-clause-stack c = λ us end laid next apart.
 pub returns-clause-laid : goal.returns-clause-laid
 returns-clause-laid c = λ us end laid next.
     laid_push us c.args.starts.now c.args.m c.args.p end c.stored.result c.requires.starts c.stored.ensures next.later next.within laid
-
-pub returns-then-joins-clause-stack : goal.returns-then-joins-clause-stack
-returns-then-joins-clause-stack c = λ us end laid next apart.
-    let d = c.args.direction in
-    adds_joined us d c.args.chosen.now c.args.starts.now c.popped-count.result c.args.p end c.args.unit (omega arith)
-    (c.popped-count.ensures.laid us c.args.starts.now c.args.p laid) next (sym c.joins.ensures ∙ c.if-joins.true)
-    ∙ ap (λ (st : Stack). added d st c.args.unit) (c.popped-count.ensures.stack us c.args.starts.now c.args.p laid)
-
-pub returns-then-joins-clause-laid : goal.returns-then-joins-clause-laid
-returns-then-joins-clause-laid c = λ us end laid next.
-    let later = next.later in
-    laid_later us c.args.starts.now c.popped-count.result c.args.p end (omega arith) next.within (λ z. absurd (omega arith))
-    (c.popped-count.ensures.laid us c.args.starts.now c.args.p laid)
