@@ -1,5 +1,5 @@
 //! The contents of a paragraph, which show the rules that have nothing to do in it, and the end of a paragraph.
-ghost use Rattle.std.specs.Prelude.{◌≡◌, ◌+◌, ◌<◌, ◌≤◌, IfSome, IsNone, List, MatchOption, [], ◌++◌, ◌∷◌, Some, false, find, if◌then◌else◌, length, take, true};
+ghost use Rattle.std.specs.Prelude.{◌&&◌, ◌||◌, ◌≡◌, ◌+◌, ◌<◌, ◌≤◌, IfSome, IsNone, List, MatchOption, [], ◌++◌, ◌∷◌, Some, false, find, if◌then◌else◌, length, take, true};
 ghost use Rattle.std.specs.List.{list_all, list_any};
 ghost use Rattle.units.specs.Classes.{classes_of, is_initiator, is_removed, is_strong};
 ghost use Rattle.units.specs.Isolates.{level_of_para};
@@ -153,6 +153,15 @@ impl Contents {
             | self.classes.has(Class::ET)
             | self.classes.has(Class::CS)
             | self.classes.has(Class::NSM)
+    }
+
+    /// Returns whether there are letters of both directions.
+    pub(crate) fn is_mixed(&self) -> bool
+        ensures { (cs : List BidiClass) → Describes self.now cs → result
+            ≡ (list_any (is_class BidiClass.L) cs
+            && (list_any (is_class BidiClass.R) cs || list_any (is_class BidiClass.AL) cs)) }
+    {
+        self.classes.has(Class::L) & (self.classes.has(Class::R) | self.classes.has(Class::AL))
     }
 
     /// L1: Returns whether there is a segment separator.

@@ -20,9 +20,22 @@ use units::level::{Level, ParaLevel};
 use units::memory::Memory;
 use units::steps::Steps;
 
-/// How many units a paragraph has at least that is resolved by few of them. In a shorter one, looking for these costs
-/// more than it saves.
+/// How many units a paragraph has at least that is resolved by few of them, if its letters are of one direction. In a
+/// shorter one, looking for these costs more than it saves.
 const LEAST: usize = 128;
+
+/// The same for a paragraph with letters of both directions, which may change direction often.
+const LEAST_MIXED: usize = 512;
+
+/// Returns whether a paragraph of `n` units with these contents may be resolved by few of them in less time. Letters of
+/// both directions alone take less than the look for few units saves.
+fn may_save(contents: Contents, n: usize) -> bool {
+    if contents.is_mixed() {
+        n >= LEAST_MIXED && contents.has_weak()
+    } else {
+        n >= LEAST
+    }
+}
 
 /// Makes a column for the few units of paragraphs of up to `n` positions, and for the positions at which these begin:
 /// one in eight positions at most. If there are more, the paragraph is resolved by all its units.
@@ -142,7 +155,7 @@ pub fn resolve_if_few<L: Ledger>(
     ensures if_deep_steps { are_flat (classes_of para.now.units.now) ≡ false → steps.new ≡ steps.old }
 {
     let n = para.units.len();
-    if n < LEAST || n > u32::MAX as usize || !para.contents.is_flat() {
+    if !may_save(para.contents, n) || n > u32::MAX as usize || !para.contents.is_flat() {
         return false;
     }
     resolve_by_few(para, level, few, found, work, levels, steps)
