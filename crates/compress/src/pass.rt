@@ -451,7 +451,7 @@ fn next_remaining<L: Ledger>(para: &[Unit], start: usize, steps: &mut Steps<L>) 
 fn most_turns(p: usize) -> usize
     ensures { (n : ℕ) → p ≤ n → result ≤ n + 10 }
 {
-    if p < 256 { p / 12 + 3 } else { p / 8 + 10 }
+    if p < 256 { p / 8 + 4 } else { p / 6 + 10 }
 }
 
 /// Chooses the few units that are to be resolved in place of this paragraph, in a sequence of this direction, and the
