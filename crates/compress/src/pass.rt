@@ -446,21 +446,34 @@ fn next_remaining<L: Ledger>(para: &[Unit], start: usize, steps: &mut Steps<L>) 
     p
 }
 
-/// Returns how many turns the pass may have made at this position before it gives up: at first few, so that it gives up
-/// early where directions change often, and later more, since then the most part is done.
-fn most_turns(p: usize) -> usize
+/// How many turns the pass may make before it gives up.
+#[derive(Clone, Copy)]
+pub enum TurnLimit {
+    /// One for twelve units, later one for eight: for texts that take few instructions in any case.
+    Strict,
+    /// One for eight units, later one for six: for texts that take more.
+    Lenient,
+}
+
+/// Returns how many turns the pass may have made at this position: at first few, so that it gives up early if directions
+/// change often, and later more, since then the most part is done.
+fn most_turns(limit: TurnLimit, p: usize) -> usize
     ensures { (n : ℕ) → p ≤ n → result ≤ n + 10 }
 {
-    if p < 256 { p / 8 + 4 } else { p / 6 + 10 }
+    match limit {
+        TurnLimit::Strict => { if p < 256 { p / 12 + 2 } else { p / 8 + 10 } }
+        TurnLimit::Lenient => { if p < 256 { p / 8 + 3 } else { p / 6 + 10 } }
+    }
 }
 
 /// Chooses the few units that are to be resolved in place of this paragraph, in a sequence of this direction, and the
-/// position at which each begins. Returns how many these are, or `None` if there is no room for them or if they are
-/// not few.
+/// position at which each begins. Returns how many these are, or `None` if there is no room for them or if the pass
+/// would make more turns than `limit` says.
 #[inline(never)]
 pub fn squeeze<L: Ledger>(
     para: &[Unit],
     direction: Class,
+    limit: TurnLimit,
     chosen: &mut [Unit],
     starts: &mut [Unit],
     steps: &mut Steps<L>,
@@ -475,7 +488,7 @@ pub fn squeeze<L: Ledger>(
     let mut strong = direction;
     let mut p = next_remaining(para, 0, steps);
     while p < para.len() {
-        if m >= chosen.len() || m >= starts.len() || turns > most_turns(p) {
+        if m >= chosen.len() || m >= starts.len() || turns > most_turns(limit, p) {
             return None;
         }
         steps.tick();

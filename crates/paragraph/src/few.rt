@@ -10,7 +10,7 @@ use crate::contents::Contents;
 use crate::found::{KnownParagraph, resolve_sequences};
 use crate::rooms::{RoomToFind, RoomToResolve};
 use compress::levels::{FlatPara, spread};
-use compress::pass::squeeze;
+use compress::pass::{TurnLimit, squeeze};
 use std::alloc::Global;
 use std::boxed::BoxedSlice;
 use std::sync::ledger::Ledger;
@@ -20,20 +20,31 @@ use units::level::{Level, ParaLevel};
 use units::memory::Memory;
 use units::steps::Steps;
 
-/// How many units a paragraph has at least that is resolved by few of them, if its letters are of one direction. In a
-/// shorter one, looking for these costs more than it saves.
+/// How many units a paragraph has at least that is resolved by few of them, if X9 removes some. In a shorter one, looking
+/// for these costs more than it saves.
 const LEAST: usize = 128;
 
-/// The same for a paragraph with letters of both directions, which may change direction often.
+/// The same if all units remain.
+const LEAST_REMAINING: usize = 256;
+
+/// The same if there are letters of both directions, so that the direction may change often.
 const LEAST_MIXED: usize = 512;
 
 /// Returns whether a paragraph of `n` units with these contents may be resolved by few of them in less time. Letters of
-/// both directions alone take less than the look for few units saves.
+/// both directions alone take less than the search for few units saves.
 fn may_save(contents: Contents, n: usize) -> bool {
     if contents.is_mixed() {
-        n >= LEAST_MIXED && contents.has_weak()
+        return n >= LEAST_MIXED && contents.has_weak();
+    }
+    n >= LEAST && (n >= LEAST_REMAINING || !contents.all_remain())
+}
+
+/// Returns how long the search for few units goes on: longer in paragraphs that take more without it.
+fn limit_for(contents: Contents) -> TurnLimit {
+    if contents.is_mixed() || !contents.all_remain() {
+        TurnLimit::Lenient
     } else {
-        n >= LEAST
+        TurnLimit::Strict
     }
 }
 
@@ -104,7 +115,8 @@ fn resolve_by_few<L: Ledger>(
 {
     let (chosen, starts) = few.split_at_mut(few.len() / 2);
     let direction = level.level().direction();
-    let Some(m) = squeeze(para.units, direction, chosen, starts, steps) else {
+    let limit = limit_for(para.contents);
+    let Some(m) = squeeze(para.units, direction, limit, chosen, starts, steps) else {
         return false;
     };
     let units = &chosen[..m];
