@@ -101,7 +101,7 @@ impl Room {
     /// Makes a room for texts of up to `n` units, at most 16,777,216, with the layout of an empty text. If `encodes`,
     /// it has offsets, and texts may be in code units.
     ///
-    /// It takes 84 bytes for each unit, and 112 with offsets. Fails with `TooBig` if and only if `n` is greater than
+    /// It takes 87 bytes for each unit, and 115 with offsets. Fails with `TooBig` if and only if `n` is greater than
     /// 16,777,216, else with `Memory` if there is not enough.
     pub fn with_room(alloc: Global, n: usize, encodes: bool) -> Result<Room, RoomFault>
         ensures made { IfOk result (λ room. room ≡ new_room n encodes) }
