@@ -505,10 +505,14 @@ def put_unparsed(crate, edits):
         for number, edit in enumerate(edits):
             for path, text in applied(crate, edit.pairs, {})[0].items():
                 if path.endswith(".rt"):
-                    copy.put(f"src/{number}_{os.path.basename(path)}", text)
-                    by_file[f"{number}_{os.path.basename(path)}"] = edit
-        _, output = command(["fmt"], copy.folder)
-    for file, said in re.findall(r"^\S*/(\d+_\S+\.rt): it does not parse: ([^\n]*)", output, re.M):
+                    file = f"{number}_{path.removeprefix('src/').replace('/', '_')}"
+                    copy.put(f"src/{file}", text)
+                    by_file[file] = edit
+        status, output = command(["fmt"], copy.folder)
+    unparsed = re.findall(r"^\S*/(\d+_\S+\.rt): it does not parse: ([^\n]*)", output, re.M)
+    if status and not unparsed:
+        sys.exit(f"rt fmt over the wrong bodies of {crate.name} failed:\n{output}")
+    for file, said in unparsed:
         by_file[file].fault = f"it does not parse: {said}"
 
 

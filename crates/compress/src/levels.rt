@@ -66,7 +66,9 @@ fn write_all<L: Ledger>(
 /// A paragraph, and whether all its units remain (X9).
 #[derive(Clone, Copy)]
 pub struct FlatPara<'a> {
+    /// Its units.
     pub units: &'a [Unit],
+    /// True only if all of them remain.
     pub all_remain: bool,
 }
 

@@ -446,7 +446,7 @@ fn next_remaining<L: Ledger>(para: &[Unit], start: usize, steps: &mut Steps<L>) 
     p
 }
 
-/// How many turns the pass may make before it gives up.
+/// How many turns the pass may make before it gives up. It also gives up if there is no room for the chosen units.
 #[derive(Clone, Copy)]
 pub enum TurnLimit {
     /// One for twelve units, later one for eight: for texts that take few instructions in any case.
@@ -455,8 +455,8 @@ pub enum TurnLimit {
     Lenient,
 }
 
-/// Returns how many turns the pass may have made at this position: at first few, so that it gives up early if directions
-/// change often, and later more, since then the most part is done.
+/// Returns how many turns the pass may have made at this position: at first few, so that it gives up early if
+/// directions change often, and later more, since then most is done.
 fn most_turns(limit: TurnLimit, p: usize) -> usize
     ensures { (n : ℕ) → p ≤ n → result ≤ n + 10 }
 {
@@ -468,7 +468,7 @@ fn most_turns(limit: TurnLimit, p: usize) -> usize
 
 /// Chooses the few units that are to be resolved in place of this paragraph, in a sequence of this direction, and the
 /// position at which each begins. Returns how many these are, or `None` if there is no room for them or if the pass
-/// would make more turns than `limit` says.
+/// has made more turns than `limit` says.
 #[inline(never)]
 pub fn squeeze<L: Ledger>(
     para: &[Unit],

@@ -66,7 +66,8 @@ pub(crate) fn arrange<L: Ledger>(
     ensures at_most { steps.new ≤ steps.old + arranging_steps * length text.entry.units.now }
     ensures if_uniform { IsTrue resolved.uniform
         → steps.new ≤ steps.old + uniform_line_steps * length text.entry.units.now }
-    ensures twice { IsTrue resolved.uniform → resolved.complete ≡ false → steps.old + 2 * length text.entry.units.now ≤ steps.new }
+    ensures twice { IsTrue resolved.uniform → resolved.complete ≡ false
+        → steps.old + 2 * length text.entry.units.now ≤ steps.new }
 {
     let TextWithParagraphs { units, paras, .. } = text;
     let levels = &mut levels[..units.len()];

@@ -20,8 +20,8 @@ use units::level::{Level, ParaLevel};
 use units::memory::Memory;
 use units::steps::Steps;
 
-/// How many units a paragraph has at least that is resolved by few of them, if X9 removes some. In a shorter one, looking
-/// for these costs more than it saves.
+/// The least number of units of a paragraph that is resolved by few of them, if X9 removes some. In a shorter one, the
+/// search for these costs more than it saves.
 const LEAST: usize = 128;
 
 /// The same if all units remain.
@@ -31,7 +31,7 @@ const LEAST_REMAINING: usize = 256;
 const LEAST_MIXED: usize = 512;
 
 /// Returns whether a paragraph of `n` units with these contents may be resolved by few of them in less time. Letters of
-/// both directions alone take less than the search for few units saves.
+/// both directions without a class that W1 to W7 can change take so few instructions that the search saves none.
 fn may_save(contents: Contents, n: usize) -> bool {
     if contents.is_mixed() {
         return n >= LEAST_MIXED && contents.has_weak();
