@@ -512,8 +512,8 @@ def put_unparsed(crate, edits):
     unparsed = re.findall(r"^\S*/(\d+_\S+\.rt): it does not parse: ([^\n]*)", output, re.M)
     if status and not unparsed:
         sys.exit(f"rt fmt over the wrong bodies of {crate.name} failed:\n{output}")
-    for file, said in unparsed:
-        by_file[file].fault = f"it does not parse: {said}"
+    for file, reason in unparsed:
+        by_file[file].fault = f"it does not parse: {reason}"
 
 
 def read_all(crates, asked):

@@ -308,29 +308,29 @@ no_letter true b = refl
 no_letter false b = refl
 
 -- what needs no next class is not replaced
-class_for-kept : (s c u n : Class) → needs_next s u ≡ false → class_for s c u n ≡ u
-class_for-kept s c EN n h =
+class_for-unchanged : (s c u n : Class) → needs_next s u ≡ false → class_for s c u n ≡ u
+class_for-unchanged s c EN n h =
     cond-false ((is_quiet c && is_directed L s) && is_apart n) L EN (ap (λ b. (is_quiet c && b) && is_apart n) h ∙ no_letter (is_quiet c) (is_apart n))
-class_for-kept s c ES n h = cc
-class_for-kept s c ET n h = cc
-class_for-kept s c CS n h = cc
-class_for-kept s c u n h = refl
+class_for-unchanged s c ES n h = cc
+class_for-unchanged s c ET n h = cc
+class_for-unchanged s c CS n h = cc
+class_for-unchanged s c u n h = refl
 
-unit_for-kept : (s : Class) (c u : BidiUnit) (n : Class) → needs_next s u.class ≡ false → unit_for s c u n ≡ u
-unit_for-kept s c u n h =
+unit_for-unchanged : (s : Class) (c u : BidiUnit) (n : Class) → needs_next s u.class ≡ false → unit_for s c u n ≡ u
+unit_for-unchanged s c u n h =
     let v : BidiUnit = record { class = class_for s c.class u.class n; bracket = u.bracket } in
     elim (cases_Bool (is_bare u.bracket)) [
-      | inl t ↦ cond-true (is_bare u.bracket) v u t ∙ ap (λ (k : Class). record { class = k; bracket = u.bracket }) (class_for-kept s c.class u.class n h)
+      | inl t ↦ cond-true (is_bare u.bracket) v u t ∙ ap (λ (k : Class). record { class = k; bracket = u.bracket }) (class_for-unchanged s c.class u.class n h)
       | inr f ↦ cond-false (is_bare u.bracket) v u f
     ]
 
-pub next_for-kept : (sos : Class) (stack : Stack) (u : BidiUnit) (n s : Class) → s ≡ (known_after sos stack).strong → needs_next s u.class ≡ false → u ≡ next_for sos stack u n
-next_for-kept sos [] u n s e h = refl
-next_for-kept sos (c ∷ back) u n s e h =
-    sym (unit_for-kept (known_after sos (c ∷ back)).strong c.0 u n (ap (λ t. needs_next t u.class) (sym e) ∙ h))
+pub next_for-unchanged : (sos : Class) (stack : Stack) (u : BidiUnit) (n s : Class) → s ≡ (known_after sos stack).strong → needs_next s u.class ≡ false → u ≡ next_for sos stack u n
+next_for-unchanged sos [] u n s e h = refl
+next_for-unchanged sos (c ∷ back) u n s e h =
+    sym (unit_for-unchanged (known_after sos (c ∷ back)).strong c.0 u n (ap (λ t. needs_next t u.class) (sym e) ∙ h))
 
 pub next_for-plain : (sos : Class) (stack : Stack) (u : BidiUnit) (n : Class) → is_number_or_sign u.class ≡ false → u ≡ next_for sos stack u n
-next_for-plain sos stack u n h = next_for-kept sos stack u n (known_after sos stack).strong refl (plain_needs-none (known_after sos stack).strong u.class h)
+next_for-plain sos stack u n h = next_for-unchanged sos stack u n (known_after sos stack).strong refl (plain_needs-none (known_after sos stack).strong u.class h)
 
 -- nothing is tail at the end
 pub leads_to_end : (d : Class) (us : List BidiUnit) (stack : Stack) (p : ℕ) → length us ≤ p → LeadsOn d us stack p → stack ≡ squeezed d d [] (remaining_units us)
