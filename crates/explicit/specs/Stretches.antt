@@ -5,12 +5,16 @@ use Rattle.units.specs.Positions.{positions_of}
 use Rattle.units.specs.declared.class.Class.{Class}
 use Rattle.explicit.specs.declared.status.Status.{Status}
 
--- each position from this one on, before the end, passes the test; the end is the paragraph's, or the class there fails
-pub record IsStretch (test : Class → Bool) (cs : List Class) (from end : ℕ) : Type 0 where
+-- each position from this one on, before the end, passes the test; the end is the limit, or the class there fails
+pub record IsStretchWithin (test : Class → Bool) (cs : List Class) (from limit end : ℕ) : Type 0 where
   pub later : from ≤ end
-  pub within : end ≤ length cs
+  pub within : end ≤ limit
   pub passed : (p : ℕ) → from ≤ p → p < end → test (class_at cs p) ≡ true
-  pub longest : end < length cs → test (class_at cs end) ≡ false
+  pub longest : end < limit → test (class_at cs end) ≡ false
+
+-- the same, up to the end of the paragraph
+abbrev pub IsStretch : (Class → Bool) → List Class → ℕ → ℕ → Type 0
+IsStretch test cs from end = IsStretchWithin test cs from (length cs) end
 
 -- X5a to X6a: the level and the current class of a position of this class inside this status, if the class is neither
 -- removed nor a separator

@@ -7,7 +7,7 @@ ghost use Rattle.units.specs.declared.class.Class.TheVariants.{BN};
 ghost use Rattle.explicit.specs.IsolateMaps.{IsFilledFrom};
 ghost use Rattle.explicit.specs.ExplicitLevels.{HoldsLevels, IsExplicitAt, IsWithinDepth};
 ghost use Rattle.explicit.specs.StatusStacks.{entry_count, is_ordinary};
-ghost use Rattle.explicit.specs.Stretches.{IsStretch, with_leveled};
+ghost use Rattle.explicit.specs.Stretches.{IsStretch, IsStretchWithin, with_leveled};
 
 use crate::isolates::IsolateMap;
 use crate::leveled_class::LeveledClass;
@@ -91,6 +91,146 @@ impl Explicit {
     }
 }
 
+// X5a to X6a: writes the level and the class of the position `p`, inside this status, if its class is ordinary. Returns
+// the position after it, or else `p`. A written position is a step.
+fn level_one<L: Ledger>(
+    para: &[Unit],
+    p: usize,
+    status: &Status,
+    explicit: &mut [LeveledClass],
+    steps: &mut Steps<L>,
+) -> usize
+    requires inside { p < length para.now }
+    requires room { length para.now ≤ length explicit.old }
+    ensures stretch { IsStretchWithin is_ordinary (classes_of para.now) p (p + 1) result }
+    ensures explicit { explicit.new ≡ with_leveled status.now (classes_of para.now) p result explicit.old }
+    ensures steps { steps.new + p ≡ steps.old + result }
+{
+    let own = para[p].class;
+    if !is_ordinary(own) {
+        return p;
+    }
+    steps.tick();
+    let (level, class) = status.leveled(own);
+    explicit[p] = LeveledClass::some(level, class);
+    p + 1
+}
+
+// The same for two positions: stops before one whose class is not ordinary.
+fn level_two<L: Ledger>(
+    para: &[Unit],
+    p: usize,
+    status: &Status,
+    explicit: &mut [LeveledClass],
+    steps: &mut Steps<L>,
+) -> usize
+    requires inside { p + 2 ≤ length para.now }
+    requires room { length para.now ≤ length explicit.old }
+    ensures stretch { IsStretchWithin is_ordinary (classes_of para.now) p (p + 2) result }
+    ensures explicit { explicit.new ≡ with_leveled status.now (classes_of para.now) p result explicit.old }
+    ensures steps { steps.new + p ≡ steps.old + result }
+{
+    let middle = level_one(para, p, status, explicit, steps);
+    if middle < p + 1 {
+        return middle;
+    }
+    level_one(para, middle, status, explicit, steps)
+}
+
+// The same for four positions.
+fn level_four<L: Ledger>(
+    para: &[Unit],
+    p: usize,
+    status: &Status,
+    explicit: &mut [LeveledClass],
+    steps: &mut Steps<L>,
+) -> usize
+    requires inside { p + 4 ≤ length para.now }
+    requires room { length para.now ≤ length explicit.old }
+    ensures stretch { IsStretchWithin is_ordinary (classes_of para.now) p (p + 4) result }
+    ensures explicit { explicit.new ≡ with_leveled status.now (classes_of para.now) p result explicit.old }
+    ensures steps { steps.new + p ≡ steps.old + result }
+{
+    let middle = level_two(para, p, status, explicit, steps);
+    if middle < p + 2 {
+        return middle;
+    }
+    level_two(para, middle, status, explicit, steps)
+}
+
+// The same for eight positions.
+fn level_eight<L: Ledger>(
+    para: &[Unit],
+    p: usize,
+    status: &Status,
+    explicit: &mut [LeveledClass],
+    steps: &mut Steps<L>,
+) -> usize
+    requires inside { p + 8 ≤ length para.now }
+    requires room { length para.now ≤ length explicit.old }
+    ensures stretch { IsStretchWithin is_ordinary (classes_of para.now) p (p + 8) result }
+    ensures explicit { explicit.new ≡ with_leveled status.now (classes_of para.now) p result explicit.old }
+    ensures steps { steps.new + p ≡ steps.old + result }
+{
+    let middle = level_four(para, p, status, explicit, steps);
+    if middle < p + 4 {
+        return middle;
+    }
+    level_four(para, middle, status, explicit, steps)
+}
+
+// X5a to X6a: writes the level and the class of the positions from `from` on, inside this status, before the next
+// position whose class is not ordinary, or the end. Returns that position. Each written position is a step.
+fn level_rest<L: Ledger>(
+    para: &[Unit],
+    from: usize,
+    status: &Status,
+    explicit: &mut [LeveledClass],
+    steps: &mut Steps<L>,
+) -> usize
+    requires from { from ≤ length para.now }
+    requires room { length para.now ≤ length explicit.old }
+    ensures stretch { IsStretch is_ordinary (classes_of para.now) from result }
+    ensures explicit { explicit.new ≡ with_leveled status.now (classes_of para.now) from result explicit.old }
+    ensures steps { steps.new + from ≡ steps.old + result }
+{
+    let mut p = from;
+    while p < para.len() && is_ordinary(para[p].class) {
+        steps.tick();
+        let (level, class) = status.leveled(para[p].class);
+        explicit[p] = LeveledClass::some(level, class);
+        p += 1;
+    }
+    p
+}
+
+// The same. Each turn writes eight positions, which takes fewer instructions than a turn for each position.
+// Inlined, the compiler knows whether the status overrides.
+#[inline(always)]
+fn level_eights<L: Ledger>(
+    para: &[Unit],
+    from: usize,
+    status: &Status,
+    explicit: &mut [LeveledClass],
+    steps: &mut Steps<L>,
+) -> usize
+    requires from { from ≤ length para.now }
+    requires room { length para.now ≤ length explicit.old }
+    ensures stretch { IsStretch is_ordinary (classes_of para.now) from result }
+    ensures explicit { explicit.new ≡ with_leveled status.now (classes_of para.now) from result explicit.old }
+    ensures steps { steps.new + from ≡ steps.old + result }
+{
+    let mut p = from;
+    while para.len() - p >= 8 {
+        let end = level_eight(para, p, status, explicit, steps);
+        if end < p + 8 {
+            return end;
+        }
+        p = end;
+    }
+    level_rest(para, p, status, explicit, steps)
+}
+
 // X5a to X6a: writes the level and the class of the positions from `from` on, inside this status, before the next
 // position whose class is not ordinary, or the end. Returns that position. Each written position is a step.
 fn level_ordinary<L: Ledger>(
@@ -106,14 +246,22 @@ fn level_ordinary<L: Ledger>(
     ensures explicit { explicit.new ≡ with_leveled status (classes_of para.now) from result explicit.old }
     ensures steps { steps.new + from ≡ steps.old + result }
 {
-    let mut p = from;
-    while p < para.len() && is_ordinary(para[p].class) {
-        steps.tick();
-        let (level, class) = status.leveled(para[p].class);
-        explicit[p] = LeveledClass::some(level, class);
-        p += 1;
+    match status.override_class {
+        None => {
+            let own = Status {
+                override_class: None,
+                ..status
+            };
+            level_eights(para, from, &own, explicit, steps)
+        }
+        Some(class) => {
+            let overriding = Status {
+                override_class: Some(class),
+                ..status
+            };
+            level_eights(para, from, &overriding, explicit, steps)
+        }
     }
-    p
 }
 
 // X1 to X9: finds the level and the current class of each position. Successive positions of ordinary classes are

@@ -7,25 +7,14 @@ ghost use Rattle.explicit.specs.WantedLevels.{IsOddWanted};
 use units::class::Class;
 use units::level::Level;
 
-/// Returns whether the class begins and ends nothing and isn't removed (X6).
+/// All but BN, B, PDF, PDI and the initiators, one bit for each class.
+const ORDINARY: u32 = 0b11_1001_1111_1111;
+
+/// Returns whether the class begins and ends nothing and isn't removed (X6). One shift tests any class.
 pub(crate) fn is_ordinary(class: Class) -> bool
     ensures { result ≡ is_ordinary class }
 {
-    matches!(
-        class,
-        Class::L
-            | Class::R
-            | Class::AL
-            | Class::EN
-            | Class::ES
-            | Class::ET
-            | Class::AN
-            | Class::CS
-            | Class::NSM
-            | Class::S
-            | Class::WS
-            | Class::ON
-    )
+    ORDINARY >> (class as u32) & 1 == 1
 }
 
 /// Returns how far the least odd or the least even level above this one is (X2 to X5c).

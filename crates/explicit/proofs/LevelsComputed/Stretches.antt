@@ -1,16 +1,16 @@
 -- Successive ordinary classes: the initiators that are open there, and the levels and classes of their positions.
 use Rattle.std.proofs.Common.{◌≡◌, ℕ, zero, suc, ◌+◌, ◌-◌, ◌<◌, ◌≤◌, List, length, get_or, set, Option, arith, inl, inr, refl, sym, ap, subst, ◌∙◌}
-use Rattle.std.specs.Prelude.{None, Some, true}
+use Rattle.std.specs.Prelude.{None, Some, Bool, true, false}
 use Rattle.std.proofs.lemmas.Bool.{cases_lt, false≢true}
 use Rattle.units.specs.Classes.{class_at}
 use Rattle.units.specs.Explicit.{explicit_at}
 use Rattle.units.specs.declared.class.Class.{Class}
 use Rattle.explicit.specs.StatusStacks.{Represents, state_within, leveled_in, is_ordinary}
-use Rattle.explicit.specs.Stretches.{IsStretch, leveled_by_status, with_leveled}
+use Rattle.explicit.specs.Stretches.{IsStretch, IsStretchWithin, leveled_by_status, with_leveled}
 use Rattle.explicit.specs.declared.status.Status.{Status}
 use Rattle.explicit.specs.declared.status.StatusStack.{StatusStack}
 use Rattle.explicit.proofs.Holders.Open.{holders}
-use Rattle.explicit.proofs.Matched.Stretched.{stretched_inside, stretched_length, stretched_next, stretched_none, stretched_outside}
+use Rattle.explicit.proofs.Matched.Stretched.{stretched_further, stretched_inside, stretched_length, stretched_next, stretched_none, stretched_outside}
 use Rattle.explicit.proofs.LevelsComputed.ExplicitAt.{open_before, still_open_before, open_before-next, explicit-leveled_in, ordinary_is, ordinary_still_open, ordinary_opened}
 
 -- an ordinary class closes nothing and opens nothing
@@ -78,6 +78,82 @@ pub explicit-next : (status : Status) (cs : List Class) (from p : ℕ) (explicit
     with_leveled status cs from (p + 1) explicit
 explicit-next status cs from p explicit low =
     stretched_next (λ q. Some (leveled_by_status status (class_at cs q))) from p explicit low
+
+-- and many more
+explicit-further : (status : Status) (cs : List Class) (from p end : ℕ) (explicit : List (Option (ℕ × Class))) →
+    from ≤ p → p ≤ end →
+    with_leveled status cs p end (with_leveled status cs from p explicit) ≡ with_leveled status cs from end explicit
+explicit-further status cs from p end explicit low high =
+    stretched_further (λ q. Some (leveled_by_status status (class_at cs q))) from p end explicit low high
+
+pub explicit-joined : (status : Status) (cs : List Class) (from p end : ℕ)
+    (explicit middle new : List (Option (ℕ × Class))) → from ≤ p → p ≤ end →
+    middle ≡ with_leveled status cs from p explicit → new ≡ with_leveled status cs p end middle →
+    new ≡ with_leveled status cs from end explicit
+explicit-joined status cs from p end explicit middle new low high one other =
+    other ∙ ap (with_leveled status cs p end) one ∙ explicit-further status cs from p end explicit low high
+
+pub explicit-length : (status : Status) (cs : List Class) (from end : ℕ) (explicit : List (Option (ℕ × Class))) →
+    length (with_leveled status cs from end explicit) ≡ length explicit
+explicit-length status cs from end explicit =
+    stretched_length (λ q. Some (leveled_by_status status (class_at cs q))) from end explicit
+
+-- a stretch that goes up to its limit, and what follows it
+pub stretch-joined : (test : Class → Bool) (cs : List Class) (from middle limit end : ℕ) →
+    IsStretchWithin test cs from middle middle → IsStretchWithin test cs middle limit end →
+    IsStretchWithin test cs from limit end
+stretch-joined test cs from middle limit end one other =
+    let low = one.later in
+    let high = other.later in
+    record {
+      later = omega (arith, low, high);
+      within = other.within;
+      passed = λ p after before. elim (cases_lt p middle) [
+        | inl under ↦ one.passed p after under
+        | inr over ↦ other.passed p over before
+      ];
+      longest = other.longest;
+    }
+
+-- a stretch that doesn't end before its limit ends there
+pub stretch-full : (test : Class → Bool) (cs : List Class) (from limit end : ℕ) →
+    IsStretchWithin test cs from limit end → limit ≤ end → IsStretchWithin test cs from end end
+stretch-full test cs from limit end s high = record {
+  later = s.later;
+  within = omega arith;
+  passed = s.passed;
+  longest = λ l. absurd (omega arith);
+}
+
+-- no position
+pub stretch-none : (test : Class → Bool) (cs : List Class) (p : ℕ) → IsStretchWithin test cs p p p
+stretch-none test cs p = record {
+  later = omega arith;
+  within = omega arith;
+  passed = λ k from to. absurd (omega arith);
+  longest = λ l. absurd (omega arith);
+}
+
+-- one position, if its class passes; none, if it fails
+pub stretch-one : (test : Class → Bool) (cs : List Class) (p : ℕ) → test (class_at cs p) ≡ true →
+    IsStretchWithin test cs p (p + 1) (p + 1)
+stretch-one test cs p here = record {
+  later = omega arith;
+  within = omega arith;
+  passed = λ k from to.
+      let e : k ≡ p = omega arith in
+      subst (λ (q : ℕ). test (class_at cs q) ≡ true) (sym e) here;
+  longest = λ l. absurd (omega arith);
+}
+
+pub stretch-fails : (test : Class → Bool) (cs : List Class) (p limit : ℕ) → p ≤ limit →
+    test (class_at cs p) ≡ false → IsStretchWithin test cs p limit p
+stretch-fails test cs p limit high here = record {
+  later = omega arith;
+  within = high;
+  passed = λ k from to. absurd (omega arith);
+  longest = λ _. here;
+}
 
 -- a stretch from a position of an ordinary class includes that position
 pub stretch-moves : (cs : List Class) (from end : ℕ) → IsStretch is_ordinary cs from end → from < length cs →

@@ -1,6 +1,6 @@
 -- What the pass that finds isolates skips: there are no partners, and nothing is opened or closed.
-use Rattle.std.proofs.Common.{◌≡◌, ℕ, zero, suc, ◌+◌, ◌-◌, ◌≤◌, Bool, true, false, List, length, set, Option, None, inl, inr, refl, sym, subst, ◌∙◌, arith}
-use Rattle.std.proofs.lemmas.Bool.{cases_eq, cases_lt}
+use Rattle.std.proofs.Common.{◌≡◌, ℕ, zero, suc, ◌+◌, ◌-◌, ◌≤◌, Bool, true, false, List, length, set, Option, None, inl, inr, refl, sym, ap, subst, ◌∙◌, arith}
+use Rattle.std.proofs.lemmas.Bool.{cases_lt}
 use Rattle.std.specs.Prelude.{not, ◌||◌, ◌&&◌}
 use Rattle.units.specs.Classes.{class_at, is_isolate_formatting, is_isolate_initiator, is_pdi, is_strong}
 use Rattle.units.specs.declared.class.Class.{Class}
@@ -18,9 +18,15 @@ pub cleared_next : (from p : ℕ) (partners : List (Option ℕ)) → from ≤ p 
 cleared_next from p partners low = stretched_next (λ _. None) from p partners low
 
 -- and many more
-pub cleared_further : (from p end : ℕ) (partners : List (Option ℕ)) → from ≤ p → p ≤ end →
+cleared_further : (from p end : ℕ) (partners : List (Option ℕ)) → from ≤ p → p ≤ end →
     without_partners p end (without_partners from p partners) ≡ without_partners from end partners
 cleared_further from p end partners low high = stretched_further (λ _. None) from p end partners low high
+
+pub cleared_joined : (from p end : ℕ) (partners middle new : List (Option ℕ)) → from ≤ p → p ≤ end →
+    middle ≡ without_partners from p partners → new ≡ without_partners p end middle →
+    new ≡ without_partners from end partners
+cleared_joined from p end partners middle new low high one other =
+    other ∙ ap (without_partners p end) one ∙ cleared_further from p end partners low high
 
 pub cleared_length : (from end : ℕ) (partners : List (Option ℕ)) →
     length (without_partners from end partners) ≡ length partners
@@ -34,31 +40,19 @@ no_formatting_both cs from p end one other q low high = elim (cases_lt q p) [
   | inr following ↦ other q following high
 ]
 
-none_of_four : (a b c d : Bool) → (((a || b) || c) || d) ≡ false → (a ≡ false) × (b ≡ false) × (c ≡ false) × (d ≡ false)
-none_of_four true b c d h = absurd (cc)
-none_of_four false true c d h = absurd (cc)
-none_of_four false false true d h = absurd (cc)
-none_of_four false false false true h = absurd (cc)
-none_of_four false false false false h = (refl, refl, refl, refl)
+-- nor at a position, if its class begins and ends none
+no_formatting_one : (cs : List Class) (k : ℕ) → is_isolate_formatting (class_at cs k) ≡ false →
+    HasNoFormatting cs k (k + 1)
+no_formatting_one cs k here q low high =
+    let e : q ≡ k = omega arith in
+    subst (λ (j : ℕ). is_isolate_formatting (class_at cs j) ≡ false) (sym e) here
 
--- nor at a position and the three after it
-pub no_formatting_four : (cs : List Class) (k : ℕ) (a b c d : Bool) → a ≡ is_isolate_formatting (class_at cs k) →
-    b ≡ is_isolate_formatting (class_at cs (k + 1)) → c ≡ is_isolate_formatting (class_at cs (k + 2)) →
-    d ≡ is_isolate_formatting (class_at cs (k + 3)) →
-    (((a || b) || c) || d) ≡ false → HasNoFormatting cs k (k + 4)
-no_formatting_four cs k a b c d at0 at1 at2 at3 h q low high =
-    let none = none_of_four a b c d h in
-    let F : ℕ → Type 0 = λ j. is_isolate_formatting (class_at cs j) ≡ false in
-    elim (cases_eq q k) [
-      | inl e ↦ subst F (sym e) (sym at0 ∙ none.0)
-      | inr n0 ↦ elim (cases_eq q (k + 1)) [
-        | inl e ↦ subst F (sym e) (sym at1 ∙ none.1)
-        | inr n1 ↦ elim (cases_eq q (k + 2)) [
-          | inl e ↦ subst F (sym e) (sym at2 ∙ none.2)
-          | inr n2 ↦ let e : q ≡ k + 3 = omega arith in subst F (sym e) (sym at3 ∙ none.3)
-        ]
-      ]
-    ]
+-- nor at two
+pub no_formatting_two : (cs : List Class) (k : ℕ) → is_isolate_formatting (class_at cs k) ≡ false →
+    is_isolate_formatting (class_at cs (k + 1)) ≡ false → HasNoFormatting cs k (k + 2)
+no_formatting_two cs k one two q low high =
+    no_formatting_both cs k (k + 1) (k + 2) (no_formatting_one cs k one)
+    (λ j from to. no_formatting_one cs (k + 1) two j from (omega arith)) q low high
 
 -- the positions that are skipped four at a time
 pub passed_by_fours : (wanted : Bool) (cs : List Class) (from end : ℕ) → HasNoFormatting cs from end →

@@ -1,9 +1,7 @@
-use Rattle.std.proofs.Common.{◌≡◌, ◌+◌, ◌≤◌, ℕ, List, length, arith, ap, refl, sym, ◌∙◌}
-use Rattle.std.specs.Prelude.{Option}
+use Rattle.std.proofs.Common.{◌≤◌, length, arith, ap, refl, sym, ◌∙◌}
 use Rattle.std.proofs.lemmas.Bool.{true≢false}
 use Rattle.units.specs.Classes.{classes_of}
-use Rattle.explicit.specs.Stops.{without_partners}
-use Rattle.explicit.proofs.Matched.Stops.{cleared_further, cleared_length, cleared_none, no_formatting_both}
+use Rattle.explicit.proofs.Matched.Stops.{cleared_joined, cleared_length, cleared_none, no_formatting_both}
 use Rattle.explicit.proofs.isolates.pass_fours.Goals as goal
 
 pub loop-partners-init : goal.loop-partners-init
@@ -17,21 +15,28 @@ loop-partners-init g c = record {
   taken = omega arith;
 }
 
+pub returns-then-end-p-clause-partners : goal.returns-then-end-p-clause-partners
+returns-then-end-p-clause-partners g c =
+    let l = c.loop-partners in
+    let end = c.pass_eight-end in
+    cleared_joined c.args.from l.p end.result c.args.partners.now l.partners end.new.partners l.invariant.later
+    end.ensures.later l.invariant.cleared end.ensures.partners
+
 pub loop-partners-preserved : goal.loop-partners-preserved
 loop-partners-preserved g c =
     let l = c.loop-partners in
+    let end = c.pass_eight-end in
     let low : c.args.from ≤ l.p = l.invariant.later in
-    let old : List (Option ℕ) = c.args.partners.now in
-    let same : without_partners l.p (l.p + 4) l.partners ≡
-    without_partners l.p (l.p + 4) (without_partners c.args.from l.p old) =
-    ap (without_partners l.p (l.p + 4)) l.invariant.cleared in
+    let high = end.ensures.later in
+    let within = end.ensures.within in
     record {
-      later = omega arith;
-      within = omega arith;
-      passed = no_formatting_both (classes_of c.args.para.now) c.args.from l.p (l.p + 4) l.invariant.passed
-          (c.is_formatting_in_four.ensures c.if-not-is_formatting_in_four.true);
+      later = omega (arith, high);
+      within = omega (arith, within);
+      passed = no_formatting_both (classes_of c.args.para.now) c.args.from l.p end.result l.invariant.passed
+          end.ensures.passed;
       seeks = λ e. absurd (true≢false (sym e ∙ c.loop-partners-test.true));
-      room = ap length c.clear.ensures.partners ∙ cleared_length l.p (l.p + 4) l.partners ∙ l.invariant.room;
-      cleared = c.clear.ensures.partners ∙ same ∙ cleared_further c.args.from l.p (l.p + 4) old low (omega arith);
-      taken = omega (arith, c.clear.ensures.steps, l.invariant.taken);
+      room = ap length end.ensures.partners ∙ cleared_length l.p end.result l.partners ∙ l.invariant.room;
+      cleared = cleared_joined c.args.from l.p end.result c.args.partners.now l.partners end.new.partners low high
+          l.invariant.cleared end.ensures.partners;
+      taken = omega (arith, end.ensures.steps, l.invariant.taken);
     }

@@ -1,14 +1,14 @@
-use Rattle.std.proofs.Common.{◌≡◌, ℕ, ◌+◌, ◌-◌, ◌<◌, ◌≤◌, length, true}
-use Rattle.units.specs.Classes.{class_at, classes_of}
+use Rattle.std.proofs.Common.{◌≡◌, ◌+◌, ◌-◌, ◌≤◌, length}
+use Rattle.units.specs.Classes.{classes_of}
 use Rattle.explicit.specs.StatusStacks.{is_ordinary}
-use Rattle.explicit.specs.Stretches.{with_leveled}
-use Rattle.explicit.proofs.levels.level_ordinary.Given as goal
+use Rattle.explicit.specs.Stretches.{IsStretchWithin, with_leveled}
+use Rattle.explicit.proofs.levels.level_eights.Given as goal
 
 abbrev pub invariant-loop-p : goal.invariant-loop-p
 invariant-loop-p g l = record {
-  later : l.from ≤ l.p;
   within : l.p ≤ length l.para;
-  passed : (k : ℕ) → l.from ≤ k → k < l.p → is_ordinary (class_at (classes_of l.para) k) ≡ true;
+  stretch : IsStretchWithin is_ordinary (classes_of l.para) l.from l.p l.p;
+  room : length l.explicit ≡ length l.fn.explicit;
   placed : l.explicit ≡ with_leveled l.status (classes_of l.para) l.from l.p l.fn.explicit;
   taken : l.steps + l.from ≡ l.fn.steps + l.p;
 }

@@ -7,14 +7,14 @@ use Rattle.explicit.specs.StatusStacks.{is_ordinary}
 use Rattle.explicit.specs.Stretches.{leveled_by_status, with_leveled}
 use Rattle.explicit.proofs.Holders.Roles.{class_read}
 use Rattle.explicit.proofs.LevelsComputed.Stretches.{explicit-next, explicit-none}
-use Rattle.explicit.proofs.levels.level_ordinary.Goals as goal
+use Rattle.explicit.proofs.levels.level_rest.Goals as goal
 
 pub loop-p-init : goal.loop-p-init
 loop-p-init g c = record {
   later = omega arith;
   within = omega (arith, c.requires.from);
   passed = λ k from to. absurd (omega arith);
-  placed = sym (explicit-none c.args.status (classes_of c.args.para.now) c.args.from c.args.explicit.now);
+  placed = sym (explicit-none c.args.status.now (classes_of c.args.para.now) c.args.from c.args.explicit.now);
   taken = omega arith;
 }
 
@@ -36,9 +36,9 @@ loop-p-preserved g c =
       ];
       placed = ap (λ (xs : List (Option (ℕ × Class))). set xs l.p c.some.result) l.invariant.placed
           ∙ ap (λ (x : Option (ℕ × Class)).
-          set (with_leveled c.args.status cs c.args.from l.p c.args.explicit.now) l.p x) (c.some.ensures ∙
+          set (with_leveled c.args.status.now cs c.args.from l.p c.args.explicit.now) l.p x) (c.some.ensures ∙
           ap (λ (x : ℕ × Class). Some x) (c.leveled-level.ensures ∙
-          ap (leveled_by_status c.args.status) (sym read)))
-          ∙ explicit-next c.args.status cs c.args.from l.p c.args.explicit.now low;
+          ap (leveled_by_status c.args.status.now) (sym read)))
+          ∙ explicit-next c.args.status.now cs c.args.from l.p c.args.explicit.now low;
       taken = omega (arith, c.tick.ensures, l.invariant.taken);
     }
