@@ -173,22 +173,18 @@ fn is_passed(class: Class, wanted: bool) -> bool
     !(is_isolate_formatting(class) || wanted && class.is_strong())
 }
 
-// Removes the partners of the positions from `from` on, before `end`. Each is a step.
-fn clear<L: Ledger>(
-    partners: &mut [OptionalPosition],
-    from: usize,
-    end: usize,
-    steps: &mut Steps<L>,
-)
-    requires order { from ≤ end }
-    requires within { end ≤ length partners.old }
-    ensures partners { partners.new ≡ without_partners from end partners.old }
-    ensures steps { steps.new + from ≡ steps.old + end }
+// Removes the partners of four positions from `p` on. Each is a step. Written one by one without a loop, the four take
+// one instruction.
+fn clear_four<L: Ledger>(partners: &mut [OptionalPosition], p: usize, steps: &mut Steps<L>)
+    requires { p + 4 ≤ length partners.old }
+    ensures partners { partners.new ≡ without_partners p (p + 4) partners.old }
+    ensures steps { steps.new ≡ steps.old + 4 }
 {
-    steps.add(end - from);
-    for k in from..end {
-        partners[k] = OptionalPosition::none();
-    }
+    steps.add(4);
+    partners[p] = OptionalPosition::none();
+    partners[p + 1] = OptionalPosition::none();
+    partners[p + 2] = OptionalPosition::none();
+    partners[p + 3] = OptionalPosition::none();
 }
 
 // Skips four positions from `p` on, and removes their partners, if no isolate begins or ends at them. Returns the
@@ -210,7 +206,7 @@ fn pass_four<L: Ledger>(
     if is_formatting_in_four(para, p) {
         return p;
     }
-    clear(partners, p, p + 4, steps);
+    clear_four(partners, p, steps);
     p + 4
 }
 
@@ -231,8 +227,8 @@ fn pass_eight<L: Ledger>(
     ensures steps { steps.new + p ≡ steps.old + result }
 {
     let middle = pass_four(para, p, partners, steps);
-    if middle == p {
-        return p;
+    if middle != p + 4 {
+        return middle;
     }
     pass_four(para, middle, partners, steps)
 }
@@ -259,7 +255,7 @@ fn pass_fours<L: Ledger>(
     let mut p = from;
     while !wanted && para.len() - p >= 8 {
         let end = pass_eight(para, p, partners, steps);
-        if end < p + 8 {
+        if end != p + 8 {
             return end;
         }
         p = end;

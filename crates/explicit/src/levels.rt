@@ -131,7 +131,7 @@ fn level_two<L: Ledger>(
     ensures steps { steps.new + p ≡ steps.old + result }
 {
     let middle = level_one(para, p, status, explicit, steps);
-    if middle < p + 1 {
+    if middle != p + 1 {
         return middle;
     }
     level_one(para, middle, status, explicit, steps)
@@ -152,7 +152,7 @@ fn level_four<L: Ledger>(
     ensures steps { steps.new + p ≡ steps.old + result }
 {
     let middle = level_two(para, p, status, explicit, steps);
-    if middle < p + 2 {
+    if middle != p + 2 {
         return middle;
     }
     level_two(para, middle, status, explicit, steps)
@@ -173,7 +173,7 @@ fn level_eight<L: Ledger>(
     ensures steps { steps.new + p ≡ steps.old + result }
 {
     let middle = level_four(para, p, status, explicit, steps);
-    if middle < p + 4 {
+    if middle != p + 4 {
         return middle;
     }
     level_four(para, middle, status, explicit, steps)
@@ -223,7 +223,7 @@ fn level_eights<L: Ledger>(
     let mut p = from;
     while para.len() - p >= 8 {
         let end = level_eight(para, p, status, explicit, steps);
-        if end < p + 8 {
+        if end != p + 8 {
             return end;
         }
         p = end;

@@ -17,6 +17,27 @@ pub cleared_next : (from p : ℕ) (partners : List (Option ℕ)) → from ≤ p 
     set (without_partners from p partners) p None ≡ without_partners from (p + 1) partners
 cleared_next from p partners low = stretched_next (λ _. None) from p partners low
 
+-- four
+pub cleared_four : (p : ℕ) (partners : List (Option ℕ)) (a b c d : Option ℕ) → a ≡ None → b ≡ None → c ≡ None →
+    d ≡ None → set (set (set (set partners p a) (p + 1) b) (p + 2) c) (p + 3) d ≡ without_partners p (p + 4) partners
+cleared_four p partners a b c d e0 e1 e2 e3 =
+    let Partners : Type 0 = List (Option ℕ) in
+    let upto : ℕ → Partners = λ q. without_partners p q partners in
+    let two : p + 1 + 1 ≡ p + 2 = omega arith in
+    let three : p + 2 + 1 ≡ p + 3 = omega arith in
+    let four : p + 3 + 1 ≡ p + 4 = omega arith in
+    let at1 : set partners p None ≡ upto (p + 1) = ap (λ (xs : Partners). set xs p None) (sym (cleared_none p partners)) ∙
+    cleared_next p p partners (omega arith) in
+    let at2 : set (upto (p + 1)) (p + 1) None ≡ upto (p + 2) = cleared_next p (p + 1) partners (omega arith) ∙
+    ap upto two in
+    let at3 : set (upto (p + 2)) (p + 2) None ≡ upto (p + 3) = cleared_next p (p + 2) partners (omega arith) ∙
+    ap upto three in
+    let at4 : set (upto (p + 3)) (p + 3) None ≡ upto (p + 4) = cleared_next p (p + 3) partners (omega arith) ∙
+    ap upto four in
+    rw (e0, e1, e2, e3) (ap (λ (xs : Partners). set (set (set xs (p + 1) None) (p + 2) None) (p + 3) None) at1 ∙
+    ap (λ (xs : Partners). set (set xs (p + 2) None) (p + 3) None) at2 ∙
+    ap (λ (xs : Partners). set xs (p + 3) None) at3 ∙ at4)
+
 -- and many more
 cleared_further : (from p end : ℕ) (partners : List (Option ℕ)) → from ≤ p → p ≤ end →
     without_partners p end (without_partners from p partners) ≡ without_partners from end partners
