@@ -135,6 +135,7 @@ fn note_strong(
     outside
 }
 
+// Returns whether the class is LRI, RLI, FSI or PDI, which are the last classes.
 fn is_isolate_formatting(class: Class) -> bool
     ensures { result ≡ is_isolate_formatting class }
 {
@@ -165,12 +166,23 @@ fn is_formatting_in_four(para: &[Unit], p: usize) -> bool
     is_formatting_in_two(para, p) || is_formatting_in_two(para, p + 2)
 }
 
+/// LRI, RLI, FSI and PDI, one bit for each class.
+const FORMATTING: u32 = 0b111_1000_0000_0000_0000_0000;
+
+/// The same, and L, R and AL.
+const FORMATTING_OR_STRONG: u32 = 0b111_1000_0000_0000_0000_0111;
+
 // Returns whether the pass over isolates skips a class: no isolate begins or ends there, and the class is not strong if
 // the pass looks for a strong class.
 fn is_passed(class: Class, wanted: bool) -> bool
     ensures { result ≡ is_passed wanted class }
 {
-    !(is_isolate_formatting(class) || wanted && class.is_strong())
+    let stops = if wanted {
+        FORMATTING_OR_STRONG
+    } else {
+        FORMATTING
+    };
+    stops >> (class as u32) & 1 == 0
 }
 
 // Removes the partners of four positions from `p` on. Each is a step. Written one by one without a loop, the four take
