@@ -150,7 +150,8 @@ fn is_formatting_at(para: &[Unit], p: usize) -> bool
     is_isolate_formatting(para[p].class)
 }
 
-// Returns whether an isolate begins or ends at this position or at the one after it.
+// Returns whether an isolate begins or ends at this position or at the one after it. With `|` in place of `||` the
+// compiler would gather the classes first.
 fn is_formatting_in_two(para: &[Unit], p: usize) -> bool
     requires { p + 2 ≤ length para.now }
     ensures { result ≡ false → HasNoFormatting (classes_of para.now) p (p + 2) }

@@ -116,7 +116,8 @@ fn level_one<L: Ledger>(
     p + 1
 }
 
-// The same for two positions: stops before one whose class is not ordinary.
+// X5a to X6a: writes up to two positions from `p` on as `level_one` does, and stops before a class that is not ordinary.
+// Returns the position after the written ones. With `<` in place of `!=` the compiler would test again what it knows.
 fn level_two<L: Ledger>(
     para: &[Unit],
     p: usize,
@@ -137,7 +138,7 @@ fn level_two<L: Ledger>(
     level_one(para, middle, status, explicit, steps)
 }
 
-// The same for four positions.
+// The same for up to four positions.
 fn level_four<L: Ledger>(
     para: &[Unit],
     p: usize,
@@ -158,7 +159,7 @@ fn level_four<L: Ledger>(
     level_two(para, middle, status, explicit, steps)
 }
 
-// The same for eight positions.
+// The same for up to eight positions.
 fn level_eight<L: Ledger>(
     para: &[Unit],
     p: usize,
@@ -204,8 +205,8 @@ fn level_rest<L: Ledger>(
     p
 }
 
-// The same. Each turn writes eight positions, which takes fewer instructions than a turn for each position.
-// Inlined, the compiler knows whether the status overrides.
+// The same. Each turn writes eight positions, which takes fewer instructions than a turn for each position. Inlined, so
+// that the compiler makes one loop for a status that overrides, and one for a status that doesn't.
 #[inline(always)]
 fn level_eights<L: Ledger>(
     para: &[Unit],
@@ -232,7 +233,8 @@ fn level_eights<L: Ledger>(
 }
 
 // X5a to X6a: writes the level and the class of the positions from `from` on, inside this status, before the next
-// position whose class is not ordinary, or the end. Returns that position. Each written position is a step.
+// position whose class is not ordinary, or the end. Returns that position. Each written position is a step. Whether the
+// status overrides is asked once.
 fn level_ordinary<L: Ledger>(
     para: &[Unit],
     from: usize,
