@@ -1,7 +1,9 @@
 //! The links from each position to the next one of its sequence (BD13), and the eos of each sequence (X10).
-ghost use Rattle.std.specs.Prelude.{◌≡◌, ◌+◌, ◌<◌, ◌≤◌, ◌&&◌, IfSome, Some, None, is_some, if◌then◌else◌, length};
+ghost use Rattle.std.specs.Prelude.{◌≡◌, ◌+◌, ◌<◌, ◌≤◌, ◌&&◌, IfSome, Some, None, true, false, is_some, if◌then◌else◌, length, slice_set};
 ghost use Rattle.units.specs.Runs.{size_of, level_of, at_one_level, level_or_base, remains, matched_pdi, successor, eos_at, eos_by, last_in, sequence_from};
 ghost use Rattle.explicit.specs.Leveled.{IsLeveled};
+ghost use Rattle.units.specs.declared.class.Class.TheVariants.{L};
+ghost use Rattle.sequences.specs.Blocks.{AreAtLevel, IsWritten};
 ghost use Rattle.sequences.specs.Links.{marked};
 ghost use Rattle.sequences.specs.Heads.{AreSuccessors, HasEnds, IsMarked};
 ghost use Rattle.sequences.specs.BackwardPasses.{BackwardPass};
@@ -138,8 +140,117 @@ fn mark(link: Option<usize>, joined: &mut [bool])
     }
 }
 
+/// Returns whether the eight positions from `first` on remain and are at this level.
+fn are_eight_at(t: &Leveled, first: usize, level: Level) -> bool
+    requires small { size_of t.now < u32.MAX }
+    requires here { first + 8 ≤ size_of t.now }
+    ensures { result ≡ true → AreAtLevel t.now level first (first + 8) }
+{
+    t.is_at(first, level)
+        & t.is_at(first + 1, level)
+        & t.is_at(first + 2, level)
+        & t.is_at(first + 3, level)
+        & t.is_at(first + 4, level)
+        & t.is_at(first + 5, level)
+        & t.is_at(first + 6, level)
+        & t.is_at(first + 7, level)
+}
+
+/// Links each of the eight positions from `first` on to the one right after it.
+fn write_links(first: usize, links: &mut [OptionalPosition])
+    requires small { first + 8 < u32.MAX }
+    requires room { first + 8 ≤ length links.old }
+    ensures { IsWritten None (λ p. Some (p + 1)) first (first + 8) links.old links.new }
+{
+    let next = (first + 1) as u32;
+    for k in 0..8u32 {
+        links[first + k as usize] = OptionalPosition::some((next + k) as usize);
+    }
+}
+
+/// Writes the eos of the sequence at each of the eight positions from `first` on.
+fn write_ends(first: usize, end: Class, ends: &mut [Class])
+    requires { first + 8 ≤ length ends.old }
+    ensures { IsWritten L (λ p. end) first (first + 8) ends.old ends.new }
+{
+    for k in 0..8 {
+        ends[first + k] = end;
+    }
+}
+
+/// Marks the eight positions from `first` on.
+fn write_marks(first: usize, joined: &mut [bool])
+    requires { first + 8 ≤ length joined.old }
+    ensures { IsWritten false (λ p. true) first (first + 8) joined.old joined.new }
+{
+    for k in 0..8 {
+        joined[first + k] = true;
+    }
+}
+
+/// Links the eight positions from `first` on, whose sequence has this eos, each to the one right after it. The mark of
+/// `first` itself is not written. Each linked position is a step.
+fn link_eight<L: Ledger>(
+    first: usize,
+    end: Class,
+    links: &mut [OptionalPosition],
+    ends: &mut [Class],
+    joined: &mut [bool],
+    steps: &mut Steps<L>,
+)
+    requires small { first + 8 < u32.MAX }
+    requires links { first + 8 ≤ length links.old }
+    requires ends { first + 8 ≤ length ends.old }
+    requires joined { first + 8 < length joined.old }
+    ensures links { IsWritten None (λ p. Some (p + 1)) first (first + 8) links.old links.new }
+    ensures ends { IsWritten Class.L (λ p. end) first (first + 8) ends.old ends.new }
+    ensures marks { IsWritten false (λ p. true) (first + 1) (first + 1 + 8) joined.old joined.new }
+    ensures steps { steps.new ≡ steps.old + 8 }
+{
+    steps.add(8);
+    write_links(first, links);
+    write_ends(first, end, ends);
+    write_marks(first + 1, joined);
+}
+
+/// Links positions before `from` as `link_level` does, eight at a time. Returns the first of these positions, or `from`
+/// if there is none. The mark of the returned position is not written.
+fn link_eights<L: Ledger>(
+    t: &Leveled,
+    from: &Remaining,
+    links: &mut [OptionalPosition],
+    ends: &mut [Class],
+    joined: &mut [bool],
+    steps: &mut Steps<L>,
+) -> usize
+    requires small { size_of t.now < u32.MAX }
+    requires leveled { IsLeveled t.now }
+    requires here { from.now.position < size_of t.now }
+    requires level { level_of t.now from.now.position ≡ Some from.now.level }
+    requires end { from.now.end ≡ eos_at t.now (last_in (sequence_from t.now from.now.position) from.now.position) }
+    requires follow { BackwardPass t.now from.now.position (Some from.now.position) links.old ends.old
+        (slice_set joined.old from.now.position false) }
+    ensures before { result ≤ from.now.position }
+    ensures level { level_of t.now result ≡ Some from.now.level }
+    ensures end { from.now.end ≡ eos_at t.now (last_in (sequence_from t.now result) result) }
+    ensures follow { BackwardPass t.now result (Some result) links.new ends.new (slice_set joined.new result false) }
+    ensures steps { steps.new + result ≡ steps.old + from.now.position }
+{
+    let mut p = from.position;
+    // In a short run, one of these two positions is mostly at another level.
+    if p < 8 || !t.is_at(p - 1, from.level) || !t.is_at(p - 8, from.level) {
+        return p;
+    }
+    while p >= 8 && are_eight_at(t, p - 8, from.level) {
+        p -= 8;
+        link_eight(p, from.end, links, ends, joined, steps);
+    }
+    p
+}
+
 /// Links each position before `from` to the one right after it, from the last one back, as long as they are at its
-/// level. Returns the first of these positions, or `from` if there is none. Each linked position is a step.
+/// level. Returns the first of these positions, or `from` if there is none, and removes its mark. Each linked position
+/// is a step.
 fn link_level<L: Ledger>(
     t: &Leveled,
     from: &Remaining,
@@ -153,22 +264,23 @@ fn link_level<L: Ledger>(
     requires here { from.now.position < size_of t.now }
     requires level { level_of t.now from.now.position ≡ Some from.now.level }
     requires end { from.now.end ≡ eos_at t.now (last_in (sequence_from t.now from.now.position) from.now.position) }
-    requires follow { BackwardPass t.now from.now.position (Some from.now.position) links.old ends.old joined.old }
+    requires follow { BackwardPass t.now from.now.position (Some from.now.position) links.old ends.old
+        (slice_set joined.old from.now.position false) }
     ensures before { result ≤ from.now.position }
     ensures level { level_of t.now result ≡ Some from.now.level }
     ensures end { from.now.end ≡ eos_at t.now (last_in (sequence_from t.now result) result) }
     ensures follow { BackwardPass t.now result (Some result) links.new ends.new joined.new }
     ensures steps { steps.new + result ≡ steps.old + from.now.position }
 {
-    let mut p = from.position;
+    let mut p = link_eights(t, from, links, ends, joined, steps);
     while p > 0 && t.is_at(p - 1, from.level) {
         steps.tick();
         links[p - 1] = OptionalPosition::some(p);
         ends[p - 1] = from.end;
-        joined[p - 1] = false;
         joined[p] = true;
         p -= 1;
     }
+    joined[p] = false;
     p
 }
 
@@ -203,7 +315,6 @@ pub fn link<L: Ledger>(
         let Continuation { link, end } = go_on(t, p, &following, ends);
         links[p] = link_to(link);
         ends[p] = end;
-        joined[p] = false;
         mark(link, joined);
         if let Some(level) = level {
             let from = Remaining {
@@ -217,6 +328,8 @@ pub fn link<L: Ledger>(
                 level,
                 end,
             };
+        } else {
+            joined[p] = false;
         }
     }
 }

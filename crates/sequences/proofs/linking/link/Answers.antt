@@ -1,9 +1,9 @@
-use Rattle.std.specs.Prelude.{Option, Some, None, is_some, unwrap_or}
+use Rattle.std.specs.Prelude.{Option, Some, None, IfSome, ◌<◌, is_some, unwrap_or}
 use Rattle.std.proofs.Common.{arith, ap, ◌-◌, ◌≡◌, ◌∙◌, ℕ, sym, subst}
 use Rattle.std.proofs.lemmas.Bool.{cond-true, cond-false}
 use Rattle.units.specs.Runs.{level_of, remains, size_of, successor}
 use Rattle.sequences.specs.BackwardPasses.{AreMarked}
-use Rattle.sequences.proofs.Backward.{back_known, back_step, end_is}
+use Rattle.sequences.proofs.Backward.{back_known, back_step, end_is, removed_mark}
 use Rattle.sequences.proofs.Marks.{marked_all}
 use Rattle.sequences.proofs.linking.link.Goals as goal
 
@@ -25,9 +25,12 @@ link_level-p-requires-clause-follow g c =
     let t = c.args.t.now in
     let p = c.loop-p.p - 1 in
     let here : level_of t p ≡ Some c.in-Some.level = sym c.level-level.ensures.value ∙ c.in-Some.is in
+    let link : Option ℕ = c.go_on-link.result.link in
+    let later : IfSome link (λ q. (p < q) × (q < size_of t)) = c.go_on-link.ensures.later in
     rw (
       c.link_to.ensures,
       c.mark.ensures,
+      removed_mark c.loop-p.joined p (size_of t) link later,
     ) (back_step c.loop-p.invariant.0 p (omega arith) c.len-p.ensures.leveled c.go_on-link.result.link
     c.go_on-link.ensures.link
     c.go_on-link.result.end c.go_on-link.ensures.end _ (sym (cond-true (remains t p) _ _ (ap is_some here))))
@@ -44,10 +47,13 @@ pub loop-p-preserved : goal.loop-p-preserved
 loop-p-preserved g c =
     let t = c.args.t.now in
     let p = c.loop-p.p - 1 in
-    let here : level_of t p ≡ None = sym c.level-level.ensures.value ∙ c.in_default.is in (
+    let here : level_of t p ≡ None = sym c.level-level.ensures.value ∙ c.in_default.is in
+    let link : Option ℕ = c.go_on-link.result.link in
+    let later : IfSome link (λ q. (p < q) × (q < size_of t)) = c.go_on-link.ensures.later in (
       rw (
         c.link_to.ensures,
         c.mark.ensures,
+        removed_mark c.loop-p.joined p (size_of t) link later,
       ) (back_step c.loop-p.invariant.0 p
           (omega arith) c.len-p.ensures.leveled c.go_on-link.result.link c.go_on-link.ensures.link
           c.go_on-link.result.end c.go_on-link.ensures.end _ (sym (cond-false (remains t p) _ _ (ap is_some here)))),

@@ -1,0 +1,62 @@
+-- Successive positions that a pass handles eight at a time.
+use Rattle.std.specs.Prelude.{Option, Some, ℕ, zero, suc, ◌+◌, ◌<◌, ◌≤◌, ◌≡◌, Bool, true, false, not, ◌&&◌, ◌||◌, List, length, slice_index_or, refl}
+use Rattle.std.proofs.Common.{arith, ap, sym, ◌∙◌, subst, set, inl, inr}
+use Rattle.std.proofs.lemmas.Bool.{cases_eq, cases_lt, and_parts, or_parts}
+use Rattle.std.proofs.lemmas.List.{get_or-set_other, get_or-set_same}
+use Rattle.sequences.specs.Blocks.{IsWritten}
+
+-- what holds of eight successive positions, holds of each
+module _ (P : ℕ → Type 0) (k : ℕ) where
+  each_of_four : P k → P (k + 1) → P (k + 2) → P (k + 3) → (p : ℕ) → k ≤ p → p < k + 4 → P p
+  each_of_four p0 p1 p2 p3 p low high =
+      elim (cases_eq p k) [
+        | inl e ↦ subst P (sym e) p0
+        | inr n0 ↦ elim (cases_eq p (k + 1)) [
+          | inl e ↦ subst P (sym e) p1
+          | inr n1 ↦ elim (cases_eq p (k + 2)) [
+            | inl e ↦ subst P (sym e) p2
+            | inr n2 ↦ let e : p ≡ k + 3 = omega arith in subst P (sym e) p3
+          ]
+        ]
+      ]
+
+-- each position of eight passes a test, if all their results are true
+pub all_of_eight : (test : ℕ → Bool) (k : ℕ) (a b c d e f g h : Bool) → a ≡ test k → b ≡ test (k + 1) →
+    c ≡ test (k + 2) → d ≡ test (k + 3) → e ≡ test (k + 4) → f ≡ test (k + 5) → g ≡ test (k + 6) → h ≡ test (k + 7) →
+    (((((((a && b) && c) && d) && e) && f) && g) && h) ≡ true → (p : ℕ) → k ≤ p → p < k + 8 → test p ≡ true
+all_of_eight test k a b c d e f g h at0 at1 at2 at3 at4 at5 at6 at7 all p low high =
+    let P : ℕ → Type 0 = λ q. test q ≡ true in
+    let h7 = and_parts _ h all in
+    let h6 = and_parts _ g h7.0 in
+    let h5 = and_parts _ f h6.0 in
+    let h4 = and_parts _ e h5.0 in
+    let h3 = and_parts _ d h4.0 in
+    let h2 = and_parts _ c h3.0 in
+    let h1 = and_parts a b h2.0 in
+    elim (cases_lt p (k + 4)) [
+      | inl near ↦ each_of_four P k (sym at0 ∙ h1.0) (sym at1 ∙ h1.1) (sym at2 ∙ h2.1) (sym at3 ∙ h3.1) p low near
+      | inr far ↦ let s1 : k + 5 ≡ k + 4 + 1 = omega arith in let s2 : k + 6 ≡ k + 4 + 2 = omega arith in
+          let s3 : k + 7 ≡ k + 4 + 3 = omega arith in
+          each_of_four P (k + 4) (sym at4 ∙ h4.1) (subst P s1 (sym at5 ∙ h5.1)) (subst P s2 (sym at6 ∙ h6.1))
+              (subst P s3 (sym at7 ∙ h7.1)) p far (omega arith)
+    ]
+
+-- before the first write nothing has changed
+pub written_none : {X : Type 0} (default : X) (value : ℕ → X) (from : ℕ) (xs : List X) →
+    IsWritten default value from from xs xs
+written_none default value from xs = record {
+  written = λ p low high. absurd (omega arith);
+  unchanged = λ p past. refl;
+}
+
+-- one item more is written
+pub written_more : {X : Type 0} (default : X) (value : ℕ → X) (from end : ℕ) (old new : List X) →
+    IsWritten default value from end old new → end < length new → (v : X) → v ≡ value end →
+    IsWritten default value from (end + 1) old (set new end v)
+written_more default value from end old new w room v e = record {
+  written = λ p low high. elim (cases_eq p end) [
+    | inl same ↦ rw same (get_or-set_same new end v default room ∙ e)
+    | inr other ↦ get_or-set_other new end p v default other ∙ w.written p low (omega arith)
+  ];
+  unchanged = λ p past. get_or-set_other new end p v default (omega arith) ∙ w.unchanged p (omega arith);
+}
