@@ -6,9 +6,9 @@ use Rattle.std.proofs.lemmas.List.{get_or-set_other, get_or-set_same}
 use Rattle.sequences.specs.Blocks.{IsWritten}
 
 -- what holds of eight successive positions, holds of each
-module _ (P : ℕ → Type 0) (k : ℕ) where
-  each_of_four : P k → P (k + 1) → P (k + 2) → P (k + 3) → (p : ℕ) → k ≤ p → p < k + 4 → P p
-  each_of_four p0 p1 p2 p3 p low high =
+module _ (P : ℕ → Type 0) where
+  each_of_four : (k : ℕ) → P k → P (k + 1) → P (k + 2) → P (k + 3) → (p : ℕ) → k ≤ p → p < k + 4 → P p
+  each_of_four k p0 p1 p2 p3 p low high =
       elim (cases_eq p k) [
         | inl e ↦ subst P (sym e) p0
         | inr n0 ↦ elim (cases_eq p (k + 1)) [
@@ -20,26 +20,26 @@ module _ (P : ℕ → Type 0) (k : ℕ) where
         ]
       ]
 
--- each position of eight passes a test, if all their results are true
-pub all_of_eight : (test : ℕ → Bool) (k : ℕ) (a b c d e f g h : Bool) → a ≡ test k → b ≡ test (k + 1) →
-    c ≡ test (k + 2) → d ≡ test (k + 3) → e ≡ test (k + 4) → f ≡ test (k + 5) → g ≡ test (k + 6) → h ≡ test (k + 7) →
-    (((((((a && b) && c) && d) && e) && f) && g) && h) ≡ true → (p : ℕ) → k ≤ p → p < k + 8 → test p ≡ true
-all_of_eight test k a b c d e f g h at0 at1 at2 at3 at4 at5 at6 at7 all p low high =
-    let P : ℕ → Type 0 = λ q. test q ≡ true in
-    let h7 = and_parts _ h all in
-    let h6 = and_parts _ g h7.0 in
-    let h5 = and_parts _ f h6.0 in
-    let h4 = and_parts _ e h5.0 in
-    let h3 = and_parts _ d h4.0 in
-    let h2 = and_parts _ c h3.0 in
-    let h1 = and_parts a b h2.0 in
-    elim (cases_lt p (k + 4)) [
-      | inl near ↦ each_of_four P k (sym at0 ∙ h1.0) (sym at1 ∙ h1.1) (sym at2 ∙ h2.1) (sym at3 ∙ h3.1) p low near
-      | inr far ↦ let s1 : k + 5 ≡ k + 4 + 1 = omega arith in let s2 : k + 6 ≡ k + 4 + 2 = omega arith in
-          let s3 : k + 7 ≡ k + 4 + 3 = omega arith in
-          each_of_four P (k + 4) (sym at4 ∙ h4.1) (subst P s1 (sym at5 ∙ h5.1)) (subst P s2 (sym at6 ∙ h6.1))
-              (subst P s3 (sym at7 ∙ h7.1)) p far (omega arith)
-    ]
+  -- each of eight, if all eight tests are true
+  pub all_of_eight : (k : ℕ) (a b c d e f g h : Bool) → (a ≡ true → P k) → (b ≡ true → P (k + 1)) → (c ≡ true → P (k + 2)) →
+      (d ≡ true → P (k + 3)) → (e ≡ true → P (k + 4)) → (f ≡ true → P (k + 5)) → (g ≡ true → P (k + 6)) →
+      (h ≡ true → P (k + 7)) →
+      (((((((a && b) && c) && d) && e) && f) && g) && h) ≡ true → (p : ℕ) → k ≤ p → p < k + 8 → P p
+  all_of_eight k a b c d e f g h at0 at1 at2 at3 at4 at5 at6 at7 all p low high =
+      let h7 = and_parts _ h all in
+      let h6 = and_parts _ g h7.0 in
+      let h5 = and_parts _ f h6.0 in
+      let h4 = and_parts _ e h5.0 in
+      let h3 = and_parts _ d h4.0 in
+      let h2 = and_parts _ c h3.0 in
+      let h1 = and_parts a b h2.0 in
+      elim (cases_lt p (k + 4)) [
+        | inl near ↦ each_of_four k (at0 h1.0) (at1 h1.1) (at2 h2.1) (at3 h3.1) p low near
+        | inr far ↦ let s1 : k + 5 ≡ k + 4 + 1 = omega arith in let s2 : k + 6 ≡ k + 4 + 2 = omega arith in
+            let s3 : k + 7 ≡ k + 4 + 3 = omega arith in
+            each_of_four (k + 4) (at4 h4.1) (subst P s1 (at5 h5.1)) (subst P s2 (at6 h6.1)) (subst P s3 (at7 h7.1)) p
+                far (omega arith)
+      ]
 
 -- before the first write nothing has changed
 pub written_none : {X : Type 0} (default : X) (value : ℕ → X) (from : ℕ) (xs : List X) →

@@ -1,9 +1,14 @@
 -- Following links passes each position and then the rest, in rising order.
 use Rattle.std.specs.Prelude.{Option, ℕ, zero, suc, ◌+◌, ◌<◌, ◌≤◌, ◌≡◌, List, [], ◌∷◌, ◌++◌, length, Some, None, IfSome, slice_index, slice_get, refl}
-use Rattle.std.proofs.Common.{arith, ap, sym, ◌∙◌, subst, append_assoc}
+use Rattle.std.proofs.Common.{arith, ap, sym, ◌∙◌, subst, append_assoc, inl, inr}
+use Rattle.std.proofs.lemmas.Bool.{cases_lt}
+use Rattle.std.proofs.lemmas.List.{length-append}
 use Rattle.std.proofs.lemmas.Option.{IfSome_then}
+use Rattle.units.specs.Positions.{positions_from}
 use Rattle.units.specs.Runs.{followed}
-use Rattle.sequences.specs.Links.{link_at, linked, IsForward, LinksForward, ArePositions}
+use Rattle.units.proofs.Positions.{length-positions_from}
+use Rattle.sequences.specs.Blocks.{LeadOn}
+use Rattle.sequences.specs.Links.{link_at, linked, IsForward, IsLinkedStretch, LinksForward, ArePositions}
 
 -- each position is at least low and below high, in rising order
 abbrev pub IsRising : ℕ → ℕ → List ℕ → Type 0
@@ -127,3 +132,53 @@ pub pushed_to : (links : List (Option ℕ)) → LinksForward links → (whole pu
     (next : Option ℕ) → next ≡ link_at links p → IsPushed links whole pushed next
 pushed_to links h whole pushed p e next n =
     rw n (record { within = IfSome_then (link_at links p) (h p) (λ q v. v.1); all = e })
+
+-- several positions from p on are each linked to the one right after it
+module _ (links : List (Option ℕ)) (h : LinksForward links) where
+  -- the last of the positions that they lead to
+  pub led_within : (p q : ℕ) → link_at links p ≡ Some q → q < length links
+  led_within p q e =
+      let P : Option ℕ → Type 0 = λ o. IfSome o (λ r. (p < r) × (r < length links)) in
+      let later : (p < q) × (q < length links) = subst P e (h p) in later.1
+
+  pub linked_run : (count p : ℕ) → LeadOn links p (p + count) →
+      linked links (link_at links p) ≡ positions_from (p + 1) count ++ linked links (link_at links (p + count))
+  linked_run zero p on = let e : p ≡ p + 0 = omega arith in ap (λ k. linked links (link_at links k)) e
+  linked_run (suc count) p on =
+      let led : link_at links p ≡ Some (p + 1) = on p (omega arith) (omega arith) in
+      let end : p + 1 + count ≡ p + suc count = omega arith in
+      ap (linked links) led
+      ∙ linked-some links (p + 1) h (led_within p (p + 1) led)
+      ∙ ap (λ (ps : List ℕ). (p + 1) ∷ ps) (linked_run count (p + 1) (λ q low high. on q (omega arith) (omega arith)))
+      ∙ ap (λ k. positions_from (p + 1) (suc count) ++ linked links (link_at links k)) end
+
+  module _ (first p : ℕ) (s : IsLinkedStretch links first p) (on : LeadOn links p (p + 8)) where
+    pub stretch_eight : IsLinkedStretch links first (p + 8)
+    stretch_eight =
+        let last : p + 7 + 1 ≡ p + 8 = omega arith in
+        let P : ℕ → Type 0 = λ k. k < length links in
+        record {
+          later = omega (arith, s.later);
+          within = subst P last (led_within (p + 7) (p + 7 + 1) (on (p + 7) (omega arith) (omega arith)));
+          each = λ q low high. elim (cases_lt q p) [
+            | inl before ↦ s.each q low before
+            | inr past ↦ on q past high
+          ];
+        }
+
+    -- of the positions that are left, these are the first eight
+    pub left_eight : length (linked links (link_at links p)) ≡ 8 + length (linked links (link_at links (p + 8)))
+    left_eight =
+        let rest : List ℕ = linked links (link_at links (p + 8)) in
+        ap length (linked_run 8 p on)
+        ∙ length-append (positions_from (p + 1) 8) rest
+        ∙ ap (λ n. n + length rest) (length-positions_from (p + 1) 8)
+
+    pub pushed_eight : (whole pushed more : List ℕ) → pushed ++ linked links (link_at links p) ≡ whole →
+        more ≡ pushed ++ positions_from (p + 1) 8 → more ++ linked links (link_at links (p + 8)) ≡ whole
+    pushed_eight whole pushed more w e =
+        let rest : List ℕ = linked links (link_at links (p + 8)) in
+        ap (λ (ps : List ℕ). ps ++ rest) e
+        ∙ append_assoc pushed (positions_from (p + 1) 8) rest
+        ∙ ap (λ (ps : List ℕ). pushed ++ ps) (sym (linked_run 8 p on))
+        ∙ w

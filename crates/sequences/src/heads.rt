@@ -1,7 +1,9 @@
 //! The heads of the sequences: where each one begins, its level, and its sos and eos (BD13, X10).
-ghost use Rattle.std.specs.Prelude.{◌≡◌, ◌≤◌, ◌+◌, ◌-◌, ◌++◌, ◌<◌, ◌↔◌, IfSome, IsTrue, Some, length, take};
+ghost use Rattle.std.specs.Prelude.{◌≡◌, ◌≤◌, ◌+◌, ◌-◌, ◌++◌, ◌<◌, ◌↔◌, IfSome, IsTrue, Some, true, not, length, take};
+ghost use Rattle.units.specs.Positions.{positions_from};
 ghost use Rattle.units.specs.Runs.{size_of, last_remaining, begins_sequence, sequence_from};
-ghost use Rattle.sequences.specs.Links.{IsLinkedStretch, link_at, linked, LinksForward};
+ghost use Rattle.sequences.specs.Blocks.{AreJoined, LeadOn};
+ghost use Rattle.sequences.specs.Links.{IsLinkedStretch, is_joined, link_at, linked, LinksForward};
 ghost use Rattle.sequences.specs.Heads.{IsMarked, HasEnds, AreSuccessors, head_at, heads_of, column_of};
 
 use crate::leveled::Leveled;
@@ -49,6 +51,107 @@ fn leads_on(links: &[OptionalPosition], p: usize) -> bool
     links[p] == OptionalPosition::some(p + 1)
 }
 
+/// Returns whether each of the eight positions from `first` on is linked to the one right after it.
+fn lead_on_eight(links: &[OptionalPosition], first: usize) -> bool
+    requires small { length links.now < u32.MAX }
+    requires here { first + 8 ≤ length links.now }
+    ensures { result ≡ true → LeadOn links.now first (first + 8) }
+{
+    leads_on(links, first)
+        & leads_on(links, first + 1)
+        & leads_on(links, first + 2)
+        & leads_on(links, first + 3)
+        & leads_on(links, first + 4)
+        & leads_on(links, first + 5)
+        & leads_on(links, first + 6)
+        & leads_on(links, first + 7)
+}
+
+/// Returns the position that `p` is linked to, which is the one right after it.
+fn next_of(links: &[OptionalPosition], p: usize) -> u32
+    requires small { length links.now < u32.MAX }
+    requires here { p < length links.now }
+    requires linked { link_at links.now p ≡ Some (p + 1) }
+    ensures { result ≡ p + 1 }
+{
+    match links[p].get() {
+        Some(next) => next as u32,
+        None => unreachable!(),
+    }
+}
+
+/// Returns the eight positions that the links lead to from `p` on.
+fn next_eight(links: &[OptionalPosition], p: usize) -> [u32; 8]
+    requires small { length links.now < u32.MAX }
+    requires here { p + 8 ≤ length links.now }
+    requires linked { LeadOn links.now p (p + 8) }
+    ensures { result ≡ positions_from (p + 1) 8 }
+{
+    [
+        next_of(links, p),
+        next_of(links, p + 1),
+        next_of(links, p + 2),
+        next_of(links, p + 3),
+        next_of(links, p + 4),
+        next_of(links, p + 5),
+        next_of(links, p + 6),
+        next_of(links, p + 7),
+    ]
+}
+
+/// Writes the eight positions that the links lead to from `p` on into the column, from `at` on. Each written position is
+/// a step.
+fn write_eight<L: Ledger>(
+    links: &[OptionalPosition],
+    p: usize,
+    column: &mut [u32],
+    at: usize,
+    steps: &mut Steps<L>,
+)
+    requires small { length links.now < u32.MAX }
+    requires here { p + 8 ≤ length links.now }
+    requires linked { LeadOn links.now p (p + 8) }
+    requires room { at + 8 ≤ length column.old }
+    ensures column { take (at + 8) column.new ≡ take at column.old ++ positions_from (p + 1) 8 }
+    ensures steps { steps.new ≡ steps.old + 8 }
+{
+    // All links are read before the first write, so that the compiler can copy them together.
+    let next = next_eight(links, p);
+    for k in 0..8 {
+        steps.tick();
+        column[at + k] = next[k];
+    }
+}
+
+/// Writes the positions after `first` into the column, from `at` on, eight at a time, as long as each position before
+/// them is linked to the one right after it. Returns the last of these positions, or `first` if there is none. Each
+/// written position is a step.
+fn write_eights<L: Ledger>(
+    links: &[OptionalPosition],
+    first: usize,
+    column: &mut [u32],
+    at: usize,
+    steps: &mut Steps<L>,
+) -> usize
+    requires small { length links.now < u32.MAX }
+    requires linked { LinksForward links.now }
+    requires first { first < length links.now }
+    requires room { at + length (linked links.now (link_at links.now first)) ≤ length column.old }
+    ensures stretch { IsLinkedStretch links.now first result }
+    ensures column { take (at + (result - first)) column.new ++ linked links.now (link_at links.now result)
+        ≡ take at column.old ++ linked links.now (link_at links.now first) }
+    ensures rest { at + (result - first) + length (linked links.now (link_at links.now result))
+        ≡ at + length (linked links.now (link_at links.now first)) }
+    ensures steps { steps.new + first ≡ steps.old + result }
+{
+    let mut p = first;
+    while leads_on(links, p) && links.len() - p >= 8 && lead_on_eight(links, p) {
+        write_eight(links, p, column, at + (p - first), steps);
+        p += 8;
+    }
+    p
+}
+
 /// Writes `first` into the column at `start`, followed by the positions after it, as long as each one is linked to the
 /// one right after it. Returns the last of these positions. Each written position is a step.
 fn write_stretch<L: Ledger>(
@@ -69,9 +172,9 @@ fn write_stretch<L: Ledger>(
         ≡ start + length (linked links.now (Some first)) }
     ensures steps { steps.new + first ≡ steps.old + result + 1 }
 {
-    let mut p = first;
     steps.tick();
     column[start] = first as u32;
+    let mut p = write_eights(links, first, column, start + 1, steps);
     while leads_on(links, p) {
         p += 1;
         steps.tick();

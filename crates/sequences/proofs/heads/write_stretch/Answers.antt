@@ -1,7 +1,8 @@
-use Rattle.std.proofs.Common.{arith, ap, ◌≡◌, ◌+◌, ◌-◌, ◌<◌, ◌∙◌, ℕ, List, length, take, set, refl, inl, inr, [], ◌∷◌, ◌++◌}
+use Rattle.std.proofs.Common.{arith, ap, sym, Some, append_assoc, ◌≡◌, ◌+◌, ◌-◌, ◌<◌, ◌∙◌, ℕ, List, length, take, set, refl, inl, inr, [], ◌∷◌, ◌++◌}
 use Rattle.std.proofs.lemmas.Bool.{cases_eq}
 use Rattle.std.proofs.lemmas.List.{length-set, take_more_set}
-use Rattle.sequences.proofs.Links.{linked-some, pushed_within, pushed_step, pushed_more, pushed_first}
+use Rattle.sequences.specs.Links.{link_at, linked}
+use Rattle.sequences.proofs.Links.{linked-some, pushed_to, pushed_within, pushed_step, pushed_more}
 use Rattle.sequences.proofs.heads.write_stretch.Goals as goal
 
 pub bounds-column-start : goal.bounds-column-start
@@ -12,21 +13,40 @@ bounds-column-start g c =
       ap length (linked-some c.args.links.now c.args.first c.requires.linked c.requires.first),
     )
 
+pub write_eights-p-requires-clause-room : goal.write_eights-p-requires-clause-room
+write_eights-p-requires-clause-room g c =
+    omega (
+      arith,
+      c.requires.room,
+      ap length (linked-some c.args.links.now c.args.first c.requires.linked c.requires.first),
+      length-set c.args.column.now c.args.start c.args.first,
+    )
+
 pub loop-p-init : goal.loop-p-init
 loop-p-init g c =
+    let links = c.args.links.now in
     let first : ℕ = c.args.first in
     let start : ℕ = c.args.start in
     let column : List ℕ = c.args.column.now in
-    let step = linked-some c.args.links.now first c.requires.linked c.requires.first in
+    let step = linked-some links first c.requires.linked c.requires.first in
     let room : start < length column = omega (arith, c.requires.room, ap length step) in
-    let one : start + (first - first) + 1 ≡ start + 1 = omega arith in
+    let w = c.write_eights-p.ensures in
+    let p : ℕ = c.write_eights-p.result in
+    let new : List ℕ = c.write_eights-p.new.column in
+    let rest : List ℕ = linked links (link_at links first) in
+    let end : start + (p - first) + 1 ≡ start + 1 + (p - first) = omega arith in
+    let all : take (start + (p - first) + 1) new ++ linked links (link_at links p) ≡
+    take start column ++ linked links (Some first) =
+    ap (λ (k : ℕ). take k new ++ linked links (link_at links p)) end
+    ∙ w.column
+    ∙ ap (λ (ps : List ℕ). ps ++ rest) (take_more_set column start first room)
+    ∙ append_assoc (take start column) (first ∷ []) rest
+    ∙ ap (λ (ps : List ℕ). take start column ++ ps) (sym step) in
     record {
-      stretch = record { later = omega arith; within = c.requires.first; each = λ p low high. absurd (omega arith) };
-      pushed = pushed_more c.requires.linked (pushed_first c.args.links.now first c.requires.first (take start column))
-          first refl _
-          (ap (λ (k : ℕ). take k (set column start first)) one ∙ take_more_set column start first room) _ refl;
-      rest = omega (arith, ap length step);
-      steps = omega (arith, c.tick.ensures);
+      stretch = w.stretch;
+      pushed = pushed_to links c.requires.linked _ _ p all _ refl;
+      rest = omega (arith, end, w.rest, ap length step);
+      steps = omega (arith, c.tick.ensures, w.steps);
     }
 
 pub bounds-column-start-in-loop-p : goal.bounds-column-start-in-loop-p
@@ -40,6 +60,7 @@ bounds-column-start-in-loop-p g c =
       l.invariant.rest,
       ap length step,
       l.auto.column,
+      c.write_eights-p.auto.column,
       length-set c.args.column.now c.args.start c.args.first,
     )
 
@@ -59,6 +80,7 @@ loop-p-preserved g c =
       l.invariant.rest,
       ap length step,
       l.auto.column,
+      c.write_eights-p.auto.column,
       length-set c.args.column.now c.args.start c.args.first,
     ) in
     record {
