@@ -1,14 +1,19 @@
 -- The heads and the column, filled from the first position on.
-use Rattle.std.specs.Prelude.{Option, Some, ℕ, zero, suc, true, false, ◌+◌, ◌-◌, ◌<◌, ◌≤◌, ◌≡◌, List, [], ◌∷◌, ◌++◌, length, IfSome}
+use Rattle.std.specs.Prelude.{Option, Some, ℕ, zero, suc, Bool, true, false, ◌+◌, ◌-◌, ◌<◌, ◌≤◌, ◌≡◌, List, [], ◌∷◌, ◌++◌, length, IfSome}
 use Rattle.std.proofs.Common.{arith, ap, sym, subst, take, refl, ◌∙◌, ◌⊎◌, inl, inr}
-use Rattle.std.proofs.lemmas.Bool.{cond-true, cond-false, false≢true}
+use Rattle.std.specs.List.{list_any}
+use Rattle.std.proofs.lemmas.Bool.{cases_eq, cond-true, cond-false, false≢true}
 use Rattle.std.proofs.lemmas.List.{length_push, length-take-le}
+use Rattle.units.specs.Positions.{positions_from, same_position}
 use Rattle.units.specs.Runs.{LeveledView, size_of, remains, last_remaining, begins_sequence, sequence_from, successor}
 use Rattle.explicit.specs.Leveled.{IsLeveled}
 use Rattle.sequences.specs.declared.heads.Head.{Head}
-use Rattle.sequences.specs.Heads.{head_at, heads_from, firsts_before, column_before}
+use Rattle.sequences.specs.Blocks.{AreJoined}
+use Rattle.sequences.specs.Links.{is_joined}
+use Rattle.sequences.specs.Heads.{IsMarked, head_at, heads_from, firsts_before, column_before}
 use Rattle.explicit.specs.Leveled.{IsNested}
-use Rattle.sequences.proofs.Once.{begins_once, leads_to_remaining}
+use Rattle.sequences.proofs.Nearest.{any_from}
+use Rattle.sequences.proofs.Once.{begins_once, leads_to_remaining, same_from}
 use Rattle.sequences.proofs.Column.{heads_push, heads_same, column_push, column_same, column_room}
 
 -- the sequences that begin before k are stored
@@ -97,12 +102,52 @@ head_pass_at t k heads column d r =
       last_within = omega arith;
     }
 
--- or after a removed position, which the pass came to
-pub head_pass_next : {t : LeveledView} {p next : ℕ} {heads : List Head} {column : List ℕ} {last : Option ℕ} →
-    HeadPass t p heads column last → (next ≡ p) ⊎ (remains t next ≡ true) →
-    (new : List Head) (more : List ℕ) → Stored t (next + 1) new more → remains t next ≡ false →
-    HeadPass t (next + 1) new more last
-head_pass_next {t} {p} {next} {heads} {column} {last} w (inl e) new more d r =
-    let P : ℕ → Type 0 = λ k. Stored t (k + 1) new more → remains t k ≡ false → HeadPass t (k + 1) new more last in
-    subst P (sym e) (λ d' r'. head_pass_same w d' r') d r
-head_pass_next w (inr s) new more d r = absurd (false≢true (sym r ∙ s))
+-- or after a removed position
+pub head_pass_next : {t : LeveledView} {p : ℕ} {heads : List Head} {column : List ℕ} {last : Option ℕ} →
+    HeadPass t p heads column last → begins_sequence t p ≡ false → remains t p ≡ false →
+    HeadPass t (p + 1) heads column last
+head_pass_next w b r = head_pass_same w (stored_same w.stored _ _ b refl refl) r
+
+-- or after several positions that others lead to
+module _ (t : LeveledView) (h : IsLeveled t) (n : IsNested t) (joined : List Bool) (marks : IsMarked t joined)
+    (end : ℕ) (within : end ≤ size_of t) where
+  led_there : (q : ℕ) → q < size_of t → is_joined joined q ≡ true →
+      list_any (λ p. same_position (successor t p) (Some q)) (positions_from 0 (size_of t)) ≡ true
+  led_there q l j = sym (marks q l) ∙ j
+
+  joined_free : (q : ℕ) → q < size_of t → is_joined joined q ≡ true → begins_sequence t q ≡ false
+  joined_free q l j = let led = any_from _ 0 (size_of t) (led_there q l j) in
+      begins_once t h n q led.0 (same_from (successor t led.0) q led.1)
+
+  joined_remains : (q : ℕ) → q < size_of t → is_joined joined q ≡ true → remains t q ≡ true
+  joined_remains q l j =
+      let led = any_from _ 0 (size_of t) (led_there q l j) in
+      let P : Option ℕ → Type 0 = λ o. IfSome o (λ y. remains t y ≡ true) in
+      subst P (same_from (successor t led.0) q led.1) (leads_to_remaining t h n led.0)
+
+  stored_joined : (count k : ℕ) → k + count ≡ end → AreJoined joined k end → (heads : List Head) (column : List ℕ) →
+      Stored t k heads column → Stored t end heads column
+  stored_joined zero k e on heads column w =
+      let same : k ≡ end = omega (arith, e) in
+      let P : ℕ → Type 0 = λ j. Stored t j heads column in subst P same w
+  stored_joined (suc count) k e on heads column w =
+      let here : is_joined joined k ≡ true = on k (omega arith) (omega (arith, e)) in
+      stored_joined count (k + 1) (omega (arith, e)) (λ q low high. on q (omega arith) high) heads column
+      (stored_same w heads column (joined_free k (omega (arith, e)) here) refl refl)
+
+  -- p itself remains, and no sequence begins there
+  pub head_pass_joined : (p : ℕ) → p < end → remains t p ≡ true → begins_sequence t p ≡ false →
+      AreJoined joined (p + 1) end → (heads : List Head) (column : List ℕ) → Stored t p heads column →
+      HeadPass t end heads column (Some (end - 1))
+  head_pass_joined p before r b on heads column w =
+      let last : ℕ = end - 1 in
+      let next : end ≡ last + 1 = omega arith in
+      let stored : Stored t end heads column =
+      stored_joined (end - (p + 1)) (p + 1) (omega arith) on heads column (stored_same w heads column b refl refl) in
+      let S : ℕ → Type 0 = λ k. Stored t k heads column in
+      let H : ℕ → Type 0 = λ k. HeadPass t k heads column (Some last) in
+      let there : remains t last ≡ true = elim (cases_eq last p) [
+        | inl same ↦ ap (remains t) same ∙ r
+        | inr other ↦ joined_remains last (omega arith) (on last (omega arith) (omega arith))
+      ] in
+      subst H (sym next) (head_pass_at t last heads column (subst S next stored) there)

@@ -34,7 +34,7 @@ one_if-same x p e = cond-true (x == p) 1 0 (eq-eqb x p e)
 pub one_if-other : (x p : ℕ) → (x ≡ p → ⊥) → one_if x p ≡ 0
 one_if-other x p e = cond-false (x == p) 1 0 (ne_eqb x p e)
 
-same_from : (o : Option ℕ) (p : ℕ) → same_position o (Some p) ≡ true → o ≡ Some p
+pub same_from : (o : Option ℕ) (p : ℕ) → same_position o (Some p) ≡ true → o ≡ Some p
 same_from None p e = absurd (false≢true e)
 same_from (Some x) p e = ap Some (eqb-true x p e)
 

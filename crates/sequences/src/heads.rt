@@ -249,6 +249,65 @@ pub struct LinkedPositions<'a> {
     pub joined: &'a [bool],
 }
 
+/// Returns whether no other position is linked to this one.
+fn is_free(joined: &[bool], p: usize) -> bool
+    requires { p < length joined.now }
+    ensures { result ≡ not (is_joined joined.now p) }
+{
+    !joined[p]
+}
+
+/// Returns whether another position is linked to each of the eight positions from `first` on.
+fn are_eight_joined(joined: &[bool], first: usize) -> bool
+    requires { first + 8 ≤ length joined.now }
+    ensures { result ≡ true → AreJoined joined.now first (first + 8) }
+{
+    !(is_free(joined, first)
+        | is_free(joined, first + 1)
+        | is_free(joined, first + 2)
+        | is_free(joined, first + 3)
+        | is_free(joined, first + 4)
+        | is_free(joined, first + 5)
+        | is_free(joined, first + 6)
+        | is_free(joined, first + 7))
+}
+
+/// Skips positions from `from` on, eight at a time, as long as another position is linked to each of them. Returns the
+/// position after them. Each skipped position is a step.
+fn pass_eights<L: Ledger>(joined: &[bool], from: usize, end: usize, steps: &mut Steps<L>) -> usize
+    requires from { from ≤ end }
+    requires room { end ≤ length joined.now }
+    ensures later { from ≤ result }
+    ensures within { result ≤ end }
+    ensures passed { AreJoined joined.now from result }
+    ensures steps { steps.new + from ≡ steps.old + result }
+{
+    let mut p = from;
+    while end - p >= 8 && !is_free(joined, p) && are_eight_joined(joined, p) {
+        steps.add(8);
+        p += 8;
+    }
+    p
+}
+
+/// Skips positions from `from` on, before `end`, as long as another position is linked to each of them. Returns the
+/// position after them. Each skipped position is a step.
+fn pass_joined<L: Ledger>(joined: &[bool], from: usize, end: usize, steps: &mut Steps<L>) -> usize
+    requires from { from ≤ end }
+    requires room { end ≤ length joined.now }
+    ensures later { from ≤ result }
+    ensures within { result ≤ end }
+    ensures passed { AreJoined joined.now from result }
+    ensures steps { steps.new + from ≡ steps.old + result }
+{
+    let mut p = pass_eights(joined, from, end, steps);
+    while p < end && !is_free(joined, p) {
+        steps.tick();
+        p += 1;
+    }
+    p
+}
+
 /// Writes the heads of the sequences in the order of their first positions, and the positions of each sequence into one
 /// column, both from the front on. Returns the number of sequences. A sequence never begins at a position that another
 /// one is linked to, so the pass skips the positions that are written without a gap. Each position of the paragraph is
@@ -279,20 +338,24 @@ pub fn fill_heads<L: Ledger>(
     let mut last = None;
     let mut p = 0;
     while p < t.len() {
-        steps.tick();
         if begins(t, positions.joined, p) {
             let written = write_linked(positions.links, p, column, end, steps);
             heads[count] = make_head(t, positions.ends, last, p, end, written.end);
             count += 1;
             end = written.end;
             // The loop skips these positions, but each position of the paragraph counts as a step.
-            steps.add(written.last - p);
-            p = written.last;
+            steps.add(written.last - p + 1);
+            last = Some(written.last);
+            p = written.last + 1;
+        } else if t.level(p).is_some() {
+            // Another position is linked to this one.
+            steps.tick();
+            p = pass_joined(positions.joined, p + 1, t.len(), steps);
+            last = Some(p - 1);
+        } else {
+            steps.tick();
+            p += 1;
         }
-        if t.level(p).is_some() {
-            last = Some(p);
-        }
-        p += 1;
     }
     count
 }
