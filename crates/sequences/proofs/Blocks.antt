@@ -1,6 +1,6 @@
 -- Successive positions that a pass handles eight at a time.
-use Rattle.std.specs.Prelude.{Option, Some, ℕ, zero, suc, ◌+◌, ◌<◌, ◌≤◌, ◌≡◌, Bool, true, false, not, ◌&&◌, ◌||◌, List, length, slice_index_or, refl}
-use Rattle.std.proofs.Common.{arith, ap, sym, ◌∙◌, subst, set, inl, inr}
+use Rattle.std.specs.Prelude.{ℕ, ◌+◌, ◌<◌, ◌≤◌, ◌≡◌, Bool, true, false, not, ◌&&◌, ◌||◌, List, length, refl}
+use Rattle.std.proofs.Common.{arith, sym, ◌∙◌, subst, set, inl, inr}
 use Rattle.std.proofs.lemmas.Bool.{cases_eq, cases_lt, and_parts, or_parts, not-true, false≢true}
 use Rattle.std.proofs.lemmas.List.{get_or-set_other, get_or-set_same}
 use Rattle.sequences.specs.Blocks.{AreJoined, IsWritten}

@@ -1,8 +1,8 @@
 -- The heads and the column, filled from the first position on.
 use Rattle.std.specs.Prelude.{Option, Some, ℕ, zero, suc, Bool, true, false, ◌+◌, ◌-◌, ◌<◌, ◌≤◌, ◌≡◌, List, [], ◌∷◌, ◌++◌, length, IfSome}
-use Rattle.std.proofs.Common.{arith, ap, sym, subst, take, refl, ◌∙◌, ◌⊎◌, inl, inr}
+use Rattle.std.proofs.Common.{arith, ap, sym, subst, take, refl, ◌∙◌, inl, inr}
 use Rattle.std.specs.List.{list_any}
-use Rattle.std.proofs.lemmas.Bool.{cases_eq, cond-true, cond-false, false≢true}
+use Rattle.std.proofs.lemmas.Bool.{cases_eq, cond-true, cond-false}
 use Rattle.std.proofs.lemmas.List.{length_push, length-take-le}
 use Rattle.units.specs.Positions.{positions_from, same_position}
 use Rattle.units.specs.Runs.{LeveledView, size_of, remains, last_remaining, begins_sequence, sequence_from, successor}

@@ -1,4 +1,4 @@
-use Rattle.std.proofs.Common.{arith, rules, ap, sym, subst, ◌≡◌, ℕ, List, ◌+◌, ◌≤◌, ◌∙◌, ◌++◌, true, false, length, take}
+use Rattle.std.proofs.Common.{arith, rules, ap, sym, subst, ◌≡◌, ℕ, List, ◌≤◌, ◌∙◌, ◌++◌, true, false, length, take}
 use Rattle.std.proofs.lemmas.List.{length-set, length-take-le, take_more_set}
 use Rattle.units.specs.Runs.{begins_sequence, remains, size_of}
 use Rattle.sequences.specs.Heads.{column_of}

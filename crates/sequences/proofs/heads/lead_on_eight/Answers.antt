@@ -7,5 +7,5 @@ pub returns : goal.returns
 returns c =
     let P : ℕ → Type 0 = λ p. link_at c.args.links.now p ≡ Some (p + 1) in
     all_of_eight P c.args.first _ _ _ _ _ _ _ _ c.leads_on.ensures.0 c.leads_on-2.ensures.0 c.leads_on-3.ensures.0
-        c.leads_on-4.ensures.0 c.leads_on-5.ensures.0 c.leads_on-6.ensures.0 c.leads_on-7.ensures.0
-        c.leads_on-8.ensures.0
+    c.leads_on-4.ensures.0 c.leads_on-5.ensures.0 c.leads_on-6.ensures.0 c.leads_on-7.ensures.0
+    c.leads_on-8.ensures.0

@@ -1,6 +1,4 @@
-use Rattle.std.proofs.Common.{◌≡◌, ◌+◌, ◌-◌, ◌∙◌, ◌++◌, ℕ, take, ap, subst, arith}
-use Rattle.std.specs.Prelude.{List, refl}
-use Rattle.units.specs.Positions.{positions_from}
+use Rattle.std.proofs.Common.{◌≡◌, ◌+◌, ◌-◌, ◌∙◌, ◌++◌, ℕ, take, ap, arith}
 use Rattle.sequences.specs.Blocks.{LeadOn}
 use Rattle.sequences.specs.Links.{link_at, linked}
 use Rattle.sequences.proofs.Links.{stretch_eight, left_eight, pushed_eight}
