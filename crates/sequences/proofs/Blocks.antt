@@ -33,6 +33,15 @@ module _ (P : ℕ → Type 0) where
             each_of_four (k + 4) p4 (subst P e5 p5) (subst P e6 p6) (subst P e7 p7) p far (omega arith)
       ]
 
+  -- if all four tests are true
+  pub all_of_four : (k : ℕ) (a b c d : Bool) → (a ≡ true → P k) → (b ≡ true → P (k + 1)) → (c ≡ true → P (k + 2)) →
+      (d ≡ true → P (k + 3)) → (((a && b) && c) && d) ≡ true → (p : ℕ) → k ≤ p → p < k + 4 → P p
+  all_of_four k a b c d at0 at1 at2 at3 all =
+      let h3 = and_parts _ d all in
+      let h2 = and_parts _ c h3.0 in
+      let h1 = and_parts a b h2.0 in
+      each_of_four k (at0 h1.0) (at1 h1.1) (at2 h2.1) (at3 h3.1)
+
   -- if all eight tests are true
   pub all_of_eight : (k : ℕ) (a b c d e f g h : Bool) → (a ≡ true → P k) → (b ≡ true → P (k + 1)) →
       (c ≡ true → P (k + 2)) → (d ≡ true → P (k + 3)) → (e ≡ true → P (k + 4)) → (f ≡ true → P (k + 5)) →

@@ -1,8 +1,8 @@
 -- Following links passes each position and then the rest, in rising order.
 use Rattle.std.specs.Prelude.{Option, ℕ, zero, suc, ◌+◌, ◌<◌, ◌≤◌, ◌≡◌, List, [], ◌∷◌, ◌++◌, length, Some, None, IfSome, slice_index, slice_get, refl}
-use Rattle.std.proofs.Common.{arith, ap, sym, ◌∙◌, subst, append_assoc, inl, inr}
+use Rattle.std.proofs.Common.{arith, ap, sym, ◌∙◌, subst, append_assoc, inl, inr, set, take}
 use Rattle.std.proofs.lemmas.Bool.{cases_lt}
-use Rattle.std.proofs.lemmas.List.{length-append}
+use Rattle.std.proofs.lemmas.List.{length-append, take_more_set}
 use Rattle.std.proofs.lemmas.Option.{IfSome_then}
 use Rattle.units.specs.Positions.{positions_from}
 use Rattle.units.specs.Runs.{followed}
@@ -132,6 +132,17 @@ pub pushed_to : (links : List (Option ℕ)) → LinksForward links → (whole pu
     (next : Option ℕ) → next ≡ link_at links p → IsPushed links whole pushed next
 pushed_to links h whole pushed p e next n =
     rw n (record { within = IfSome_then (link_at links p) (h p) (λ q v. v.1); all = e })
+
+-- the first position is pushed into a column
+pub pushed_start : (links : List (Option ℕ)) → LinksForward links → (first start : ℕ) → first < length links →
+    (column : List ℕ) → start < length column →
+    take (start + 1) (set column start first) ++ linked links (link_at links first) ≡
+    take start column ++ linked links (Some first)
+pushed_start links h first start l column room =
+    let rest : List ℕ = linked links (link_at links first) in
+    ap (λ (ps : List ℕ). ps ++ rest) (take_more_set column start first room)
+    ∙ append_assoc (take start column) (first ∷ []) rest
+    ∙ ap (λ (ps : List ℕ). take start column ++ ps) (sym (linked-some links first h l))
 
 -- several positions from p on are each linked to the one right after it
 module _ (links : List (Option ℕ)) (h : LinksForward links) where

@@ -51,75 +51,40 @@ fn leads_on(links: &[OptionalPosition], p: usize) -> bool
     links[p] == OptionalPosition::some(p + 1)
 }
 
-/// Returns whether each of the eight positions from `first` on is linked to the one right after it.
-fn lead_on_eight(links: &[OptionalPosition], first: usize) -> bool
+/// Returns whether each of the four positions from `first` on is linked to the one right after it.
+fn lead_on_four(links: &[OptionalPosition], first: usize) -> bool
     requires small { length links.now < u32.MAX }
-    requires here { first + 8 ≤ length links.now }
-    ensures { result ≡ true → LeadOn links.now first (first + 8) }
+    requires here { first + 4 ≤ length links.now }
+    ensures { result ≡ true → LeadOn links.now first (first + 4) }
 {
     leads_on(links, first)
         & leads_on(links, first + 1)
         & leads_on(links, first + 2)
         & leads_on(links, first + 3)
-        & leads_on(links, first + 4)
-        & leads_on(links, first + 5)
-        & leads_on(links, first + 6)
-        & leads_on(links, first + 7)
 }
 
-/// Returns the position that `p` is linked to, which is the one right after it.
-fn next_of(links: &[OptionalPosition], p: usize) -> u32
+/// Returns whether there are eight positions from `first` on and each of them is linked to the one right after it.
+fn lead_on_eight(links: &[OptionalPosition], first: usize) -> bool
     requires small { length links.now < u32.MAX }
-    requires here { p < length links.now }
-    requires linked { link_at links.now p ≡ Some (p + 1) }
-    ensures { result ≡ p + 1 }
+    requires here { first < length links.now }
+    ensures within { result ≡ true → first + 8 ≤ length links.now }
+    ensures linked { result ≡ true → LeadOn links.now first (first + 8) }
 {
-    match links[p].get() {
-        Some(next) => next as u32,
-        None => unreachable!(),
-    }
+    links.len() - first >= 8 && lead_on_four(links, first) && lead_on_four(links, first + 4)
 }
 
-/// Returns the eight positions that the links lead to from `p` on.
-fn next_eight(links: &[OptionalPosition], p: usize) -> [u32; 8]
-    requires small { length links.now < u32.MAX }
-    requires here { p + 8 ≤ length links.now }
-    requires linked { LeadOn links.now p (p + 8) }
-    ensures { result ≡ positions_from (p + 1) 8 }
-{
-    [
-        next_of(links, p),
-        next_of(links, p + 1),
-        next_of(links, p + 2),
-        next_of(links, p + 3),
-        next_of(links, p + 4),
-        next_of(links, p + 5),
-        next_of(links, p + 6),
-        next_of(links, p + 7),
-    ]
-}
-
-/// Writes the eight positions that the links lead to from `p` on into the column, from `at` on. Each written position is
-/// a step.
-fn write_eight<L: Ledger>(
-    links: &[OptionalPosition],
-    p: usize,
-    column: &mut [u32],
-    at: usize,
-    steps: &mut Steps<L>,
-)
-    requires small { length links.now < u32.MAX }
-    requires here { p + 8 ≤ length links.now }
-    requires linked { LeadOn links.now p (p + 8) }
+/// Writes eight successive positions, the first of which is given, into the column, from `at` on. Each written position
+/// is a step.
+fn write_eight<L: Ledger>(first: usize, column: &mut [u32], at: usize, steps: &mut Steps<L>)
+    requires small { first + 8 < u32.MAX }
     requires room { at + 8 ≤ length column.old }
-    ensures column { take (at + 8) column.new ≡ take at column.old ++ positions_from (p + 1) 8 }
+    ensures column { take (at + 8) column.new ≡ take at column.old ++ positions_from first 8 }
     ensures steps { steps.new ≡ steps.old + 8 }
 {
-    // All links are read before the first write, so that the compiler can copy them together.
-    let next = next_eight(links, p);
-    for k in 0..8 {
+    let next = first as u32;
+    for k in 0..8u32 {
         steps.tick();
-        column[at + k] = next[k];
+        column[at + k as usize] = next + k;
     }
 }
 
@@ -145,16 +110,18 @@ fn write_eights<L: Ledger>(
     ensures steps { steps.new + first ≡ steps.old + result }
 {
     let mut p = first;
-    while leads_on(links, p) && links.len() - p >= 8 && lead_on_eight(links, p) {
-        write_eight(links, p, column, at + (p - first), steps);
+    // Each turn looks at the links of the next one, so that the compiler writes and compares several items at once.
+    let mut lead_on = lead_on_eight(links, p);
+    while lead_on {
+        write_eight(p + 1, column, at + (p - first), steps);
         p += 8;
+        lead_on = lead_on_eight(links, p);
     }
     p
 }
 
-/// Writes `first` into the column at `start`, followed by the positions after it, as long as each one is linked to the
-/// one right after it. Returns the last of these positions. Each written position is a step.
-fn write_stretch<L: Ledger>(
+/// Does the same as `write_stretch`, in a way that is quick if many positions are linked so.
+fn write_long_stretch<L: Ledger>(
     links: &[OptionalPosition],
     first: usize,
     column: &mut [u32],
@@ -181,6 +148,34 @@ fn write_stretch<L: Ledger>(
         column[start + (p - first)] = p as u32;
     }
     p
+}
+
+/// Writes `first` into the column at `start`, followed by the positions after it, as long as each one is linked to the
+/// one right after it. Returns the last of these positions. Each written position is a step.
+fn write_stretch<L: Ledger>(
+    links: &[OptionalPosition],
+    first: usize,
+    column: &mut [u32],
+    start: usize,
+    steps: &mut Steps<L>,
+) -> usize
+    requires small { length links.now < u32.MAX }
+    requires linked { LinksForward links.now }
+    requires first { first < length links.now }
+    requires room { start + length (linked links.now (Some first)) ≤ length column.old }
+    ensures stretch { IsLinkedStretch links.now first result }
+    ensures column { take (start + (result - first) + 1) column.new ++ linked links.now (link_at links.now result)
+        ≡ take start column.old ++ linked links.now (Some first) }
+    ensures rest { start + (result - first) + 1 + length (linked links.now (link_at links.now result))
+        ≡ start + length (linked links.now (Some first)) }
+    ensures steps { steps.new + first ≡ steps.old + result + 1 }
+{
+    steps.tick();
+    column[start] = first as u32;
+    if !leads_on(links, first) {
+        return first;
+    }
+    write_long_stretch(links, first + 1, column, start + 1, steps)
 }
 
 /// Writes `first` and the positions that its links lead to into the column, from `start` on.
@@ -283,7 +278,7 @@ fn pass_eights<L: Ledger>(joined: &[bool], from: usize, end: usize, steps: &mut 
     ensures steps { steps.new + from ≡ steps.old + result }
 {
     let mut p = from;
-    while end - p >= 8 && !is_free(joined, p) && are_eight_joined(joined, p) {
+    while end - p >= 8 && are_eight_joined(joined, p) {
         steps.add(8);
         p += 8;
     }
@@ -300,7 +295,11 @@ fn pass_joined<L: Ledger>(joined: &[bool], from: usize, end: usize, steps: &mut 
     ensures passed { AreJoined joined.now from result }
     ensures steps { steps.new + from ≡ steps.old + result }
 {
-    let mut p = pass_eights(joined, from, end, steps);
+    if from == end || is_free(joined, from) {
+        return from;
+    }
+    steps.tick();
+    let mut p = pass_eights(joined, from + 1, end, steps);
     while p < end && !is_free(joined, p) {
         steps.tick();
         p += 1;

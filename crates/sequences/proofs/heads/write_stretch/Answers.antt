@@ -1,99 +1,61 @@
-use Rattle.std.proofs.Common.{arith, ap, sym, Some, append_assoc, ◌≡◌, ◌+◌, ◌-◌, ◌<◌, ◌∙◌, ℕ, List, length, take, refl, inl, inr, [], ◌∷◌, ◌++◌}
-use Rattle.std.proofs.lemmas.Bool.{cases_eq}
-use Rattle.std.proofs.lemmas.List.{length-set, take_more_set}
+use Rattle.std.proofs.Common.{◌≡◌, ◌+◌, ◌-◌, ◌<◌, ◌∙◌, ◌++◌, ℕ, List, Some, length, take, set, ap, sym, arith}
+use Rattle.std.proofs.lemmas.List.{length-set}
 use Rattle.sequences.specs.Links.{link_at, linked}
-use Rattle.sequences.proofs.Links.{linked-some, pushed_to, pushed_within, pushed_step, pushed_more}
+use Rattle.sequences.proofs.Links.{linked-some, pushed_start}
 use Rattle.sequences.proofs.heads.write_stretch.Goals as goal
 
-pub bounds-column-start : goal.bounds-column-start
-bounds-column-start g c =
-    omega (
-      arith,
-      c.requires.room,
-      ap length (linked-some c.args.links.now c.args.first c.requires.linked c.requires.first),
-    )
-
-pub write_eights-p-requires-clause-room : goal.write_eights-p-requires-clause-room
-write_eights-p-requires-clause-room g c =
-    omega (
-      arith,
-      c.requires.room,
-      ap length (linked-some c.args.links.now c.args.first c.requires.linked c.requires.first),
-      length-set c.args.column.now c.args.start c.args.first,
-    )
-
-pub loop-p-init : goal.loop-p-init
-loop-p-init g c =
+pub returns-then-not-leads_on-clause-column : goal.returns-then-not-leads_on-clause-column
+returns-then-not-leads_on-clause-column g c =
     let links = c.args.links.now in
     let first : ℕ = c.args.first in
     let start : ℕ = c.args.start in
     let column : List ℕ = c.args.column.now in
     let step = linked-some links first c.requires.linked c.requires.first in
     let room : start < length column = omega (arith, c.requires.room, ap length step) in
-    let w = c.write_eights-p.ensures in
-    let p : ℕ = c.write_eights-p.result in
-    let new : List ℕ = c.write_eights-p.new.column in
-    let rest : List ℕ = linked links (link_at links first) in
-    let end : start + (p - first) + 1 ≡ start + 1 + (p - first) = omega arith in
-    let all : take (start + (p - first) + 1) new ++ linked links (link_at links p) ≡
-    take start column ++ linked links (Some first) =
-    ap (λ (k : ℕ). take k new ++ linked links (link_at links p)) end
-    ∙ w.column
-    ∙ ap (λ (ps : List ℕ). ps ++ rest) (take_more_set column start first room)
-    ∙ append_assoc (take start column) (first ∷ []) rest
-    ∙ ap (λ (ps : List ℕ). take start column ++ ps) (sym step) in
-    record {
-      stretch = w.stretch;
-      pushed = pushed_to links c.requires.linked _ _ p all _ refl;
-      rest = omega (arith, end, w.rest, ap length step);
-      steps = omega (arith, c.tick.ensures, w.steps);
-    }
+    let one : start + (first - first) + 1 ≡ start + 1 = omega arith in
+    ap (λ (k : ℕ). take k (set column start first) ++ linked links (link_at links first)) one ∙
+    pushed_start links c.requires.linked first start c.requires.first column room
 
-pub bounds-column-start-in-loop-p : goal.bounds-column-start-in-loop-p
-bounds-column-start-in-loop-p g c =
-    let l = c.loop-p in
-    let step = pushed_step c.requires.linked l.invariant.pushed (l.p + 1) (c.leads_on.ensures.0 c.loop-p-test.true) in
+pub returns-then-not-leads_on-clause-rest : goal.returns-then-not-leads_on-clause-rest
+returns-then-not-leads_on-clause-rest g c =
+    omega (arith, ap length (linked-some c.args.links.now c.args.first c.requires.linked c.requires.first))
+
+pub write_long_stretch-requires-clause-room : goal.write_long_stretch-requires-clause-room
+write_long_stretch-requires-clause-room g c =
+    let links = c.args.links.now in
     omega (
       arith,
-      l.invariant.stretch.later,
       c.requires.room,
-      l.invariant.rest,
-      ap length step,
-      l.auto.column,
-      c.write_eights-p.auto.column,
+      ap length (linked-some links c.args.first c.requires.linked c.requires.first),
+      ap (λ o. length (linked links o)) (c.leads_on.ensures.0 c.if-not-leads_on.false),
       length-set c.args.column.now c.args.start c.args.first,
     )
 
-pub loop-p-preserved : goal.loop-p-preserved
-loop-p-preserved g c =
-    let l = c.loop-p in
-    let p : ℕ = l.p in
-    let w = l.invariant.pushed in
-    let e = c.leads_on.ensures.0 c.loop-p-test.true in
-    let step = pushed_step c.requires.linked w (p + 1) e in
-    let k : ℕ = c.args.start + (p + 1 - c.args.first) in
-    let same : k ≡ c.args.start + (p - c.args.first) + 1 = omega (arith, l.invariant.stretch.later) in
-    let room : k < length l.column = omega (
+pub returns-clause-column : goal.returns-clause-column
+returns-clause-column g c =
+    let links = c.args.links.now in
+    let first : ℕ = c.args.first in
+    let start : ℕ = c.args.start in
+    let column : List ℕ = c.args.column.now in
+    let step = linked-some links first c.requires.linked c.requires.first in
+    let room : start < length column = omega (arith, c.requires.room, ap length step) in
+    let w = c.write_long_stretch.ensures in
+    let last : ℕ = c.write_long_stretch.result in
+    let end : start + (last - first) + 1 ≡ start + 1 + (last - (first + 1)) + 1 = omega (arith, w.stretch.later) in
+    ap (λ (k : ℕ). take k c.write_long_stretch.new.column ++ linked links (link_at links last)) end
+    ∙ w.column
+    ∙ ap (λ o. take (start + 1) (set column start first) ++ linked links o)
+    (sym (c.leads_on.ensures.0 c.if-not-leads_on.false))
+    ∙ pushed_start links c.requires.linked first start c.requires.first column room
+
+pub returns-clause-rest : goal.returns-clause-rest
+returns-clause-rest g c =
+    let links = c.args.links.now in
+    let w = c.write_long_stretch.ensures in
+    omega (
       arith,
-      same,
-      c.requires.room,
-      l.invariant.rest,
-      ap length step,
-      l.auto.column,
-      c.write_eights-p.auto.column,
-      length-set c.args.column.now c.args.start c.args.first,
-    ) in
-    record {
-      stretch = record {
-        later = omega (arith, l.invariant.stretch.later);
-        within = pushed_within c.requires.linked w (p + 1) e;
-        each = λ q low high. elim (cases_eq q p) [
-          | inl same ↦ rw same e
-          | inr other ↦ l.invariant.stretch.each q low (omega arith)
-        ];
-      };
-      pushed = pushed_more c.requires.linked w (p + 1) e _ (take_more_set l.column k (p + 1) room ∙
-          ap (λ (n : ℕ). take n l.column ++ (p + 1) ∷ []) same) _ refl;
-      rest = omega (arith, same, l.invariant.rest, ap length step);
-      steps = omega (arith, c.tick-in-loop-p.ensures, l.invariant.steps);
-    }
+      w.rest,
+      w.stretch.later,
+      ap length (linked-some links c.args.first c.requires.linked c.requires.first),
+      ap (λ o. length (linked links o)) (c.leads_on.ensures.0 c.if-not-leads_on.false),
+    )

@@ -1,7 +1,7 @@
 use Rattle.std.proofs.Common.{◌≡◌, ◌+◌, ◌-◌, ◌++◌, Some, length, take}
 use Rattle.sequences.specs.Links.{IsLinkedStretch, link_at, linked}
 use Rattle.sequences.proofs.Links.{IsPushed}
-use Rattle.sequences.proofs.heads.write_stretch.Given as goal
+use Rattle.sequences.proofs.heads.write_long_stretch.Given as goal
 
 abbrev pub invariant-loop-p : goal.invariant-loop-p
 invariant-loop-p g l = record {
