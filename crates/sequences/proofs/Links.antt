@@ -1,7 +1,7 @@
 -- Following links passes each position and then the rest, in rising order.
 use Rattle.std.specs.Prelude.{Option, ℕ, zero, suc, ◌+◌, ◌<◌, ◌≤◌, ◌≡◌, List, [], ◌∷◌, ◌++◌, length, Some, None, IfSome, slice_index, slice_get, refl}
 use Rattle.std.proofs.Common.{arith, ap, sym, ◌∙◌, subst, append_assoc, inl, inr, set, take}
-use Rattle.std.proofs.lemmas.Bool.{cases_lt}
+use Rattle.std.proofs.lemmas.Bool.{cases_eq, cases_lt}
 use Rattle.std.proofs.lemmas.List.{length-append, take_more_set}
 use Rattle.std.proofs.lemmas.Option.{IfSome_then}
 use Rattle.units.specs.Positions.{positions_from}
@@ -143,6 +143,21 @@ pushed_start links h first start l column room =
     ap (λ (ps : List ℕ). ps ++ rest) (take_more_set column start first room)
     ∙ append_assoc (take start column) (first ∷ []) rest
     ∙ ap (λ (ps : List ℕ). take start column ++ ps) (sym (linked-some links first h l))
+
+-- a stretch goes on after its last position
+pub stretch_both : (links : List (Option ℕ)) (first p last : ℕ) → IsLinkedStretch links first p →
+    link_at links p ≡ Some (p + 1) → IsLinkedStretch links (p + 1) last → IsLinkedStretch links first last
+stretch_both links first p last one e other = record {
+  later = omega (arith, one.later, other.later);
+  within = other.within;
+  each = λ q low high. elim (cases_lt q p) [
+    | inl before ↦ one.each q low before
+    | inr past ↦ elim (cases_eq q p) [
+      | inl same ↦ rw same e
+      | inr following ↦ other.each q (omega arith) high
+    ]
+  ];
+}
 
 -- several positions from p on are each linked to the one right after it
 module _ (links : List (Option ℕ)) (h : LinksForward links) where

@@ -120,7 +120,39 @@ fn write_eights<L: Ledger>(
     p
 }
 
-/// Does the same as `write_stretch`, in a way that is quick if many positions are linked so.
+/// Does the same as `write_stretch`, but writes at most eight positions.
+fn write_few<L: Ledger>(
+    links: &[OptionalPosition],
+    first: usize,
+    column: &mut [u32],
+    start: usize,
+    steps: &mut Steps<L>,
+) -> usize
+    requires small { length links.now < u32.MAX }
+    requires linked { LinksForward links.now }
+    requires first { first < length links.now }
+    requires room { start + length (linked links.now (Some first)) ≤ length column.old }
+    ensures stretch { IsLinkedStretch links.now first result }
+    ensures column { take (start + (result - first) + 1) column.new ++ linked links.now (link_at links.now result)
+        ≡ take start column.old ++ linked links.now (Some first) }
+    ensures rest { start + (result - first) + 1 + length (linked links.now (link_at links.now result))
+        ≡ start + length (linked links.now (Some first)) }
+    ensures steps { steps.new + first ≡ steps.old + result + 1 }
+{
+    let mut last = first;
+    steps.tick();
+    column[start] = first as u32;
+    while last - first < 7 && leads_on(links, last) {
+        last += 1;
+        steps.tick();
+        column[start + (last - first)] = last as u32;
+    }
+    last
+}
+
+/// Does the same as `write_stretch`, in a way that is quick if many positions follow.
+// Inlined, it makes short stretches slower.
+#[inline(never)]
 fn write_long_stretch<L: Ledger>(
     links: &[OptionalPosition],
     first: usize,
@@ -170,12 +202,12 @@ fn write_stretch<L: Ledger>(
         ≡ start + length (linked links.now (Some first)) }
     ensures steps { steps.new + first ≡ steps.old + result + 1 }
 {
-    steps.tick();
-    column[start] = first as u32;
-    if !leads_on(links, first) {
-        return first;
+    let p = write_few(links, first, column, start, steps);
+    if !leads_on(links, p) {
+        return p;
     }
-    write_long_stretch(links, first + 1, column, start + 1, steps)
+    let next = start + (p - first) + 1;
+    write_long_stretch(links, p + 1, column, next, steps)
 }
 
 /// Writes `first` and the positions that its links lead to into the column, from `start` on.

@@ -237,8 +237,12 @@ fn link_eights<L: Ledger>(
     ensures steps { steps.new + result ≡ steps.old + from.now.position }
 {
     let mut p = from.position;
-    // In a short run, one of these two positions is mostly at another level.
-    if p < 8 || !t.is_at(p - 1, from.level) || !t.is_at(p - 8, from.level) {
+    // In a short run, one of these three positions is mostly at another level.
+    if p < 8
+        || !t.is_at(p - 1, from.level)
+        || !t.is_at(p - 4, from.level)
+        || !t.is_at(p - 8, from.level)
+    {
         return p;
     }
     while p >= 8 && are_eight_at(t, p - 8, from.level) {

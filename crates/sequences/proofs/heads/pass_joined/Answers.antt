@@ -1,4 +1,4 @@
-use Rattle.std.proofs.Common.{◌≡◌, ◌+◌, arith, inl, inr}
+use Rattle.std.proofs.Common.{arith, inl, inr}
 use Rattle.std.proofs.lemmas.Bool.{cases_eq}
 use Rattle.sequences.proofs.Blocks.{joined_more, not_free}
 use Rattle.sequences.proofs.heads.pass_joined.Goals as goal

@@ -1,4 +1,4 @@
-use Rattle.std.proofs.Common.{arith, ap, sym, Some, append_assoc, ◌≡◌, ◌+◌, ◌-◌, ◌<◌, ◌∙◌, ℕ, List, length, take, refl, inl, inr, [], ◌∷◌, ◌++◌}
+use Rattle.std.proofs.Common.{arith, ap, Some, ◌≡◌, ◌+◌, ◌-◌, ◌<◌, ◌∙◌, ℕ, List, length, take, refl, inl, inr, [], ◌∷◌, ◌++◌}
 use Rattle.std.proofs.lemmas.Bool.{cases_eq}
 use Rattle.std.proofs.lemmas.List.{length-set, take_more_set}
 use Rattle.sequences.specs.Links.{link_at, linked}
