@@ -70,7 +70,7 @@ fn lead_on_eight(links: &[OptionalPosition], first: usize) -> bool
     ensures within { result ≡ true → first + 8 ≤ length links.now }
     ensures linked { result ≡ true → LeadOn links.now first (first + 8) }
 {
-    links.len() - first >= 8 && lead_on_four(links, first) && lead_on_four(links, first + 4)
+    links.len() - first >= 8 && lead_on_four(links, first) & lead_on_four(links, first + 4)
 }
 
 /// Writes eight successive positions, the first of which is given, into the column, from `at` on. Each written position
