@@ -1,23 +1,23 @@
--- The classes that a paragraph without risers has after each rule (W1 to N0): one direction, and neutrals.
+-- The classes that a sequence without risers has after each rule (W1 to N0): one direction, and neutrals.
 use Rattle.std.proofs.Common.{◌≡◌, Bool, true, false, cond, refl}
-use Rattle.std.specs.Prelude.{not, ◌&&◌}
-use Rattle.units.specs.Classes.{is_strong, is_base, is_neutral}
+use Rattle.std.specs.Prelude.{not, ◌&&◌, if◌then◌else◌}
+use Rattle.units.specs.Classes.{is_strong, is_base, is_neutral, is_removed}
 use Rattle.units.specs.Weak.{taken_by_mark, by_w1, by_w2, by_w3, by_w4, by_w5, by_w6, by_w7}
 use Rattle.units.specs.Brackets.{strong_as, same_direction, opposite}
 use Rattle.units.specs.Neutral.{by_sides}
 use Rattle.units.specs.declared.class.Class.{Class}
 use Rattle.units.specs.declared.class.Class.TheVariants.{L, R, AL, EN, ES, ET, AN, CS, NSM, ON, LRI, RLI, FSI, PDI}
-use Rattle.explicit.specs.Flat.{is_flat, is_remaining}
+use Rattle.explicit.specs.Flat.{is_remaining}
 use Rattle.explicit.specs.Uniform.{may_rise_at_even, may_rise_at_odd}
 
 -- the direction of an even level, and of an odd one
 abbrev pub direction : Bool → Class
 direction even = cond even L R
 
--- the own classes that X9 doesn't remove: flat ones that can't rise
+-- the classes before W1 that X9 doesn't remove and that can't rise
 abbrev pub own_stays : Bool → Class → Bool
-own_stays true c = is_flat c && is_remaining c && not (may_rise_at_even c)
-own_stays false c = is_flat c && is_remaining c && not (may_rise_at_odd c)
+own_stays true c = is_remaining c && not (may_rise_at_even c)
+own_stays false c = is_remaining c && not (may_rise_at_odd c)
 
 -- after W1 and W2: there is no mark
 abbrev pub marked_stays : Bool → Class → Bool
@@ -41,10 +41,15 @@ abbrev pub resolved_stays : Bool → Class → Bool
 resolved_stays even EN = false
 resolved_stays even c = separated_stays even c
 
-pub own_from : (even : Bool) (c : Class) → is_flat c ≡ true → is_remaining c ≡ true →
+pub own_from : (even : Bool) (c : Class) → is_remaining c ≡ true →
     cond even (may_rise_at_even c) (may_rise_at_odd c) ≡ false → own_stays even c ≡ true
-own_from true c flat retained low = rw (flat, retained, low) refl
-own_from false c flat retained low = rw (flat, retained, low) refl
+own_from true c retained low = rw (retained, low) refl
+own_from false c retained low = rw (retained, low) refl
+
+pub own_is : (even : Bool) (c : Class) →
+    own_stays even c ≡ (not (is_removed c) && not (if even then may_rise_at_even c else may_rise_at_odd c))
+own_is true c = refl
+own_is false c = refl
 
 taken_stays : (even : Bool) (c : Class) → own_stays even c ≡ true → is_base c ≡ true →
     marked_stays even (taken_by_mark c) ≡ true
@@ -145,9 +150,12 @@ not_neutral false R q n = refl
 not_neutral true _ q n = absurd (cc)
 not_neutral false _ q n = absurd (cc)
 
-pub between_same : (even : Bool) → by_sides (direction even) (direction even) (direction even) ≡ direction even
-between_same true = refl
-between_same false = refl
+pub after_direction : (even : Bool) (after : Class) →
+    by_sides (direction even) (direction even) after ≡ direction even
+after_direction true L = refl
+after_direction true _ = refl
+after_direction false L = refl
+after_direction false _ = refl
 
 -- the direction itself fulfils the condition at each rule
 pub record DirectionStays (even : Bool) : Type 0 where

@@ -1,4 +1,4 @@
--- A paragraph without risers keeps its level (W1 to I2).
+-- A sequence without risers keeps its level, and so does a flat paragraph (W1 to I2).
 use Rattle.std.proofs.Common.{◌≡◌, ℕ, zero, suc, ◌+◌, ◌-◌, ◌<◌, ◌≤◌, Bool, true, false, cond, Some, None, List, [], ◌∷◌, length, map, get_or, refl, ap, sym, subst, ◌∙◌, arith, inl, inr}
 use Rattle.std.specs.Prelude.{Option, not, ◌%◌, ◌==◌, filter, fold, slice_range}
 use Rattle.std.specs.List.{All, flat_map, zip}
@@ -19,6 +19,7 @@ use Rattle.units.specs.declared.bracket.Unit.{Unit as BidiUnit}
 use Rattle.units.specs.declared.class.Class.{Class}
 use Rattle.units.specs.declared.class.Class.TheVariants.{L, ON}
 use Rattle.explicit.specs.Flat.{IsFlat, is_remaining, remaining_of, level_sequence, level_sequences}
+use Rattle.explicit.specs.FlatTheorems.{IsUniformSequence, SequenceKeepsItsLevel}
 use Rattle.explicit.specs.IdleRules.{HasNone}
 use Rattle.explicit.specs.Uniform.{level_unless_removed_at, may_rise}
 use Rattle.units.proofs.Positions.{length-positions_from, get_or-positions_from}
@@ -27,7 +28,7 @@ use Rattle.explicit.proofs.Listed.{map-positions_of}
 use Rattle.explicit.proofs.IdleRules.{at_each_same}
 use Rattle.units.proofs.Lengths.{length-after_paired, length-after_weak, length-classes_of}
 use Rattle.explicit.proofs.WholeLevels.{resolved_levels-flat}
-use Rattle.explicit.proofs.ByRules.{direction, own_stays, marked_stays, lettered_stays, separated_stays, resolved_stays, own_from, w1_stays, w2_same, w3_stays, w4_stays, w5_stays, w6_stays, w7_stays, not_opposite, not_neutral, between_same, direction_stays}
+use Rattle.explicit.proofs.ByRules.{direction, own_stays, marked_stays, lettered_stays, separated_stays, resolved_stays, own_from, w1_stays, w2_same, w3_stays, w4_stays, w5_stays, w6_stays, w7_stays, not_opposite, not_neutral, after_direction, direction_stays, own_is}
 
 -- all classes pass
 abbrev pub AllPass : (Class → Bool) → List Class → Type 0
@@ -211,26 +212,22 @@ after_paired-stays : (even : Bool) (before : List Class) (closer : ℕ → Optio
 unfolding after_paired
 after_paired-stays even before closer cs all = pairs-stay even before closer cs (positions_of cs) all
 
--- N1, N2: all take the direction
-after_neutral-stays : (even : Bool) (cs : List Class) → AllPass (resolved_stays even) cs →
-    after_neutral (direction even) (direction even) (direction even) cs ≡ map (λ c. direction even) cs
+-- N1, N2: all take the direction, whatever eos is
+after_neutral-stays : (even : Bool) (eos : Class) (cs : List Class) → AllPass (resolved_stays even) cs →
+    after_neutral (direction even) (direction even) eos cs ≡ map (λ c. direction even) cs
 unfolding after_neutral
-after_neutral-stays even cs all =
+after_neutral-stays even eos cs all =
     let d = direction_stays even in
-    map-positions_of (class_by_run is_neutral (by_sides (direction even)) (direction even) (direction even) cs) (λ c.
+    map-positions_of (class_by_run is_neutral (by_sides (direction even)) (direction even) eos cs) (λ c.
     direction even) L cs
     (λ k lt.
     let outside : not (is_neutral (direction even)) ≡ true = ap not d.neutral in
     let before = nearest_before-passes (resolved_stays even) (λ c. not (is_neutral c)) cs k (direction even)
     (omega arith) all (d.decided, outside) in
-    let after = nearest_after-passes (resolved_stays even) (λ c. not (is_neutral c)) cs k (direction even) lt all
-    (d.decided, outside) in
     let remaining : nearest_before cs (λ c. not (is_neutral c)) k (direction even) ≡ direction even =
     not_neutral even _ before.0 (not-true _ before.1) in
-    let right : nearest_after cs (λ c. not (is_neutral c)) k (direction even) ≡ direction even =
-    not_neutral even _ after.0 (not-true _ after.1) in
     elim (cases_Bool (is_neutral (class_at cs k))) [
-      | inl neutral ↦ rw (neutral, remaining, right) (between_same even)
+      | inl neutral ↦ rw (neutral, remaining) (after_direction even (nearest_after cs (λ c. not (is_neutral c)) k eos))
       | inr strong ↦ rw strong (not_neutral even (class_at cs k) (all k L lt) strong)
     ])
 
@@ -240,7 +237,7 @@ own_level_by : (even : Bool) (level : ℕ) →
 own_level_by true level = omega arith
 own_level_by false level = omega arith
 
-own_level : (level : ℕ) → implicit_level level (direction_of level) ≡ level
+pub own_level : (level : ℕ) → implicit_level level (direction_of level) ≡ level
 own_level level = own_level_by (level % 2 == 0) level
 
 one_value : {A B C : Type 0} (z : C) (xs : List A) (ys : List B) → length xs ≡ length ys →
@@ -275,36 +272,47 @@ level_inside para keep start (suc count) p ge lt =
 level_or_none : (para : ℕ) (c : Class) → cond (is_remaining c) (Some para) None ≡ level_unless_removed_at para c
 level_or_none para c = elim (cases_Bool (is_removed c)) [ inl gone ↦ rw gone refl | inr retained ↦ rw retained refl ]
 
-module _ (limits : LimitsOf) (us : List BidiUnit) (para : ℕ) where
+module _ (most_open : ℕ) (us : List BidiUnit) (para : ℕ) where
   abbrev even : Bool
   even = para % 2 == 0
 
   levels_stay : (s : SequenceView) (before : List Class) → s.level ≡ para → s.sos ≡ direction even →
-      s.eos ≡ direction even → AllPass (own_stays even) before →
-      levels_of_sequence limits.brackets s us before ≡ map (λ (c : Class). para) before
-  levels_stay s before l sos eos own =
+      AllPass (own_stays even) before →
+      levels_of_sequence most_open s us before ≡ map (λ (c : Class). para) before
+  levels_stay s before l sos own =
       let weak : List Class = after_weak (direction even) before in
       let closer : ℕ → Option ℕ =
-      closer_of (bracket_pairs_of limits.brackets (acting_brackets (units_at us s.positions) weak)) in
+      closer_of (bracket_pairs_of most_open (acting_brackets (units_at us s.positions) weak)) in
       let paired : List Class = after_paired (direction even) (direction even) before closer weak in
       let decided : AllPass (resolved_stays even) paired =
       after_paired-stays even before closer weak (after_weak-stays even before own) in
       let n : length paired ≡ length before = length-after_paired (direction even) (direction even) before closer weak ∙
       length-after_weak (direction even) before in
-      rw (l, sos, eos) (
-      ap (map (implicit_level para)) (after_neutral-stays even paired decided)
+      rw (l, sos) (
+      ap (map (implicit_level para)) (after_neutral-stays even s.eos paired decided)
       ∙ map-map (implicit_level para) (λ (c : Class). direction even) paired
       ∙ ap (λ k. map (λ (c : Class). k) paired) (own_level para)
       ∙ one_value para paired before n
       )
 
-  levels_are_one_level : (extent : ℕ) (ps : List ℕ) → AllPass (own_stays even) (classes_at (classes_of us) ps) →
+-- a sequence without risers that begins in the direction of its level
+pub levels_of_sequence-uniform : (most_open : ℕ) (s : SequenceView) (us : List BidiUnit) (before : List Class) →
+    IsUniformSequence s before → SequenceKeepsItsLevel most_open s us before
+levels_of_sequence-uniform most_open s us before is =
+    levels_stay most_open us s.level s before refl is.0 (λ k d lt.
+    own_is (s.level % 2 == 0) (get_or before k d) ∙ is.1 k d lt)
+
+module _ (limits : LimitsOf) (us : List BidiUnit) (para : ℕ) where
+  abbrev parity : Bool
+  parity = para % 2 == 0
+
+  levels_are_one_level : (extent : ℕ) (ps : List ℕ) → AllPass (own_stays parity) (classes_at (classes_of us) ps) →
       flat_map (levels_in limits.brackets us (classes_of us)) (level_sequences para extent ps) ≡ one_level para ps
   levels_are_one_level extent [] own = refl
   levels_are_one_level extent (p ∷ ps) own =
       append-nil (levels_in limits.brackets us (classes_of us) (level_sequence para extent (p ∷ ps)))
-      ∙ ap (zip (p ∷ ps)) (levels_stay (level_sequence para extent (p ∷ ps)) (classes_at (classes_of us) (p ∷ ps)) refl
-      refl refl own
+      ∙ ap (zip (p ∷ ps)) (levels_stay limits.brackets us para (level_sequence para extent (p ∷ ps)) (classes_at (classes_of us) (p ∷ ps)) refl
+      refl own
       ∙ map-map (λ (c : Class). para) (class_at (classes_of us)) (p ∷ ps))
 
   pub resolved_levels-uniform : IsFlat (classes_of us) → HasNone (may_rise para) (classes_of us) →
@@ -312,9 +320,9 @@ module _ (limits : LimitsOf) (us : List BidiUnit) (para : ℕ) where
   resolved_levels-uniform flat none =
       let cs : List Class = classes_of us in
       let n : length cs ≡ length us = length-classes_of us in
-      let own : AllPass (own_stays even) (classes_at cs (remaining_of cs)) =
-      remaining_pass (own_stays even) (λ p. is_remaining (class_at cs p)) (class_at cs) 0 (length cs)
-      (λ p lt retained. own_from even (class_at cs p) (flat p L (omega arith)) retained (none p L (omega arith))) in
+      let own : AllPass (own_stays parity) (classes_at cs (remaining_of cs)) =
+      remaining_pass (own_stays parity) (λ p. is_remaining (class_at cs p)) (class_at cs) 0 (length cs)
+      (λ p lt retained. own_from parity (class_at cs p) retained (none p L (omega arith))) in
       resolved_levels-flat limits us para flat
       ∙ ap (λ found. map (value_beside found) (positions_of us))
       (levels_are_one_level (length cs) (remaining_of cs) own)

@@ -1,5 +1,5 @@
 //! Theorems about paragraphs in which most rules have nothing to do: without initiators (flat), without opening
-//! brackets, and at one level (uniform).
+//! brackets, and at one level (uniform); and about sequences at one level.
 ghost use Rattle.std.specs.Prelude.{◌≡◌, ℕ, List};
 ghost use Rattle.units.specs.Classes.{classes_of};
 ghost use Rattle.units.specs.Isolates.{para_level_of};
@@ -8,7 +8,7 @@ ghost use Rattle.units.specs.declared.bracket.Unit.{Unit as BidiUnit};
 ghost use Rattle.units.specs.declared.class.Class.{Class};
 ghost use Rattle.units.specs.declared.level.Direction.{Direction};
 ghost use Rattle.explicit.specs.Flat.{IsFlat, flat_para_level};
-ghost use Rattle.explicit.specs.FlatTheorems.{HasOneSequence, ResolvesAsOne, HasIdleBrackets, IsUniform, KeepsItsLevel};
+ghost use Rattle.explicit.specs.FlatTheorems.{HasOneSequence, ResolvesAsOne, HasIdleBrackets, IsUniform, KeepsItsLevel, IsUniformSequence, SequenceKeepsItsLevel};
 ghost use Rattle.units.specs.Runs.{SequenceView};
 ghost use Rattle.explicit.specs.IdleRules.{HasNoOpening};
 
@@ -36,4 +36,12 @@ pub fn idle_brackets()
 pub fn uniform_paragraphs()
     ensures { (limits : LimitsOf) (us : List BidiUnit) (para_level : ℕ) → IsUniform us para_level
         → KeepsItsLevel limits us para_level }
+{}
+
+/// A sequence keeps its level at every position, whatever its eos is and however many brackets can be open, if its sos
+/// is the direction of its level and X9 removes none of its positions, in two cases (W1 to I2): its level is even and
+/// no class before W1 is R, AL or AN, or its level is odd and no class before W1 is L, EN or AN.
+pub fn uniform_sequences()
+    ensures { (most_open : ℕ) (s : SequenceView) (us : List BidiUnit) (before : List Class)
+        → IsUniformSequence s before → SequenceKeepsItsLevel most_open s us before }
 {}

@@ -1,9 +1,11 @@
 //! Sets of classes.
 ghost use Rattle.std.specs.Prelude.{◌≡◌};
 ghost use Rattle.units.specs.declared.class.Class.{Class as BidiClass};
+ghost use Rattle.explicit.specs.Uniform.{stays_at};
 ghost use Rattle.resolve.specs.ClassSets.{holds, is_context_free, is_neutral_or, is_passed};
 
 use units::class::Class;
+use units::level::Level;
 
 /// A set of classes, one bit for each class.
 #[derive(Clone, Copy)]
@@ -16,6 +18,9 @@ const NEUTRALS: u32 = 0b111_1000_0011_1100_0000_0000;
 
 /// The neutrals and AN.
 const PASSED: u32 = NEUTRALS | 0b100_0000;
+
+/// The neutrals, ES, ET, CS and NSM.
+const STAYING: u32 = NEUTRALS | 0b1_1011_0000;
 
 /// All but EN, ES, ET, CS and NSM.
 const CONTEXT_FREE: u32 = 0b111_1111_1111_1110_0100_0111;
@@ -50,6 +55,19 @@ impl ClassSet {
             Class::L => PASSED | 0b01,
             Class::R => PASSED | 0b10,
             _ => PASSED,
+        };
+        ClassSet { bits }
+    }
+
+    /// Returns the classes that X9 doesn't remove and that can't bring a position above this level (W1 to I2): the
+    /// neutrals, ES, ET, CS, NSM, and L and EN at an even level, R and AL at an odd one.
+    pub(crate) fn staying_at(level: Level) -> ClassSet
+        ensures { (class : BidiClass) → holds result class ≡ stays_at level class }
+    {
+        let bits = if level.get() % 2 == 0 {
+            STAYING | 0b1001
+        } else {
+            STAYING | 0b110
         };
         ClassSet { bits }
     }

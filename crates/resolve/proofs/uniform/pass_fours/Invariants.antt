@@ -1,0 +1,12 @@
+use Rattle.std.proofs.Common.{◌≡◌, ◌+◌, ◌-◌, length}
+use Rattle.resolve.specs.Repeats.{AreHeld}
+use Rattle.resolve.proofs.uniform.pass_fours.Given as goal
+
+abbrev pub invariant-loop-k : goal.invariant-loop-k
+invariant-loop-k g l = record {
+  held : AreHeld l.set l.positions 0 l.k l.classes;
+  steps : l.steps ≡ l.initial.steps + l.k;
+}
+
+abbrev pub decreases-loop-k : goal.decreases-loop-k
+decreases-loop-k g l = length l.positions - l.k
