@@ -1,5 +1,5 @@
 -- The sequences of a paragraph after X1 to X9 cover it, and their levels are its resolved levels.
-use Rattle.std.specs.Prelude.{Option, None, ℕ, ◌<◌, ◌≤◌, ◌≡◌, List, length, map, filter, take, slice_index}
+use Rattle.std.specs.Prelude.{Option, Some, None, ℕ, zero, suc, ◌<◌, ◌≤◌, ◌≡◌, List, length, map, filter, take, slice_index}
 use Rattle.std.specs.List.{All, flat_map}
 use Rattle.std.proofs.Common.{arith, ap, sym, ◌∙◌, subst}
 use Rattle.std.proofs.lemmas.List.{length-map, get_or-map, ext_get_or}
@@ -11,7 +11,7 @@ use Rattle.units.specs.Layout.{current_of, levels_in, value_beside, resolved_lev
 use Rattle.units.specs.Limits.{LimitsOf}
 use Rattle.units.specs.Paragraphs.{SeparatorOnlyLast}
 use Rattle.units.specs.Positions.{positions_of}
-use Rattle.units.specs.Runs.{SequenceView, LeveledView, leveled_of, size_of, begins_sequence, successor, sequence_from, sequence_at, sequences_of}
+use Rattle.units.specs.Runs.{SequenceView, LeveledView, leveled_of, size_of, begins_sequence, followed, successor, sequence_from, sequence_at, sequences_of}
 use Rattle.units.specs.declared.bracket.Unit.{Unit as BidiUnit}
 use Rattle.units.specs.declared.class.Class.{Class}
 use Rattle.explicit.specs.ExplicitLevels.{HoldsLevels}
@@ -27,8 +27,29 @@ use Rattle.sequences.proofs.Forward.{successor_later}
 use Rattle.sequences.proofs.Links.{followed_rises, rising_positions}
 use Rattle.sequences.proofs.Once.{sequences_hold_once}
 use Rattle.resolve.proofs.OwnClasses.{current-own}
-use Rattle.paragraph.specs.Covering.{AreDisjoint, HasLevelsBy}
+use Rattle.paragraph.specs.Covering.{AreDisjoint, HasLevelsBy, HavePositions}
 use Rattle.resolve.specs.Wanted.{AreOwn}
+
+firsts_are_positions : (t : LeveledView) →
+    All (λ p. p < size_of t) (filter (begins_sequence t) (positions_of t.levels))
+firsts_are_positions t =
+    All-filter (begins_sequence t) (λ p. p < size_of t) (positions_of t.levels)
+    (All-from_get_or (λ p. p < size_of t) (positions_of t.levels) 0
+    (λ i h.
+    let n : length (positions_of t.levels) ≡ size_of t = length-positions_from 0 (size_of t) in
+    omega (arith, get_or-positions_from 0 (size_of t) i 0 (omega arith))))
+
+followed_some : (next : ℕ → Option ℕ) (most p : ℕ) → 0 < most → 0 < length (followed next most (Some p))
+followed_some next zero p some = some
+followed_some next (suc most) p some = omega arith
+
+-- a sequence has the position that it begins at
+pub sequences_have_positions : (t : LeveledView) → HavePositions (sequences_of t)
+sequences_have_positions t =
+    let firsts : List ℕ = filter (begins_sequence t) (positions_of t.levels) in
+    All-map (λ (s : SequenceView). 0 < length s.positions) (sequence_at t) firsts
+    (All-weaker (λ p. p < size_of t) (λ p. 0 < length (sequence_from t p))
+    (λ p h. followed_some (successor t) (size_of t) p (omega (arith, h))) firsts (firsts_are_positions t))
 
 -- the sequences of a paragraph share no position
 module _ (depth : ℕ) (deep : depth ≤ 125) (us : List BidiUnit) (para : ℕ) (low : para ≤ 1)
@@ -43,13 +64,7 @@ module _ (depth : ℕ) (deep : depth ≤ 125) (us : List BidiUnit) (para : ℕ) 
   firsts = filter (begins_sequence leveled_here) (positions_of leveled_here.levels)
 
   firsts_below : All (λ p. p < size_of leveled_here) firsts
-  firsts_below =
-      All-filter (begins_sequence leveled_here) (λ p. p < size_of leveled_here) (positions_of leveled_here.levels)
-      (All-from_get_or (λ p. p < size_of leveled_here) (positions_of leveled_here.levels) 0
-      (λ i h.
-      let n : length (positions_of leveled_here.levels) ≡ size_of leveled_here =
-      length-positions_from 0 (size_of leveled_here) in
-      omega (arith, get_or-positions_from 0 (size_of leveled_here) i 0 (omega arith))))
+  firsts_below = firsts_are_positions leveled_here
 
   inside : (p : ℕ) → p < size_of leveled_here → All (λ q. q < length us) (sequence_from leveled_here p)
   inside p h =

@@ -1,5 +1,5 @@
 -- Sequence by sequence, each position gets the level that its sequence gives it.
-use Rattle.std.specs.Prelude.{Option, Some, None, ℕ, zero, suc, ◌+◌, ◌<◌, ◌≤◌, ◌≡◌, List, [], ◌∷◌, ◌++◌, length, map, take, drop, Contains, slice_get, refl}
+use Rattle.std.specs.Prelude.{Option, Some, None, ℕ, zero, suc, ◌+◌, ◌<◌, ◌≤◌, ◌≡◌, List, [], ◌∷◌, ◌++◌, length, map, take, drop, Contains, slice_get, slice_index, refl}
 use Rattle.std.specs.List.{flat_map}
 use Rattle.std.proofs.Common.{arith, ap, sym, ◌∙◌, subst, inl, inr, get_or}
 use Rattle.std.proofs.lemmas.Bool.{cases_lt}
@@ -16,9 +16,10 @@ use Rattle.units.specs.declared.class.Class.{Class}
 use Rattle.sequences.specs.Once.{times}
 use Rattle.sequences.proofs.Once.{one_if-same, times-append, times-cons}
 use Rattle.paragraph.proofs.ComputedBeside.{found-append, found-append_none, none_beside, zip_none, zip_some}
-use Rattle.paragraph.specs.Covering.{positions_in, AreDisjoint, HasLevelsBy}
+use Rattle.paragraph.specs.Covering.{positions_in, AreDisjoint, HasLevelsBy, HavePositions}
 use Rattle.resolve.specs.Raised.{resolved_at}
-use Rattle.resolve.specs.Resolved.{Resolves}
+use Rattle.resolve.specs.Resolved.{HasLevels, KeepsOtherLevels, Resolves}
+use Rattle.resolve.specs.Rewritten.{KeepsOthers}
 
 -- a position that a list contains counts at least once
 pub times_some : (ps : List ℕ) (p : ℕ) → Contains ps p → 0 < times ps p
@@ -113,6 +114,11 @@ module _ {extent : ℕ} {all : List SequenceView} (apart : AreDisjoint extent al
   pub within_extent : (p : ℕ) → Contains s.positions p → p < extent
   within_extent p c = grind (arith, get_or_from_slice_get)
 
+  pub has_position : HavePositions all → 0 < length s.positions
+  has_position some =
+      let P : SequenceView → Type 0 = λ x. 0 < length x.positions in
+      subst P (get_or_from_slice_get all k s s at) (some k s inside)
+
   pub is_in_all : (p : ℕ) → Contains s.positions p → Contains (positions_in all) p
   is_in_all p c =
       let P : SequenceView → Type 0 = λ x. Contains x.positions p in
@@ -126,12 +132,14 @@ module _ {extent : ℕ} {all : List SequenceView} (apart : AreDisjoint extent al
       λ p c. same p (apart_from_earlier p (within_extent p c) (times_some s.positions p c)) in
       map_where (class_at classes) (class_at before) s.positions one
 
-  pub covered_next : (most_open : ℕ) (us : List BidiUnit) (before classes now_classes : List Class)
+  -- with the levels of the sequence, in which classes may have changed
+  pub covered_by : (most_open : ℕ) (us : List BidiUnit) (before classes now_classes : List Class)
       (levels now_levels : List (Option ℕ)) → length us ≡ extent →
       IsCovered most_open us before (take k all) classes levels →
-      Resolves most_open s us before classes now_classes levels now_levels →
+      HasLevels most_open s us before now_levels → KeepsOtherLevels s.positions levels now_levels →
+      KeepsOthers s.positions classes now_classes →
       IsCovered most_open us before (take (k + 1) all) now_classes now_levels
-  covered_next most_open us before classes now_classes levels now_levels n covered resolved =
+  covered_by most_open us before classes now_classes levels now_levels n covered has others unchanged =
       let own : List (ℕ × ℕ) = levels_in most_open us before s in
       let earlier : List (ℕ × ℕ) = flat_map (levels_in most_open us before) (take k all) in
       let joined : flat_map (levels_in most_open us before) (take (k + 1) all) ≡ earlier ++ own =
@@ -149,15 +157,37 @@ module _ {extent : ℕ} {all : List SequenceView} (apart : AreDisjoint extent al
                   (let w = zip_some s.positions values p long some 0 in
                   let none : value_beside earlier p ≡ None =
                   unfound most_open us before (take k all) p (apart_from_earlier p (omega (arith, h, n)) some) in
-                  ap (resolved_at now_levels) (sym w.2) ∙ resolved.levels w.0 w.1 ∙ sym w.3 ∙
+                  ap (resolved_at now_levels) (sym w.2) ∙ has w.0 w.1 ∙ sym w.3 ∙
                   sym (found-append earlier own p none))
-              | inr others ↦
+              | inr outside ↦
                   (let none : times s.positions p ≡ 0 = omega arith in
-                  resolved.other_levels p (λ c. let t = times_some s.positions p c in absurd (omega arith))
+                  others p (λ c. let t = times_some s.positions p c in absurd (omega arith))
                   ∙ covered.found p h
                   ∙ sym (found-append_none earlier own p (zip_none s.positions values p none)))
             ]
             ∙ sym (ap (λ (xs : List (ℕ × ℕ)). value_beside xs p) joined);
-        unchanged = λ p e. resolved.other_classes p (λ c. let t = times_some s.positions p c in
+        unchanged = λ p e. unchanged p (λ c. let t = times_some s.positions p c in
             absurd (omega (arith, times_next p))) ∙ covered.unchanged p (omega (arith, times_next p));
       }
+
+  pub covered_next : (most_open : ℕ) (us : List BidiUnit) (before classes now_classes : List Class)
+      (levels now_levels : List (Option ℕ)) → length us ≡ extent →
+      IsCovered most_open us before (take k all) classes levels →
+      Resolves most_open s us before classes now_classes levels now_levels →
+      IsCovered most_open us before (take (k + 1) all) now_classes now_levels
+  covered_next most_open us before classes now_classes levels now_levels n covered resolved =
+      covered_by most_open us before classes now_classes levels now_levels n covered resolved.levels
+      resolved.other_levels resolved.other_classes
+
+  -- the same for a sequence that keeps its level by these classes, which remain as they are
+  pub covered_if_uniform : (most_open : ℕ) (us : List BidiUnit) (before classes : List Class)
+      (levels now_levels : List (Option ℕ)) → length us ≡ extent →
+      IsCovered most_open us before (take k all) classes levels →
+      HasLevels most_open s us classes now_levels → KeepsOtherLevels s.positions levels now_levels →
+      IsCovered most_open us before (take (k + 1) all) classes now_levels
+  covered_if_uniform most_open us before classes levels now_levels n covered has others =
+      let P : List Class → Type 0 =
+      λ cs. (j : ℕ) → j < length s.positions → resolved_at now_levels (slice_index s.positions j) ≡
+      Some (slice_index (levels_of_sequence most_open s us cs) j) in
+      covered_by most_open us before classes classes levels now_levels n covered
+      (subst P (copied classes before covered.unchanged) has) others (λ p h. refl)

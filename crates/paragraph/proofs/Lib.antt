@@ -11,3 +11,4 @@ pub mod UniformLevels
 pub mod KnownLevels
 pub mod FlatApart
 pub mod FewLevels
+pub mod UniformSequences

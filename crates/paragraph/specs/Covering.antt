@@ -25,6 +25,10 @@ pub record AreDisjoint (extent : ℕ) (all : List SequenceView) : Type 0 where
   pub few : length all ≤ extent
   pub fit : length (positions_in all) ≤ extent
 
+-- BD13: each sequence has a position
+abbrev pub HavePositions : List SequenceView → Type 0
+HavePositions all = All (λ s. 0 < length s.positions) all
+
 -- W1 to I2: each position has the level that these sequences give it, from the classes before W1 and with at most this
 -- number of open brackets; it has none if it is in no sequence
 abbrev pub HasLevelsBy : ℕ → List BidiUnit → List Class → List SequenceView → List (Option ℕ) → Type 0

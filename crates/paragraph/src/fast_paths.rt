@@ -13,7 +13,7 @@ ghost use Rattle.explicit.specs.IdleRules.{HasNone};
 ghost use Rattle.explicit.specs.IsolateMaps.{IsFilledFrom};
 ghost use Rattle.explicit.specs.Uniform.{level_unless_removed_at};
 ghost use Rattle.paragraph.specs.Contents.{Describes, are_flat};
-ghost use Rattle.paragraph.specs.Covering.{AreDisjoint};
+ghost use Rattle.paragraph.specs.Covering.{AreDisjoint, HavePositions};
 ghost use Rattle.paragraph.specs.KnownLevels.{HasLevelsBefore, classes_at_four};
 ghost use Rattle.paragraph.specs.StepBounds.{x_rules_steps};
 
@@ -75,6 +75,7 @@ pub fn find_sequences<L: Ledger>(
     ensures all { found.new.sequences
         ≡ sequences_of (leveled_of limits.depth (classes_of para.now) (level_of_para level)) }
     ensures apart { AreDisjoint (length para.now) found.new.sequences }
+    ensures some { HavePositions found.new.sequences }
     ensures room { found.new.room ≡ found.old.room }
     ensures at_least { steps.old ≤ steps.new }
     ensures at_most { steps.new ≤ steps.old + x_rules_steps * length para.now + 1 }

@@ -1,14 +1,16 @@
 //! W1 to I2 over a paragraph whose sequences are known.
-ghost use Rattle.std.specs.Prelude.{◌≡◌, false, true, ◌+◌, ◌*◌, ◌<◌, ◌≤◌, ℕ, None, drop, length, slice_index_or, take};
+ghost use Rattle.std.specs.Prelude.{◌≡◌, false, true, ◌+◌, ◌-◌, ◌*◌, ◌<◌, ◌≤◌, ℕ, None, List, drop, length, slice_index_or, take};
 ghost use Rattle.std.specs.List.{list_any};
 ghost use Rattle.std.specs.Option.{option_map_or};
 ghost use Rattle.units.specs.Brackets.{is_open};
 ghost use Rattle.units.specs.Classes.{classes_of};
+ghost use Rattle.units.specs.declared.bracket.Unit.{Unit as BidiUnit};
 ghost use Rattle.units.specs.declared.class.Class.TheVariants.{BN};
 ghost use Rattle.paragraph.specs.Contents.{Describes, are_flat};
-ghost use Rattle.paragraph.specs.Covering.{AreDisjoint, HasLevelsBy, classes_before, positions_in};
+ghost use Rattle.paragraph.specs.Covering.{AreDisjoint, HasLevelsBy, HavePositions, classes_before, positions_in};
 ghost use Rattle.paragraph.specs.StepBounds.{sequences_steps, w_to_i_steps};
 ghost use Rattle.resolve.specs.Raised.{resolved_at};
+ghost use Rattle.resolve.specs.Resolved.{HasLevels, KeepsOtherLevels};
 ghost use Rattle.resolve.specs.Wanted.{AreOwn, IsWantedIn};
 
 use crate::contents::Contents;
@@ -16,6 +18,8 @@ use crate::rooms::{RoomToFind, RoomToResolve};
 use explicit::leveled_class::LeveledClass;
 use resolve::pairs::Pairs;
 use resolve::sequence::{Unresolved, Wanted, resolve_sequence};
+use resolve::uniform::{give_level, is_uniform};
+use sequences::sequence::Sequence;
 use sequences::sequences::Sequences;
 use std::sync::ledger::Ledger;
 use units::bracket::{Bracket, Unit};
@@ -80,6 +84,37 @@ fn begin<L: Ledger>(
     opened
 }
 
+/// Gives the positions of a sequence its level, if it is one of `several` and if its classes before W1, which are in
+/// `classes`, show that it keeps this level (W1 to I2). Returns whether it did so. If the only sequence of a paragraph
+/// kept its level, the contents of the paragraph would mostly have shown it.
+#[inline(always)]
+fn resolve_if_uniform<L: Ledger>(
+    several: bool,
+    s: &Sequence,
+    classes: &[Class],
+    levels: &mut [Option<Level>],
+    steps: &mut Steps<L>,
+) -> bool
+    requires classes { length classes.now ≡ s.now.extent }
+    requires levels { length levels.old ≡ s.now.extent }
+    ensures levels { result ≡ true → (most_open : ℕ) (us : List BidiUnit)
+        → HasLevels most_open s.now us classes.now levels.new }
+    ensures others { KeepsOtherLevels s.now.positions levels.old levels.new }
+    ensures if_not { result ≡ false → levels.new ≡ levels.old }
+    ensures at_least { steps.old ≤ steps.new }
+    ensures at_most { steps.new ≤ steps.old + 2 * length s.now.positions }
+    ensures if_not_at_most { result ≡ false → steps.new ≤ steps.old + (length s.now.positions - 1) }
+{
+    if !several {
+        return false;
+    }
+    if !is_uniform(s, classes, steps) {
+        return false;
+    }
+    give_level(s, levels, steps);
+    true
+}
+
 /// Applies W1 to I2 to all sequences of a paragraph, in their order. The front of `classes` is a copy of its classes
 /// before W1 to work on, and `levels` has no levels yet.
 // If it is inlined, its passes take more instructions.
@@ -93,6 +128,7 @@ fn resolve_each<L: Ledger>(
     steps: &mut Steps<L>,
 )
     requires apart { AreDisjoint (length para.now.units.now) sequences.now.all }
+    requires some { HavePositions sequences.now.all }
     requires wanted { IsWantedIn para.now.wanted para.now.units.now }
     requires own { AreOwn (positions_in sequences.now.all) para.now.units.now para.now.before.now }
     requires before { length para.now.before.now ≡ length para.now.units.now }
@@ -108,9 +144,13 @@ fn resolve_each<L: Ledger>(
     ensures at_most { steps.new ≤ steps.old + sequences_steps * length para.now.units.now }
 {
     let classes = &mut classes[..para.units.len()];
+    let several = sequences.count() > 1;
     for k in 0..sequences.count() {
         steps.tick();
         let sequence = sequences.get(k);
+        if resolve_if_uniform(several, &sequence, classes, levels, steps) {
+            continue;
+        }
         resolve_sequence(&sequence, para, pairs, classes, levels, steps);
     }
 }
@@ -143,6 +183,7 @@ fn resolve_begun<L: Ledger>(
     requires contents { Describes para.now.contents (classes_of para.now.units.now) }
     requires openings { openings ≡ list_any (λ unit. is_open unit.bracket) para.now.units.now }
     requires apart { AreDisjoint (length para.now.units.now) sequences.now.all }
+    requires some { HavePositions sequences.now.all }
     requires own { AreOwn (positions_in sequences.now.all) para.now.units.now
         (take (length para.now.units.now) columns.old) }
     requires columns { length columns.old ≡ length pairs.old + length pairs.old }
@@ -182,6 +223,7 @@ pub fn resolve_sequences<L: Ledger>(
     requires contents { Describes para.now.contents (classes_of para.now.units.now) }
     requires found { length para.now.units.now ≤ found.now.room }
     requires apart { AreDisjoint (length para.now.units.now) found.now.sequences }
+    requires some { HavePositions found.now.sequences }
     requires own { AreOwn (positions_in found.now.sequences) para.now.units.now
         (classes_before (are_flat (classes_of para.now.units.now)) para.now.units.now found.now.explicit) }
     requires room { length para.now.units.now ≤ work.old.room }

@@ -2,10 +2,10 @@ use Rattle.std.proofs.Common.{arith, sym, subst, ◌∙◌, List, length}
 use Rattle.std.proofs.lemmas.Bool.{both_ways}
 use Rattle.units.specs.Classes.{classes_of, is_removed}
 use Rattle.units.specs.Isolates.{level_of_para}
-use Rattle.units.specs.Runs.{SequenceView}
+use Rattle.units.specs.Runs.{SequenceView, leveled_of}
 use Rattle.sequences.proofs.FilledFrom.{level_of_para-low}
-use Rattle.paragraph.specs.Covering.{AreDisjoint}
-use Rattle.paragraph.proofs.AllSequences.{sequences_are_apart}
+use Rattle.paragraph.specs.Covering.{AreDisjoint, HavePositions}
+use Rattle.paragraph.proofs.AllSequences.{sequences_are_apart, sequences_have_positions}
 use Rattle.paragraph.proofs.FlatLevels.{flat_from, none_from, remaining_few}
 use Rattle.paragraph.proofs.fast_paths.find_sequences.Goals as goal
 
@@ -59,3 +59,15 @@ returns-clause-apart g c =
     subst P (sym (c.fill.ensures.all c.args.limits.depth c.explicit_levels.ensures.found))
     (sequences_are_apart c.args.limits.depth (omega arith) c.args.para.now (level_of_para c.args.level)
     (level_of_para-low c.args.level) c.requires.separators)
+
+pub returns-then-is_flat-clause-some : goal.returns-then-is_flat-clause-some
+returns-then-is_flat-clause-some g c =
+    subst HavePositions (sym (c.fill_flat.ensures.all c.args.limits.depth))
+    (sequences_have_positions (leveled_of c.args.limits.depth (classes_of c.args.para.now)
+    (level_of_para c.args.level)))
+
+pub returns-clause-some : goal.returns-clause-some
+returns-clause-some g c =
+    subst HavePositions (sym (c.fill.ensures.all c.args.limits.depth c.explicit_levels.ensures.found))
+    (sequences_have_positions (leveled_of c.args.limits.depth (classes_of c.args.para.now)
+    (level_of_para c.args.level)))

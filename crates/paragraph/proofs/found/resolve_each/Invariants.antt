@@ -1,7 +1,7 @@
 use Rattle.std.proofs.Common.{◌≡◌, ◌≤◌, ◌+◌, ◌*◌, take, length}
 use Rattle.paragraph.proofs.Covering.{IsCovered}
 use Rattle.paragraph.specs.Covering.{positions_in}
-use Rattle.resolve.specs.StepBounds.{sequence_steps}
+use Rattle.paragraph.specs.StepBounds.{sequences_steps}
 use Rattle.paragraph.proofs.found.resolve_each.Given as goal
 
 abbrev pub invariant-loop-k : goal.invariant-loop-k
@@ -10,5 +10,5 @@ invariant-loop-k g l = record {
       (take l.k l.sequences.all) l.classes l.levels;
   room : length l.pairs ≡ length l.initial.pairs;
   at_least : l.initial.steps + l.k ≤ l.steps;
-  at_most : l.steps ≤ l.initial.steps + sequence_steps * length (positions_in (take l.k l.sequences.all)) + l.k;
+  at_most : l.steps ≤ l.initial.steps + sequences_steps * length (positions_in (take l.k l.sequences.all));
 }
