@@ -1,9 +1,10 @@
 //! W1 to I2 over a paragraph whose sequences are known.
-ghost use Rattle.std.specs.Prelude.{◌≡◌, false, true, ◌+◌, ◌-◌, ◌*◌, ◌<◌, ◌≤◌, ℕ, None, List, drop, length, slice_index_or, take};
+ghost use Rattle.std.specs.Prelude.{◌≡◌, ◌↔◌, IsTrue, false, true, ◌+◌, ◌-◌, ◌*◌, ◌<◌, ◌≤◌, ℕ, None, List, drop, length, slice_index_or, take};
 ghost use Rattle.std.specs.List.{list_any};
 ghost use Rattle.std.specs.Option.{option_map_or};
 ghost use Rattle.units.specs.Brackets.{is_open};
-ghost use Rattle.units.specs.Classes.{classes_of};
+ghost use Rattle.units.specs.Classes.{classes_at, classes_of};
+ghost use Rattle.explicit.specs.FlatTheorems.{IsUniformSequence};
 ghost use Rattle.units.specs.declared.bracket.Unit.{Unit as BidiUnit};
 ghost use Rattle.units.specs.declared.class.Class.TheVariants.{BN};
 ghost use Rattle.paragraph.specs.Contents.{Describes, are_flat};
@@ -18,7 +19,7 @@ use crate::rooms::{RoomToFind, RoomToResolve};
 use explicit::leveled_class::LeveledClass;
 use resolve::pairs::Pairs;
 use resolve::sequence::{Unresolved, Wanted, resolve_sequence};
-use resolve::uniform::{give_level, is_uniform};
+use resolve::uniform::{give_level, is_uniform, may_be_uniform};
 use sequences::sequence::Sequence;
 use sequences::sequences::Sequences;
 use std::sync::ledger::Ledger;
@@ -84,9 +85,36 @@ fn begin<L: Ledger>(
     opened
 }
 
-/// Gives the positions of a sequence its level, if it is one of `several` and if its classes before W1, which are in
-/// `classes`, show that it keeps this level (W1 to I2). Returns whether it did so. If the only sequence of a paragraph
-/// kept its level, the contents of the paragraph would mostly have shown it.
+/// Gives the positions of a sequence its level, if its classes before W1, which are in `classes`, show that it keeps
+/// this level (W1 to I2). Returns whether it did so.
+// If it is inlined, W1 to I2 take more instructions.
+#[inline(never)]
+fn give_level_if_uniform<L: Ledger>(
+    s: &Sequence,
+    classes: &[Class],
+    levels: &mut [Option<Level>],
+    steps: &mut Steps<L>,
+) -> bool
+    requires classes { length classes.now ≡ s.now.extent }
+    requires levels { length levels.old ≡ s.now.extent }
+    ensures uniform { IsTrue result ↔ IsUniformSequence s.now (classes_at classes.now s.now.positions) }
+    ensures levels { result ≡ true → (most_open : ℕ) (us : List BidiUnit)
+        → HasLevels most_open s.now us classes.now levels.new }
+    ensures others { KeepsOtherLevels s.now.positions levels.old levels.new }
+    ensures if_not { result ≡ false → levels.new ≡ levels.old }
+    ensures at_least { steps.old ≤ steps.new }
+    ensures at_most { steps.new ≤ steps.old + 2 * length s.now.positions }
+    ensures if_not_at_most { result ≡ false → steps.new ≤ steps.old + (length s.now.positions - 1) }
+{
+    if !is_uniform(s, classes, steps) {
+        return false;
+    }
+    give_level(s, levels, steps);
+    true
+}
+
+/// Does what `give_level_if_uniform` does, if the sequence is one of `several`. If the only sequence of a paragraph
+/// keeps its level, the contents of the paragraph mostly show this before.
 #[inline(always)]
 fn resolve_if_uniform<L: Ledger>(
     several: bool,
@@ -96,7 +124,10 @@ fn resolve_if_uniform<L: Ledger>(
     steps: &mut Steps<L>,
 ) -> bool
     requires classes { length classes.now ≡ s.now.extent }
+    requires some { 0 < length s.now.positions }
     requires levels { length levels.old ≡ s.now.extent }
+    ensures uniform { several ≡ true
+        → (IsTrue result ↔ IsUniformSequence s.now (classes_at classes.now s.now.positions)) }
     ensures levels { result ≡ true → (most_open : ℕ) (us : List BidiUnit)
         → HasLevels most_open s.now us classes.now levels.new }
     ensures others { KeepsOtherLevels s.now.positions levels.old levels.new }
@@ -108,11 +139,10 @@ fn resolve_if_uniform<L: Ledger>(
     if !several {
         return false;
     }
-    if !is_uniform(s, classes, steps) {
+    if !may_be_uniform(s, classes) {
         return false;
     }
-    give_level(s, levels, steps);
-    true
+    give_level_if_uniform(s, classes, levels, steps)
 }
 
 /// Applies W1 to I2 to all sequences of a paragraph, in their order. The front of `classes` is a copy of its classes

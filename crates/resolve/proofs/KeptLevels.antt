@@ -60,6 +60,17 @@ module _ (set : ClassSet) (level : ℕ) (is : (c : Class) → holds set c ≡ st
     | inr ge ↦ eq-eqb k (length ps) (omega (arith, all.within))
   ]
 
+-- the first class of a sequence whose classes all stay
+pub first_held : (set : ClassSet) (level number : ℕ) (ps qs : List ℕ) (cs : List Class) →
+    ((c : Class) → holds set c ≡ stays_at number c) → number ≡ level → ps ≡ qs → 0 < length qs →
+    All (λ c. stays_at level c ≡ true) (classes_at cs qs) → holds set (class_at cs (slice_index ps 0)) ≡ true
+first_held set level number ps qs cs is named same some stay =
+    ap (λ (rs : List ℕ). holds set (class_at cs (slice_index rs 0))) same
+    ∙ is (class_at cs (slice_index qs 0))
+    ∙ ap (λ n. stays_at n (class_at cs (slice_index qs 0))) named
+    ∙ ap (stays_at level) (sym (class_at-classes_at cs qs 0 some))
+    ∙ stay 0 L (omega (arith, length-classes_at cs qs))
+
 -- one level at all positions of a sequence
 module _ (level : ℕ) (ps : List ℕ) (old : List (Option ℕ)) (are : ArePositions ps (length old)) where
   abbrev directions : List Class

@@ -72,6 +72,21 @@ fn pass_held<L: Ledger>(
     k
 }
 
+/// Returns false only if the sos of a sequence or the class of its first position before W1 shows that `is_uniform`
+/// returns false. `classes` are those of its paragraph, by position.
+pub fn may_be_uniform(s: &Sequence, classes: &[Class]) -> bool
+    requires classes { length classes.now ≡ s.now.extent }
+    requires some { 0 < length s.now.positions }
+    ensures { IsUniformSequence s.now (classes_at classes.now s.now.positions) → IsTrue result }
+{
+    let level = s.level();
+    if s.sos() != level.direction() {
+        return false;
+    }
+    let positions = s.as_slice();
+    ClassSet::staying_at(level).holds(classes[positions[0] as usize])
+}
+
 /// Returns whether a sequence keeps its level at each position by its classes before W1: its sos is the direction of
 /// its level, and none of the classes can bring a position above that level. `classes` are those of its paragraph, by
 /// position. Each position before the first one with another class is a step.

@@ -72,3 +72,7 @@ loop-k-preserved g c =
         some,
       );
     }
+
+pub resolve_if_uniform-requires-clause-some : goal.resolve_if_uniform-requires-clause-some
+resolve_if_uniform-requires-clause-some g c =
+    has_position c.requires.apart c.get-sequence.ensures.value (omega arith) c.requires.some

@@ -1,6 +1,6 @@
 use Rattle.std.proofs.Common.{refl}
 use Rattle.paragraph.proofs.UniformSequences.{has_levels}
-use Rattle.paragraph.proofs.found.resolve_if_uniform.Goals as goal
+use Rattle.paragraph.proofs.found.give_level_if_uniform.Goals as goal
 
 pub returns-clause-levels : goal.returns-clause-levels
 returns-clause-levels g c = λ e.
