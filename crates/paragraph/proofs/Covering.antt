@@ -3,7 +3,7 @@ use Rattle.std.specs.Prelude.{Option, Some, None, ℕ, zero, suc, ◌+◌, ◌<�
 use Rattle.std.specs.List.{flat_map}
 use Rattle.std.proofs.Common.{arith, ap, sym, ◌∙◌, subst, inl, inr, get_or}
 use Rattle.std.proofs.lemmas.Bool.{cases_lt}
-use Rattle.std.proofs.lemmas.List.{length-append, length-map, take-append-drop, take_more, append-nil}
+use Rattle.std.proofs.lemmas.List.{length-append, length-map, take-append-drop, take_all, take_more, append-nil}
 use Rattle.std.proofs.lemmas.List.Elements.{Contains-append_left, Contains-append_right}
 use Rattle.std.proofs.lemmas.List.Concat.{flat_map-append}
 use Rattle.std.proofs.lemmas.Option.{get_or_from_slice_get}
@@ -191,3 +191,23 @@ module _ {extent : ℕ} {all : List SequenceView} (apart : AreDisjoint extent al
       Some (slice_index (levels_of_sequence most_open s us cs) j) in
       covered_by most_open us before classes classes levels now_levels n covered
       (subst P (copied classes before covered.unchanged) has) others (λ p h. refl)
+
+-- the levels of a paragraph with one sequence
+pub covered_by_one : {extent : ℕ} {all : List SequenceView} → AreDisjoint extent all → {s : SequenceView} →
+    slice_get all 0 ≡ Some s → length all ≡ 1 → (most_open : ℕ) (us : List BidiUnit) (before now_classes : List Class)
+    (levels now_levels : List (Option ℕ)) → length us ≡ extent → ((p : ℕ) → resolved_at levels p ≡ None) →
+    Resolves most_open s us before before now_classes levels now_levels →
+    HasLevelsBy most_open us before all now_levels
+covered_by_one {extent} {all} apart {s} at one most_open us before now_classes levels now_levels n fresh resolved =
+    let covered : IsCovered most_open us before (take (0 + 1) all) now_classes now_levels =
+    covered_next apart at (omega arith) most_open us before before now_classes levels now_levels n
+    (covered_none most_open us before levels fresh) resolved in
+    let whole : take (0 + 1) all ≡ all = take_all (0 + 1) all (omega arith) in
+    subst (λ xs. HasLevelsBy most_open us before xs now_levels) whole covered.found
+
+pub length_of_one : {extent : ℕ} {all : List SequenceView} → AreDisjoint extent all → {s : SequenceView} →
+    slice_get all 0 ≡ Some s → length all ≡ 1 → length s.positions ≤ extent
+length_of_one {extent} {all} apart {s} at one =
+    let whole : length (positions_in (take (0 + 1) all)) ≡ length (positions_in all) =
+    ap (λ (xs : List SequenceView). length (positions_in xs)) (take_all (0 + 1) all (omega arith)) in
+    omega (arith, whole, length_next apart at (omega arith), apart.fit)

@@ -113,11 +113,9 @@ fn give_level_if_uniform<L: Ledger>(
     true
 }
 
-/// Does what `give_level_if_uniform` does, if the sequence is one of `several`. If the only sequence of a paragraph
-/// keeps its level, the contents of the paragraph mostly show this before.
+/// Does what `give_level_if_uniform` does, but tests the first class without a call.
 #[inline(always)]
 fn resolve_if_uniform<L: Ledger>(
-    several: bool,
     s: &Sequence,
     classes: &[Class],
     levels: &mut [Option<Level>],
@@ -126,8 +124,7 @@ fn resolve_if_uniform<L: Ledger>(
     requires classes { length classes.now ≡ s.now.extent }
     requires some { 0 < length s.now.positions }
     requires levels { length levels.old ≡ s.now.extent }
-    ensures uniform { several ≡ true
-        → (IsTrue result ↔ IsUniformSequence s.now (classes_at classes.now s.now.positions)) }
+    ensures uniform { IsTrue result ↔ IsUniformSequence s.now (classes_at classes.now s.now.positions) }
     ensures levels { result ≡ true → (most_open : ℕ) (us : List BidiUnit)
         → HasLevels most_open s.now us classes.now levels.new }
     ensures others { KeepsOtherLevels s.now.positions levels.old levels.new }
@@ -136,17 +133,14 @@ fn resolve_if_uniform<L: Ledger>(
     ensures at_most { steps.new ≤ steps.old + 2 * length s.now.positions }
     ensures if_not_at_most { result ≡ false → steps.new ≤ steps.old + (length s.now.positions - 1) }
 {
-    if !several {
-        return false;
-    }
     if !may_be_uniform(s, classes) {
         return false;
     }
     give_level_if_uniform(s, classes, levels, steps)
 }
 
-/// Applies W1 to I2 to all sequences of a paragraph, in their order. The front of `classes` is a copy of its classes
-/// before W1 to work on, and `levels` has no levels yet.
+/// Applies W1 to I2 to all sequences of a paragraph, in their order; those that keep their level get it at once. The
+/// front of `classes` is a copy of the paragraph's classes before W1 to work on, and `levels` has no levels yet.
 // If it is inlined, its passes take more instructions.
 #[inline(never)]
 fn resolve_each<L: Ledger>(
@@ -174,15 +168,48 @@ fn resolve_each<L: Ledger>(
     ensures at_most { steps.new ≤ steps.old + sequences_steps * length para.now.units.now }
 {
     let classes = &mut classes[..para.units.len()];
-    let several = sequences.count() > 1;
     for k in 0..sequences.count() {
         steps.tick();
         let sequence = sequences.get(k);
-        if resolve_if_uniform(several, &sequence, classes, levels, steps) {
+        if resolve_if_uniform(&sequence, classes, levels, steps) {
             continue;
         }
         resolve_sequence(&sequence, para, pairs, classes, levels, steps);
     }
+}
+
+/// Applies W1 to I2 to the only sequence of a paragraph, as `resolve_each` does to several. Doesn't test whether it
+/// keeps its level, since the contents of the paragraph mostly showed before that it doesn't.
+// If it is inlined, its passes take more instructions.
+#[inline(never)]
+fn resolve_only<L: Ledger>(
+    sequences: &Sequences,
+    para: &Unresolved,
+    pairs: &mut Pairs,
+    classes: &mut [Class],
+    levels: &mut [Option<Level>],
+    steps: &mut Steps<L>,
+)
+    requires apart { AreDisjoint (length para.now.units.now) sequences.now.all }
+    requires one { length sequences.now.all ≡ 1 }
+    requires wanted { IsWantedIn para.now.wanted para.now.units.now }
+    requires own { AreOwn (positions_in sequences.now.all) para.now.units.now para.now.before.now }
+    requires before { length para.now.before.now ≡ length para.now.units.now }
+    requires classes { length para.now.units.now ≤ length classes.old }
+    requires copy { take (length para.now.units.now) classes.old ≡ para.now.before.now }
+    requires levels { length levels.old ≡ length para.now.units.now }
+    requires fresh { (p : ℕ) → resolved_at levels.old p ≡ None }
+    requires room { length para.now.units.now ≤ length pairs.old }
+    ensures levels { HasLevelsBy para.now.limits.brackets para.now.units.now para.now.before.now
+        sequences.now.all levels.new }
+    ensures room { length pairs.new ≡ length pairs.old }
+    ensures at_least { steps.old + length sequences.now.all ≤ steps.new }
+    ensures at_most { steps.new ≤ steps.old + sequences_steps * length para.now.units.now }
+{
+    let classes = &mut classes[..para.units.len()];
+    steps.tick();
+    let sequence = sequences.get(0);
+    resolve_sequence(&sequence, para, pairs, classes, levels, steps);
 }
 
 /// A paragraph whose contents are known.
@@ -239,7 +266,11 @@ fn resolve_begun<L: Ledger>(
         },
         limits: para.limits,
     };
-    resolve_each(sequences, &unresolved, pairs, classes, levels, steps);
+    if sequences.count() == 1 {
+        resolve_only(sequences, &unresolved, pairs, classes, levels, steps);
+    } else {
+        resolve_each(sequences, &unresolved, pairs, classes, levels, steps);
+    }
 }
 
 /// Applies W1 to I2 to a paragraph whose sequences are in `found`.
