@@ -1,8 +1,8 @@
 -- Sequences that keep their level: their classes are tested four at a time, and their positions get one level.
-use Rattle.std.specs.Prelude.{Option, Some, ℕ, Bool, true, false, ◌+◌, ◌-◌, ◌<◌, ◌≤◌, ◌≡◌, ◌&&◌, List, length, map, Contains, IsTrue, nat_eq, slice_index}
+use Rattle.std.specs.Prelude.{◌||◌, not, false, Option, Some, ℕ, Bool, true, false, ◌+◌, ◌-◌, ◌<◌, ◌≤◌, ◌≡◌, List, length, map, Contains, IsTrue, nat_eq, slice_index}
 use Rattle.std.specs.List.{All}
 use Rattle.std.proofs.Common.{arith, ap, sym, subst, ◌∙◌, inl, inr}
-use Rattle.std.proofs.lemmas.Bool.{and_parts, both_ways, cases_lt, eq-eqb, eqb-true}
+use Rattle.std.proofs.lemmas.Bool.{both_ways, not-false, or_parts, cases_lt, eq-eqb, eqb-true}
 use Rattle.std.proofs.lemmas.List.{get_or-map, get_or_default}
 use Rattle.units.specs.Classes.{class_at, classes_at}
 use Rattle.units.specs.Implicit.{implicit_level}
@@ -14,7 +14,7 @@ use Rattle.explicit.specs.Uniform.{stays_at}
 use Rattle.sequences.specs.Links.{ArePositions}
 use Rattle.resolve.specs.ClassSets.{holds}
 use Rattle.resolve.specs.Raised.{resolved_at}
-use Rattle.resolve.specs.Repeats.{AreHeld, are_four_held, is_held, with_along}
+use Rattle.resolve.specs.Repeats.{AreWithout, holds_at, holds_one_of_four, with_along}
 use Rattle.resolve.specs.Resolved.{KeepsOtherLevels}
 use Rattle.resolve.specs.declared.class_set.ClassSet.{ClassSet}
 use Rattle.resolve.proofs.Along.{all_more, raise_run}
@@ -22,54 +22,51 @@ use Rattle.resolve.proofs.Gathered.{class_at-classes_at, length-classes_at}
 use Rattle.resolve.proofs.Raising.{RaisePass, raise_start}
 
 -- four indices more
-pub held_four : (set : ClassSet) (ps : List ℕ) (k : ℕ) (cs : List Class) → AreHeld set ps 0 k cs → k + 4 ≤ length ps →
-    are_four_held set ps k cs ≡ true → AreHeld set ps 0 (k + 4) cs
-held_four set ps k cs all within four =
-    let held : ℕ → Bool = is_held set ps cs in
-    let three = and_parts ((held k && held (k + 1)) && held (k + 2)) (held (k + 3)) four in
-    let two = and_parts (held k && held (k + 1)) (held (k + 2)) three.0 in
-    let one = and_parts (held k) (held (k + 1)) two.0 in
-    let a : AreHeld set ps 0 (k + 1) cs = all_more all (omega arith) one.0 in
-    let b : AreHeld set ps 0 (k + 1 + 1) cs = all_more a (omega arith) one.1 in
+pub without_four : (set : ClassSet) (ps : List ℕ) (k : ℕ) (cs : List Class) → AreWithout set ps 0 k cs →
+    k + 4 ≤ length ps → holds_one_of_four set ps k cs ≡ false → AreWithout set ps 0 (k + 4) cs
+without_four set ps k cs all within four =
+    let at : ℕ → Bool = holds_at set ps cs in
+    let three = or_parts ((at k || at (k + 1)) || at (k + 2)) (at (k + 3)) four in
+    let two = or_parts (at k || at (k + 1)) (at (k + 2)) three.0 in
+    let one = or_parts (at k) (at (k + 1)) two.0 in
+    let a : AreWithout set ps 0 (k + 1) cs = all_more all (omega arith) one.0 in
+    let b : AreWithout set ps 0 (k + 1 + 1) cs = all_more a (omega arith) one.1 in
     let e : k + 1 + 1 ≡ k + 2 = omega arith in
-    let c : AreHeld set ps 0 (k + 2 + 1) cs = all_more (subst (λ j. AreHeld set ps 0 j cs) e b) (omega arith) two.1 in
+    let c : AreWithout set ps 0 (k + 2 + 1) cs =
+    all_more (subst (λ j. AreWithout set ps 0 j cs) e b) (omega arith) two.1 in
     let f : k + 2 + 1 ≡ k + 3 = omega arith in
-    let d : AreHeld set ps 0 (k + 3 + 1) cs = all_more (subst (λ j. AreHeld set ps 0 j cs) f c) (omega arith) three.1 in
+    let d : AreWithout set ps 0 (k + 3 + 1) cs =
+    all_more (subst (λ j. AreWithout set ps 0 j cs) f c) (omega arith) three.1 in
     let g : k + 3 + 1 ≡ k + 4 = omega arith in
-    subst (λ j. AreHeld set ps 0 j cs) g d
+    subst (λ j. AreWithout set ps 0 j cs) g d
 
--- the test of a whole sequence, up to the first index with a class that isn't in the set
-module _ (set : ClassSet) (level : ℕ) (is : (c : Class) → holds set c ≡ stays_at level c) (ps : List ℕ) (k : ℕ)
-    (cs : List Class) (all : AreHeld set ps 0 k cs)
-    (end : k < length ps → holds set (class_at cs (slice_index ps k)) ≡ false) where
-  pub stay_if_held : IsTrue (nat_eq k (length ps)) → All (λ c. stays_at level c ≡ true) (classes_at cs ps)
-  stay_if_held e = λ i d lt.
-      let low : i < length ps = omega (arith, length-classes_at cs ps) in
-      let whole : k ≡ length ps = eqb-true k (length ps) e in
-      let held : holds set (class_at cs (slice_index ps i)) ≡ true = all.each i (omega arith) (omega arith) in
-      ap (stays_at level) (get_or-map (class_at cs) ps i 0 d low) ∙ sym (is (class_at cs (slice_index ps i))) ∙ held
+-- the set has the classes that don't stay at a level
+module _ (set : ClassSet) (level : ℕ) (is : (c : Class) → holds set c ≡ not (stays_at level c)) (ps : List ℕ)
+    (cs : List Class) where
+  -- the class at an index, if all stay
+  pub without_at : (k : ℕ) → k < length ps → All (λ c. stays_at level c ≡ true) (classes_at cs ps) →
+      holds set (class_at cs (slice_index ps k)) ≡ false
+  without_at k lt stay =
+      is (class_at cs (slice_index ps k))
+      ∙ ap (λ c. not (stays_at level c)) (sym (class_at-classes_at cs ps k lt))
+      ∙ ap not (stay k L (omega (arith, length-classes_at cs ps)))
 
-  pub held_if_stay : All (λ c. stays_at level c ≡ true) (classes_at cs ps) → IsTrue (nat_eq k (length ps))
-  held_if_stay stay = elim (cases_lt k (length ps)) [
-    | inl lt ↦
-        (let stays : stays_at level (class_at (classes_at cs ps) k) ≡ true =
-        stay k L (omega (arith, length-classes_at cs ps)) in
-        let held : holds set (class_at cs (slice_index ps k)) ≡ true =
-        is (class_at cs (slice_index ps k)) ∙ ap (stays_at level) (sym (class_at-classes_at cs ps k lt)) ∙ stays in
-        absurd (both_ways _ (end lt) held))
-    | inr ge ↦ eq-eqb k (length ps) (omega (arith, all.within))
-  ]
+  -- the test of a whole sequence, up to the first index with a class in the set
+  module _ (k : ℕ) (all : AreWithout set ps 0 k cs)
+      (end : k < length ps → holds set (class_at cs (slice_index ps k)) ≡ true) where
+    pub stay_if_without : IsTrue (nat_eq k (length ps)) → All (λ c. stays_at level c ≡ true) (classes_at cs ps)
+    stay_if_without e = λ i d lt.
+        let low : i < length ps = omega (arith, length-classes_at cs ps) in
+        let whole : k ≡ length ps = eqb-true k (length ps) e in
+        let free : holds set (class_at cs (slice_index ps i)) ≡ false = all.each i (omega arith) (omega arith) in
+        ap (stays_at level) (get_or-map (class_at cs) ps i 0 d low)
+        ∙ not-false _ (sym (is (class_at cs (slice_index ps i))) ∙ free)
 
--- the first class of a sequence whose classes all stay
-pub first_held : (set : ClassSet) (level number : ℕ) (ps qs : List ℕ) (cs : List Class) →
-    ((c : Class) → holds set c ≡ stays_at number c) → number ≡ level → ps ≡ qs → 0 < length qs →
-    All (λ c. stays_at level c ≡ true) (classes_at cs qs) → holds set (class_at cs (slice_index ps 0)) ≡ true
-first_held set level number ps qs cs is named same some stay =
-    ap (λ (rs : List ℕ). holds set (class_at cs (slice_index rs 0))) same
-    ∙ is (class_at cs (slice_index qs 0))
-    ∙ ap (λ n. stays_at n (class_at cs (slice_index qs 0))) named
-    ∙ ap (stays_at level) (sym (class_at-classes_at cs qs 0 some))
-    ∙ stay 0 L (omega (arith, length-classes_at cs qs))
+    pub without_if_stay : All (λ c. stays_at level c ≡ true) (classes_at cs ps) → IsTrue (nat_eq k (length ps))
+    without_if_stay stay = elim (cases_lt k (length ps)) [
+      | inl lt ↦ absurd (both_ways _ (without_at k lt stay) (end lt))
+      | inr ge ↦ eq-eqb k (length ps) (omega (arith, all.within))
+    ]
 
 -- one level at all positions of a sequence
 module _ (level : ℕ) (ps : List ℕ) (old : List (Option ℕ)) (are : ArePositions ps (length old)) where

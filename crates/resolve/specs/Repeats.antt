@@ -1,5 +1,5 @@
 -- Classes that a run repeats (W1 to W7), and the class that a run takes.
-use Rattle.std.specs.Prelude.{◌&&◌, Bool, true, false, ℕ, zero, suc, ◌+◌, ◌<◌, ◌≤◌, ◌≡◌, List, length, set, slice_index}
+use Rattle.std.specs.Prelude.{◌||◌, Bool, true, false, ℕ, zero, suc, ◌+◌, ◌<◌, ◌≤◌, ◌≡◌, List, length, set, slice_index}
 use Rattle.units.specs.Classes.{class_at}
 use Rattle.units.specs.declared.class.Class.{Class}
 use Rattle.resolve.specs.ClassSets.{holds, is_neutral_or, is_passed}
@@ -36,18 +36,18 @@ AreNeutralOr direction = AreAll (λ c. is_neutral_or direction c ≡ true)
 abbrev pub ArePassed : Class → List ℕ → ℕ → ℕ → List Class → Type 0
 ArePassed strong = AreAll (λ c. is_passed strong c ≡ true)
 
--- the classes are in the set
-abbrev pub AreHeld : ClassSet → List ℕ → ℕ → ℕ → List Class → Type 0
-AreHeld set = AreAll (λ c. holds set c ≡ true)
+-- the classes aren't in the set
+abbrev pub AreWithout : ClassSet → List ℕ → ℕ → ℕ → List Class → Type 0
+AreWithout set = AreAll (λ c. holds set c ≡ false)
 
 -- the set contains the class at the position of an index
-abbrev pub is_held : ClassSet → List ℕ → List Class → ℕ → Bool
-is_held set ps cs k = holds set (class_at cs (slice_index ps k))
+abbrev pub holds_at : ClassSet → List ℕ → List Class → ℕ → Bool
+holds_at set ps cs k = holds set (class_at cs (slice_index ps k))
 
--- the set contains the classes at the positions of the four indices from k on
-abbrev pub are_four_held : ClassSet → List ℕ → ℕ → List Class → Bool
-are_four_held set ps k cs =
-    ((is_held set ps cs k && is_held set ps cs (k + 1)) && is_held set ps cs (k + 2)) && is_held set ps cs (k + 3)
+-- the set contains the class at the position of one of the four indices from k on
+abbrev pub holds_one_of_four : ClassSet → List ℕ → ℕ → List Class → Bool
+holds_one_of_four set ps k cs =
+    ((holds_at set ps cs k || holds_at set ps cs (k + 1)) || holds_at set ps cs (k + 2)) || holds_at set ps cs (k + 3)
 
 -- a list by position, with one value at the positions of n indices, from start on
 abbrev pub with_along : {X : Type 0} → List ℕ → ℕ → ℕ → X → List X → List X

@@ -1,5 +1,5 @@
 //! Sets of classes.
-ghost use Rattle.std.specs.Prelude.{◌≡◌};
+ghost use Rattle.std.specs.Prelude.{◌≡◌, not};
 ghost use Rattle.units.specs.declared.class.Class.{Class as BidiClass};
 ghost use Rattle.explicit.specs.Uniform.{stays_at};
 ghost use Rattle.resolve.specs.ClassSets.{holds, is_context_free, is_neutral_or, is_passed};
@@ -19,8 +19,8 @@ const NEUTRALS: u32 = 0b111_1000_0011_1100_0000_0000;
 /// The neutrals and AN.
 const PASSED: u32 = NEUTRALS | 0b100_0000;
 
-/// The neutrals, ES, ET, CS and NSM.
-const STAYING: u32 = NEUTRALS | 0b1_1011_0000;
+/// BN, PDF and the initiators of embeddings and overrides.
+const REMOVED: u32 = 0b111_1100_0010_0000_0000;
 
 /// All but EN, ES, ET, CS and NSM.
 const CONTEXT_FREE: u32 = 0b111_1111_1111_1110_0100_0111;
@@ -59,15 +59,15 @@ impl ClassSet {
         ClassSet { bits }
     }
 
-    /// Returns the classes that X9 doesn't remove and that can't bring a position above this level (W1 to I2): the
-    /// neutrals, ES, ET, CS, NSM, and L and EN at an even level, R and AL at an odd one.
-    pub(crate) fn staying_at(level: Level) -> ClassSet
-        ensures { (class : BidiClass) → holds result class ≡ stays_at level class }
+    /// Returns the classes that X9 removes or that can bring a position above this level (W1 to I2): R, AL and AN if it
+    /// is even, L, EN and AN if it is odd.
+    pub(crate) fn leaving(level: Level) -> ClassSet
+        ensures { (class : BidiClass) → holds result class ≡ not (stays_at level class) }
     {
         let bits = if level.get() % 2 == 0 {
-            STAYING | 0b1001
+            REMOVED | 0b100_0110
         } else {
-            STAYING | 0b110
+            REMOVED | 0b100_1001
         };
         ClassSet { bits }
     }

@@ -1,10 +1,10 @@
 use Rattle.std.proofs.Common.{◌≡◌, ◌+◌, ◌-◌, length}
-use Rattle.resolve.specs.Repeats.{AreHeld}
+use Rattle.resolve.specs.Repeats.{AreWithout}
 use Rattle.resolve.proofs.uniform.pass_fours.Given as goal
 
 abbrev pub invariant-loop-k : goal.invariant-loop-k
 invariant-loop-k g l = record {
-  held : AreHeld l.set l.positions 0 l.k l.classes;
+  without : AreWithout l.set l.positions 0 l.k l.classes;
   steps : l.steps ≡ l.initial.steps + l.k;
 }
 
