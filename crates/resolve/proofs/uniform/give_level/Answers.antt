@@ -2,7 +2,7 @@ use Rattle.std.proofs.Common.{ℕ, List, Some, Option, arith, ap, sym, subst, �
 use Rattle.sequences.specs.Links.{ArePositions}
 use Rattle.resolve.specs.Raised.{resolved_at}
 use Rattle.resolve.proofs.Along.{along_none, along_next}
-use Rattle.resolve.proofs.KeptLevels.{given_level, others_kept, written_level}
+use Rattle.resolve.proofs.UniformSequences.{given_level, others_unchanged, written_level}
 use Rattle.resolve.proofs.uniform.give_level.Goals as goal
 
 pub loop-k-init : goal.loop-k-init
@@ -38,4 +38,4 @@ returns-clause-others g c = λ p none.
     subst (ArePositions s.positions) (sym c.requires) c.as_slice-positions.ensures.rise in
     ap (λ (levels : List (Option ℕ)). resolved_at levels p) (written_level _ s.positions c.loop-k.k s.level _ old _ c.loop-k.invariant.levels (omega arith)
     c.as_slice-positions.ensures.value c.level-level.ensures.value)
-    ∙ others_kept s.level s.positions old fits p none
+    ∙ others_unchanged s.level s.positions old fits p none

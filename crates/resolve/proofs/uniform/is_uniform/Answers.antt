@@ -5,7 +5,7 @@ use Rattle.explicit.specs.Uniform.{stays_at}
 use Rattle.units.specs.Classes.{classes_at}
 use Rattle.resolve.specs.ClassSets.{holds}
 use Rattle.units.specs.declared.class.Class.{Class}
-use Rattle.resolve.proofs.KeptLevels.{stay_if_without, without_if_stay}
+use Rattle.resolve.proofs.UniformSequences.{stay_if_without, without_if_stay}
 use Rattle.resolve.proofs.uniform.is_uniform.Goals as goal
 
 pub returns-clause-uniform : goal.returns-clause-uniform

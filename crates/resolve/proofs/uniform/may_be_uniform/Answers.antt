@@ -6,7 +6,7 @@ use Rattle.explicit.specs.Uniform.{stays_at}
 use Rattle.units.specs.Classes.{classes_at}
 use Rattle.resolve.specs.ClassSets.{holds}
 use Rattle.units.specs.declared.class.Class.{Class}
-use Rattle.resolve.proofs.KeptLevels.{without_at}
+use Rattle.resolve.proofs.UniformSequences.{without_at}
 use Rattle.resolve.proofs.uniform.may_be_uniform.Goals as goal
 
 pub returns-then-holds : goal.returns-then-holds

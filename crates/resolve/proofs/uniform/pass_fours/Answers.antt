@@ -1,6 +1,6 @@
 use Rattle.std.proofs.Common.{arith, sym, ◌∙◌}
 use Rattle.resolve.proofs.Along.{all_of_none}
-use Rattle.resolve.proofs.KeptLevels.{without_four}
+use Rattle.resolve.proofs.UniformSequences.{without_four}
 use Rattle.resolve.proofs.uniform.pass_fours.Goals as goal
 
 pub loop-k-init : goal.loop-k-init

@@ -89,8 +89,8 @@ module _ (level : ℕ) (ps : List ℕ) (old : List (Option ℕ)) (are : ArePosit
       ∙ ap (λ (d : Class). Some (implicit_level level d)) (get_or-map (λ (p : ℕ). direction_of level) ps k 0 L c.1)
       ∙ ap Some (own_level level)
 
-  pub others_kept : KeepsOtherLevels ps old (with_along ps 0 (length ps) (Some level) old)
-  others_kept = one_level.others
+  pub others_unchanged : KeepsOtherLevels ps old (with_along ps 0 (length ps) (Some level) old)
+  others_unchanged = one_level.others
 
 -- the same, as the pass that writes it ends
 pub written_level : (ps qs : List ℕ) (k level number : ℕ) (old now : List (Option ℕ)) →
