@@ -34,6 +34,7 @@ pub mod ParagraphSearch
 pub mod OneUnit
 pub mod OneParagraph
 pub mod OneLine
+pub mod LevelBlocks
 pub mod LineParts
 pub mod OrderAlone
 pub mod LineStored

@@ -74,8 +74,99 @@ impl Stretch {
     }
 }
 
+/// Returns whether the position has another level than this one. A removed position has none.
+fn has_other_level(levels: &[Option<Level>], position: usize, level: Level) -> bool
+    requires { position < length levels.now }
+    ensures same { result ≡ false → IsAtOneLevel levels.now position (position + 1) level }
+    ensures other { result ≡ true → (v : ℕ) × HasLevel levels.now position v × (v ≢ level) }
+{
+    match levels[position] {
+        Some(other) => other.get() != level.get(),
+        None => false,
+    }
+}
+
+/// Returns whether one of the four positions from this one on has another level.
+fn has_other_in_four(levels: &[Option<Level>], position: usize, level: Level) -> bool
+    requires { position + 4 ≤ length levels.now }
+    ensures { result ≡ false → IsAtOneLevel levels.now position (position + 4) level }
+{
+    has_other_level(levels, position, level)
+        | has_other_level(levels, position + 1, level)
+        | has_other_level(levels, position + 2, level)
+        | has_other_level(levels, position + 3, level)
+}
+
+/// Returns whether one of the eight positions from this one on has another level.
+fn has_other_in_eight(levels: &[Option<Level>], position: usize, level: Level) -> bool
+    requires { position + 8 ≤ length levels.now }
+    ensures { result ≡ false → IsAtOneLevel levels.now position (position + 8) level }
+{
+    has_other_in_four(levels, position, level) | has_other_in_four(levels, position + 4, level)
+}
+
+/// How many positions of a run are passed together.
+const BLOCK: usize = 8;
+
+/// Passes positions from `start` on, eight at a time, as long as none of the next eight has another level. Returns the
+/// position after them. Each passed position is a step.
+fn pass_eights<L: Ledger>(
+    levels: &[Option<Level>],
+    start: usize,
+    end: usize,
+    level: Level,
+    steps: &mut Steps<L>,
+) -> usize
+    requires order { start ≤ end }
+    requires within { end ≤ length levels.now }
+    ensures later { start ≤ result }
+    ensures within { result ≤ end }
+    ensures uniform { IsAtOneLevel levels.now start result level }
+    ensures steps { steps.new + start ≡ steps.old + result }
+{
+    let mut position = start;
+    while end - position >= BLOCK && !has_other_in_eight(levels, position, level) {
+        steps.add(BLOCK);
+        position += BLOCK;
+    }
+    position
+}
+
+/// Returns the first position from `start` on that has another level than this one, or `end` if there is none. Each
+/// position from `start` on is a step, the returned one among them. Passes eight positions at a time up to the first
+/// eight of which one has another level. Never inlined, so that short runs don't pay for it.
+#[inline(never)]
+fn end_far<L: Ledger>(
+    levels: &[Option<Level>],
+    start: usize,
+    end: usize,
+    level: Level,
+    steps: &mut Steps<L>,
+) -> usize
+    requires order { start ≤ end }
+    requires within { end ≤ length levels.now }
+    ensures later { start ≤ result }
+    ensures within { result ≤ end }
+    ensures uniform { IsAtOneLevel levels.now start result level }
+    ensures stops { (result ≡ end) ⊎ ((v : ℕ) × HasLevel levels.now result v × (v ≢ level)) }
+    ensures at_least { steps.old + result ≤ steps.new + start }
+    ensures at_most { steps.new + start ≤ steps.old + result + 1 }
+{
+    let first = pass_eights(levels, start, end, level, steps);
+    for next in first..end {
+        steps.tick();
+        if has_other_level(levels, next, level) {
+            return next;
+        }
+    }
+    end
+}
+
+/// How many positions after the first one of a run are read one by one.
+const NEAR: usize = 4;
+
 /// Returns the end of the run of this level that begins at the position. Takes at most one step for each position of
-/// the run.
+/// the run. Reads `NEAR` positions one by one, because passing eight at a time costs more if the run ends among them.
 fn end_of_run<L: Ledger>(
     line: LineSpan<'_>,
     position: usize,
@@ -96,6 +187,9 @@ fn end_of_run<L: Ledger>(
         steps.tick();
         if levels[next].is_some_and(|other| other.get() != level.get()) {
             return next;
+        }
+        if next - position == NEAR {
+            return end_far(levels, next + 1, end, level, steps);
         }
     }
     end
