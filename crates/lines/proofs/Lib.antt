@@ -36,6 +36,7 @@ pub mod OneParagraph
 pub mod OneLine
 pub mod LevelBlocks
 pub mod LineParts
+pub mod EightWritten
 pub mod OrderAlone
 pub mod LineStored
 pub mod KnownLevels

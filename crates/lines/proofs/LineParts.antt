@@ -32,7 +32,7 @@ positions_split start (suc m) n =
     ap (λ k. positions_from (start + 1) m ++ positions_from k n) e)
 
 -- the remaining positions of two parts that follow one another
-remaining_split : (levels : List (Option ℕ)) (start middle end : ℕ) → start ≤ middle → middle ≤ end →
+pub remaining_split : (levels : List (Option ℕ)) (start middle end : ℕ) → start ≤ middle → middle ≤ end →
     remaining levels start end ≡ remaining levels start middle ++ remaining levels middle end
 remaining_split levels start middle end low high =
     let count : end - start ≡ (middle - start) + (end - middle) = omega arith in

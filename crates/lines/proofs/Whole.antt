@@ -8,6 +8,7 @@ use Rattle.units.specs.Positions.{positions_from}
 use Rattle.units.specs.Reordering.{line_order}
 use Rattle.units.specs.declared.level.ParaLevel.{ParaLevel}
 use Rattle.units.specs.declared.level.ParaLevel.TheVariants.{Zero, One}
+use Rattle.lines.specs.AllRemaining.{AllRemain}
 use Rattle.lines.specs.LinePositions.{IsAtOneLevel, is_remaining, remaining}
 use Rattle.lines.proofs.Uniform.{uniform-falling, uniform-rising}
 
@@ -15,10 +16,6 @@ filter-all : (test : ℕ → Bool) (start count : ℕ) → ((p : ℕ) → start 
     filter test (positions_from start count) ≡ positions_from start count
 filter-all test start zero all = refl
 filter-all test start (suc count) all = grind (arith, filter-all test (start + 1) count)
-
--- each position of the line has a level
-pub record AllRemain (levels : List (Option ℕ)) (start end : ℕ) : Type 0 where
-  pub here : (p : ℕ) → start ≤ p → p < end → is_remaining levels p ≡ true
 
 pub all_in_line : (levels : List (Option ℕ)) (start end : ℕ) → end ≤ length levels →
     ((k : ℕ) → k < length (slice_range levels start end) →
@@ -33,7 +30,7 @@ all_in_line levels start end within all =
           ∙ all (p - start) (omega (arith, long));
     }
 
-remaining-all : (levels : List (Option ℕ)) (start end : ℕ) → start ≤ end → AllRemain levels start end →
+pub remaining-all : (levels : List (Option ℕ)) (start end : ℕ) → start ≤ end → AllRemain levels start end →
     remaining levels start end ≡ positions_from start (end - start)
 remaining-all levels start end le all =
     filter-all (is_remaining levels) start (end - start) (λ p low high. all.here p low (omega arith))

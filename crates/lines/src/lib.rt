@@ -20,3 +20,4 @@ pub mod scratch;
 pub mod shown;
 pub mod spans;
 pub mod theorems;
+mod writing;

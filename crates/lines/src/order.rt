@@ -10,44 +10,10 @@ ghost use Rattle.lines.specs.StepBounds.{uniform_order_steps, order_steps};
 use crate::positions::{all_remain, count_down, count_up};
 use crate::runs::{Run, link_line};
 use crate::spans::LineSpan;
+use crate::writing::{write_falling, write_rising};
 use std::sync::ledger::Ledger;
 use units::level::ParaLevel;
 use units::steps::Steps;
-
-/// Writes the remaining positions of a span to the front of `order`, rising, and returns their number. Takes one step
-/// for each position of the span.
-fn write_rising<L: Ledger>(span: LineSpan<'_>, order: &mut [usize], steps: &mut Steps<L>) -> usize
-    requires room { units_in_span span ≤ length order.old }
-    ensures order { take result order.new ≡ remaining_in span.entry }
-    ensures count { result ≤ units_in_span span.entry }
-    ensures steps { steps.new ≡ steps.old + units_in_span span.entry }
-{
-    let LineSpan { levels, start, end } = span;
-    let mut count = 0;
-    for position in start..end {
-        steps.tick();
-        order[count] = position;
-        count += usize::from(levels[position].is_some());
-    }
-    count
-}
-
-/// Does the same, but in falling order.
-fn write_falling<L: Ledger>(span: LineSpan<'_>, order: &mut [usize], steps: &mut Steps<L>) -> usize
-    requires room { units_in_span span ≤ length order.old }
-    ensures order { take result order.new ≡ reverse (remaining_in span.entry) }
-    ensures count { result ≤ units_in_span span.entry }
-    ensures steps { steps.new ≡ steps.old + units_in_span span.entry }
-{
-    let LineSpan { levels, start, end } = span;
-    let mut count = 0;
-    for position in (start..end).rev() {
-        steps.tick();
-        order[count] = position;
-        count += usize::from(levels[position].is_some());
-    }
-    count
-}
 
 /// Writes all positions from `start` up to `end` to the front of `order`, as they are shown from left to right at this
 /// level. Takes one step for each.

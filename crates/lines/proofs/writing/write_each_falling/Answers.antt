@@ -6,7 +6,7 @@ use mir.Val.{bool_byte}
 use Rattle.lines.specs.LinePositions.{is_remaining, remaining}
 use Rattle.lines.proofs.BoolBytes.{bool_byte-at_most_one}
 use Rattle.lines.proofs.Remaining.{unchanged, remaining-before, remaining-none}
-use Rattle.lines.proofs.order.write_falling.Goals as goal
+use Rattle.lines.proofs.writing.write_each_falling.Goals as goal
 
 pub loop-position-init : goal.loop-position-init
 loop-position-init g c =
