@@ -10,7 +10,7 @@ ghost use Rattle.lines.specs.StepBounds.{uniform_order_steps, order_steps};
 use crate::positions::{all_remain, count_down, count_up};
 use crate::runs::{Run, link_line};
 use crate::spans::LineSpan;
-use crate::writing::{write_falling, write_rising};
+use crate::writing::{write_each_rising, write_falling, write_rising};
 use std::sync::ledger::Ledger;
 use units::level::ParaLevel;
 use units::steps::Steps;
@@ -312,7 +312,7 @@ pub(crate) fn write_known_order<L: Ledger>(
             write_all(line.start, line.end, level, order, steps);
             line.end - line.start
         }
-        Some(_) if line.end - line.start == 1 => write_rising(line, order, steps),
+        Some(_) if line.end - line.start == 1 => write_each_rising(line, order, steps),
         Some(level) if line.end - line.start > PART => write_parts(line, level, order, steps),
         _ => write_order(line, uniform, runs, order, steps),
     }

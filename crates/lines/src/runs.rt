@@ -74,16 +74,25 @@ impl Stretch {
     }
 }
 
-/// Returns whether the position has another level than this one. A removed position has none.
+/// Returns whether there is another level than this one. A removed position has none.
+// It takes a copy, so that the compiler reads eight positions together.
+fn is_other_level(other: Option<Level>, level: Level) -> bool
+    ensures same { result ≡ false → (v : ℕ) → other ≡ Some v → v ≡ level }
+    ensures other { result ≡ true → (v : ℕ) × (other ≡ Some v) × (v ≢ level) }
+{
+    match other {
+        Some(other) => other.get() != level.get(),
+        None => false,
+    }
+}
+
+/// Returns whether the position has another level than this one.
 fn has_other_level(levels: &[Option<Level>], position: usize, level: Level) -> bool
     requires { position < length levels.now }
     ensures same { result ≡ false → IsAtOneLevel levels.now position (position + 1) level }
     ensures other { result ≡ true → (v : ℕ) × HasLevel levels.now position v × (v ≢ level) }
 {
-    match levels[position] {
-        Some(other) => other.get() != level.get(),
-        None => false,
-    }
+    is_other_level(levels[position], level)
 }
 
 /// Returns whether one of the four positions from this one on has another level.

@@ -36,7 +36,7 @@ const BLOCK: usize = 8;
 /// one step for each position of the span.
 // Inlined, short runs take fewer instructions.
 #[inline(always)]
-fn write_each_rising<L: Ledger>(
+pub(crate) fn write_each_rising<L: Ledger>(
     span: LineSpan<'_>,
     order: &mut [usize],
     steps: &mut Steps<L>,
@@ -72,6 +72,30 @@ fn append_each_rising<L: Ledger>(
     count + write_each_rising(span, &mut order[count..], steps)
 }
 
+/// Writes the remaining ones of the eight positions from `start` on to the front of `order`, rising, one by one, and
+/// returns their number. Takes eight steps.
+fn write_each_of_eight_rising<L: Ledger>(
+    levels: &[Option<Level>],
+    start: usize,
+    order: &mut [usize],
+    steps: &mut Steps<L>,
+) -> usize
+    requires within { start + 8 ≤ length levels.now }
+    requires room { 8 ≤ length order.old }
+    ensures order { take result order.new ≡ remaining levels.now start (start + 8) }
+    ensures count { result ≤ 8 }
+    ensures steps { steps.new ≡ steps.old + 8 }
+{
+    let mut count = 0;
+    for k in 0..BLOCK {
+        steps.tick();
+        let position = start + k;
+        order[count] = position;
+        count += usize::from(levels[position].is_some());
+    }
+    count
+}
+
 /// Writes the remaining ones of the eight positions from `start` on to the front of `order`, rising, and returns their
 /// number. Writes the eight at once if X9 removed none of them. Takes eight steps.
 fn write_eight_rising<L: Ledger>(
@@ -90,8 +114,7 @@ fn write_eight_rising<L: Ledger>(
         count_up(start, &mut order[..BLOCK], steps);
         return BLOCK;
     }
-    let end = start + BLOCK;
-    write_each_rising(LineSpan { levels, start, end }, order, steps)
+    write_each_of_eight_rising(levels, start, order, steps)
 }
 
 /// Writes the remaining ones of the eight positions from `start` on after the first `count` items of `order`, rising, and
@@ -199,6 +222,29 @@ fn append_each_falling<L: Ledger>(
     count + write_each_falling(span, &mut order[count..], steps)
 }
 
+/// Does what `write_each_of_eight_rising` does, but in falling order.
+fn write_each_of_eight_falling<L: Ledger>(
+    levels: &[Option<Level>],
+    start: usize,
+    order: &mut [usize],
+    steps: &mut Steps<L>,
+) -> usize
+    requires within { start + 8 ≤ length levels.now }
+    requires room { 8 ≤ length order.old }
+    ensures order { take result order.new ≡ reverse (remaining levels.now start (start + 8)) }
+    ensures count { result ≤ 8 }
+    ensures steps { steps.new ≡ steps.old + 8 }
+{
+    let mut count = 0;
+    for k in 0..BLOCK {
+        steps.tick();
+        let position = start + (BLOCK - 1 - k);
+        order[count] = position;
+        count += usize::from(levels[position].is_some());
+    }
+    count
+}
+
 /// Does what `write_eight_rising` does, but in falling order.
 fn write_eight_falling<L: Ledger>(
     levels: &[Option<Level>],
@@ -216,8 +262,7 @@ fn write_eight_falling<L: Ledger>(
         count_down(start + BLOCK, &mut order[..BLOCK], steps);
         return BLOCK;
     }
-    let end = start + BLOCK;
-    write_each_falling(LineSpan { levels, start, end }, order, steps)
+    write_each_of_eight_falling(levels, start, order, steps)
 }
 
 /// Does what `append_eight_rising` does, but in falling order.

@@ -30,5 +30,5 @@ returns-in-Some-2-clause-order g c =
     let line = c.args.line in
     let at : IsSpanAtLevel line (level_of_para c.in-Some-2.field-0) =
     subst (λ o. IfSome o (λ level. IsSpanAtLevel line (level_of_para level))) c.in-Some-2.is c.requires.uniform in
-    c.write_rising.ensures.order ∙
+    c.write_each_rising.ensures.order ∙
     order_of_one line.levels.now line.start line.end c.in-Some-2.field-0 line.forward (omega arith) at
