@@ -98,7 +98,8 @@ fn has_other_level(levels: &[Option<Level>], position: usize, level: Level) -> b
 /// Returns whether one of the four positions from this one on has another level.
 fn has_other_in_four(levels: &[Option<Level>], position: usize, level: Level) -> bool
     requires { position + 4 ≤ length levels.now }
-    ensures { result ≡ false → IsAtOneLevel levels.now position (position + 4) level }
+    ensures same { result ≡ false → IsAtOneLevel levels.now position (position + 4) level }
+    ensures other { result ≡ true → ¬ IsAtOneLevel levels.now position (position + 4) level }
 {
     has_other_level(levels, position, level)
         | has_other_level(levels, position + 1, level)
@@ -109,7 +110,8 @@ fn has_other_in_four(levels: &[Option<Level>], position: usize, level: Level) ->
 /// Returns whether one of the eight positions from this one on has another level.
 fn has_other_in_eight(levels: &[Option<Level>], position: usize, level: Level) -> bool
     requires { position + 8 ≤ length levels.now }
-    ensures { result ≡ false → IsAtOneLevel levels.now position (position + 8) level }
+    ensures same { result ≡ false → IsAtOneLevel levels.now position (position + 8) level }
+    ensures other { result ≡ true → ¬ IsAtOneLevel levels.now position (position + 8) level }
 {
     has_other_in_four(levels, position, level) | has_other_in_four(levels, position + 4, level)
 }
@@ -131,6 +133,7 @@ fn pass_eights<L: Ledger>(
     ensures later { start ≤ result }
     ensures within { result ≤ end }
     ensures uniform { IsAtOneLevel levels.now start result level }
+    ensures stops { result + 8 ≤ end → ¬ IsAtOneLevel levels.now result (result + 8) level }
     ensures steps { steps.new + start ≡ steps.old + result }
 {
     let mut position = start;
@@ -141,11 +144,64 @@ fn pass_eights<L: Ledger>(
     position
 }
 
-/// Returns the first position from `start` on that has another level than this one, or `end` if there is none. Each
-/// position from `start` on is a step, the returned one among them. Passes eight positions at a time up to the first
-/// eight of which one has another level. Never inlined, so that short runs don't pay for it.
+/// Returns the first position from `start` on that has another level than this one, or `end` if there is none, one by
+/// one. Each position from `start` on is a step, the returned one among them.
+// Inlined, a short run takes fewer instructions.
+#[inline(always)]
+fn end_by_each<L: Ledger>(
+    levels: &[Option<Level>],
+    start: usize,
+    end: usize,
+    level: Level,
+    steps: &mut Steps<L>,
+) -> usize
+    requires order { start ≤ end }
+    requires within { end ≤ length levels.now }
+    ensures later { start ≤ result }
+    ensures within { result ≤ end }
+    ensures uniform { IsAtOneLevel levels.now start result level }
+    ensures stops { (result ≡ end) ⊎ ((v : ℕ) × HasLevel levels.now result v × (v ≢ level)) }
+    ensures at_least { steps.old + result ≤ steps.new + start }
+    ensures at_most { steps.new + start ≤ steps.old + result + 1 }
+{
+    for next in start..end {
+        steps.tick();
+        if has_other_level(levels, next, level) {
+            return next;
+        }
+    }
+    end
+}
+
+/// Returns the first of the eight positions from `start` on that has another level than this one. Each position from
+/// `start` on is a step, the returned one among them.
+fn end_in_eight<L: Ledger>(
+    levels: &[Option<Level>],
+    start: usize,
+    level: Level,
+    steps: &mut Steps<L>,
+) -> usize
+    requires within { start + 8 ≤ length levels.now }
+    requires other { ¬ IsAtOneLevel levels.now start (start + 8) level }
+    ensures later { start ≤ result }
+    ensures within { result < start + 8 }
+    ensures uniform { IsAtOneLevel levels.now start result level }
+    ensures stops { (v : ℕ) × HasLevel levels.now result v × (v ≢ level) }
+    ensures steps { steps.new + start ≡ steps.old + result + 1 }
+{
+    for k in 0..BLOCK {
+        steps.tick();
+        if has_other_level(levels, start + k, level) {
+            return start + k;
+        }
+    }
+    unreachable!()
+}
+
+/// Does what `end_by_each` does, but passes eight positions at a time up to the first eight of which one has another
+/// level. Never inlined, so that short runs don't pay for it.
 #[inline(never)]
-fn end_far<L: Ledger>(
+fn end_by_eights<L: Ledger>(
     levels: &[Option<Level>],
     start: usize,
     end: usize,
@@ -162,13 +218,37 @@ fn end_far<L: Ledger>(
     ensures at_most { steps.new + start ≤ steps.old + result + 1 }
 {
     let first = pass_eights(levels, start, end, level, steps);
-    for next in first..end {
-        steps.tick();
-        if has_other_level(levels, next, level) {
-            return next;
-        }
+    if end - first >= BLOCK {
+        end_in_eight(levels, first, level, steps)
+    } else {
+        end_by_each(levels, first, end, level, steps)
     }
-    end
+}
+
+/// Does what `end_by_each` does, and passes eight positions at a time if there are eight.
+// Inlined, a run that ends with a short line takes fewer instructions.
+#[inline(always)]
+fn end_far<L: Ledger>(
+    levels: &[Option<Level>],
+    start: usize,
+    end: usize,
+    level: Level,
+    steps: &mut Steps<L>,
+) -> usize
+    requires order { start ≤ end }
+    requires within { end ≤ length levels.now }
+    ensures later { start ≤ result }
+    ensures within { result ≤ end }
+    ensures uniform { IsAtOneLevel levels.now start result level }
+    ensures stops { (result ≡ end) ⊎ ((v : ℕ) × HasLevel levels.now result v × (v ≢ level)) }
+    ensures at_least { steps.old + result ≤ steps.new + start }
+    ensures at_most { steps.new + start ≤ steps.old + result + 1 }
+{
+    if end - start >= BLOCK {
+        end_by_eights(levels, start, end, level, steps)
+    } else {
+        end_by_each(levels, start, end, level, steps)
+    }
 }
 
 /// How many positions after the first one of a run are read one by one.

@@ -18,6 +18,6 @@ loop-position-preserved g c =
       later = omega (arith, l.invariant.later);
       within = omega (arith, l.invariant.within);
       uniform = level_of_both c.args.levels.now c.args.start l.position _ c.args.level l.invariant.uniform
-          (c.has_other_in_eight.ensures c.if-not-has_other_in_eight.true);
+          (c.has_other_in_eight.ensures.same c.if-not-has_other_in_eight.true);
       steps = omega (arith, c.add.ensures, l.invariant.steps);
     }

@@ -1,6 +1,6 @@
 use Rattle.std.proofs.Common.{◌≡◌, ◌+◌, ◌≤◌}
 use Rattle.lines.specs.LinePositions.{IsAtOneLevel}
-use Rattle.lines.proofs.runs.end_far.Given as goal
+use Rattle.lines.proofs.runs.end_by_each.Given as goal
 
 abbrev pub invariant-loop-next : goal.invariant-loop-next
 invariant-loop-next g l =
