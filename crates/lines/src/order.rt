@@ -10,7 +10,7 @@ ghost use Rattle.lines.specs.StepBounds.{uniform_order_steps, order_steps};
 use crate::positions::{all_remain, count_down, count_up};
 use crate::runs::{Run, link_line};
 use crate::spans::LineSpan;
-use crate::writing::{write_each_rising, write_falling, write_rising};
+use crate::writing::{write_each_falling, write_each_rising, write_falling, write_rising};
 use std::sync::ledger::Ledger;
 use units::level::ParaLevel;
 use units::steps::Steps;
@@ -117,28 +117,6 @@ fn write_runs<L: Ledger>(
     }
 }
 
-/// Writes the remaining positions of a line from left to right to the front of `order`, and returns their number. All of
-/// them have this level. Takes one step for each position of the line.
-// Inlined, a line with no removed position takes more instructions.
-#[inline(never)]
-fn write_at_level<L: Ledger>(
-    line: LineSpan<'_>,
-    level: ParaLevel,
-    order: &mut [usize],
-    steps: &mut Steps<L>,
-) -> usize
-    requires level { IsSpanAtLevel line (level_of_para level) }
-    requires room { units_in_span line ≤ length order.old }
-    ensures order { take result order.new ≡ order_of line.entry }
-    ensures count { result ≤ units_in_span line.entry }
-    ensures steps { steps.new ≡ steps.old + units_in_span line.entry }
-{
-    match level {
-        ParaLevel::Zero => write_rising(line, order, steps),
-        ParaLevel::One => write_falling(line, order, steps),
-    }
-}
-
 /// Writes the remaining positions of a part of a line from left to right to the front of `order`, and returns their
 /// number. All of them have this level. Takes two steps for each position of the part: to look whether X9 removed it,
 /// and to write it.
@@ -159,7 +137,10 @@ fn write_part<L: Ledger>(
         write_all(start, end, level, order, steps);
         return end - start;
     }
-    write_at_level(part, level, order, steps)
+    match level {
+        ParaLevel::Zero => write_rising(part, order, steps),
+        ParaLevel::One => write_falling(part, order, steps),
+    }
 }
 
 /// Writes the remaining positions of a part of a line after the first `count` items of `order`, and returns how many
@@ -295,7 +276,10 @@ pub fn write_order<L: Ledger>(
         write_all(start, end, level, order, steps);
         return end - start;
     }
-    write_at_level(line, level, order, steps)
+    match level {
+        ParaLevel::Zero => write_each_rising(line, order, steps),
+        ParaLevel::One => write_each_falling(line, order, steps),
+    }
 }
 
 /// Does what `write_order` does. If `complete`, X9 removed no position of the line, so the function doesn't look for

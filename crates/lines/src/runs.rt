@@ -146,8 +146,6 @@ fn pass_eights<L: Ledger>(
 
 /// Returns the first position from `start` on that has another level than this one, or `end` if there is none, one by
 /// one. Each position from `start` on is a step, the returned one among them.
-// Inlined, a short run takes fewer instructions.
-#[inline(always)]
 fn end_by_each<L: Ledger>(
     levels: &[Option<Level>],
     start: usize,
@@ -225,37 +223,13 @@ fn end_by_eights<L: Ledger>(
     }
 }
 
-/// Does what `end_by_each` does, and passes eight positions at a time if there are eight.
-// Inlined, a run that ends with a short line takes fewer instructions.
-#[inline(always)]
-fn end_far<L: Ledger>(
-    levels: &[Option<Level>],
-    start: usize,
-    end: usize,
-    level: Level,
-    steps: &mut Steps<L>,
-) -> usize
-    requires order { start ≤ end }
-    requires within { end ≤ length levels.now }
-    ensures later { start ≤ result }
-    ensures within { result ≤ end }
-    ensures uniform { IsAtOneLevel levels.now start result level }
-    ensures stops { (result ≡ end) ⊎ ((v : ℕ) × HasLevel levels.now result v × (v ≢ level)) }
-    ensures at_least { steps.old + result ≤ steps.new + start }
-    ensures at_most { steps.new + start ≤ steps.old + result + 1 }
-{
-    if end - start >= BLOCK {
-        end_by_eights(levels, start, end, level, steps)
-    } else {
-        end_by_each(levels, start, end, level, steps)
-    }
-}
-
 /// How many positions after the first one of a run are read one by one.
 const NEAR: usize = 4;
 
 /// Returns the end of the run of this level that begins at the position. Takes at most one step for each position of
 /// the run. Reads `NEAR` positions one by one, because passing eight at a time costs more if the run ends among them.
+// Inlined, a short run takes fewer instructions.
+#[inline(always)]
 fn end_of_run<L: Ledger>(
     line: LineSpan<'_>,
     position: usize,
@@ -278,7 +252,7 @@ fn end_of_run<L: Ledger>(
             return next;
         }
         if next - position == NEAR {
-            return end_far(levels, next + 1, end, level, steps);
+            return end_by_eights(levels, next + 1, end, level, steps);
         }
     }
     end
@@ -302,6 +276,8 @@ fn one_run(position: usize, run_end: usize, level: Level) -> Stretch
 
 /// Starts a stretch with the run of this level that begins at the position. Takes at most one step for each position of
 /// the run.
+// Inlined, a short run takes fewer instructions.
+#[inline(always)]
 fn link_run<L: Ledger>(
     line: LineSpan<'_>,
     position: usize,

@@ -187,7 +187,7 @@ pub(crate) fn write_rising<L: Ledger>(
 /// Does what `write_each_rising` does, but in falling order.
 // Inlined, short runs take fewer instructions.
 #[inline(always)]
-fn write_each_falling<L: Ledger>(
+pub(crate) fn write_each_falling<L: Ledger>(
     span: LineSpan<'_>,
     order: &mut [usize],
     steps: &mut Steps<L>,

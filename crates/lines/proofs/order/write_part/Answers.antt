@@ -1,9 +1,28 @@
-use Rattle.std.proofs.Common.{None, sym, take, ◌-◌, ◌∙◌}
+use Rattle.std.proofs.Common.{None, refl, sym, ap, subst, take, ◌-◌, ◌∙◌}
 use Rattle.std.specs.Prelude.{slice_range}
 use Rattle.std.specs.Option.{is_some}
 use Rattle.std.proofs.lemmas.List.Sums.{AllPass-from_list_all}
+use Rattle.units.specs.Isolates.{level_of_para}
+use Rattle.lines.specs.Spans.{IsSpanAtLevel}
+use Rattle.lines.proofs.Uniform.{uniform-falling, uniform-rising}
 use Rattle.lines.proofs.Whole.{all_in_line, whole-order}
 use Rattle.lines.proofs.order.write_part.Goals as goal
+
+pub returns-in-Zero-clause-order : goal.returns-in-Zero-clause-order
+returns-in-Zero-clause-order g c =
+    let line = c.args.part in
+    let at = c.requires.level in
+    c.write_rising.ensures.order
+    ∙ sym (uniform-rising line.levels.now line.start line.end 0 line.forward refl
+    (subst (IsSpanAtLevel line) (ap level_of_para c.in-Zero.is) at))
+
+pub returns-in-One-clause-order : goal.returns-in-One-clause-order
+returns-in-One-clause-order g c =
+    let line = c.args.part in
+    let at = c.requires.level in
+    c.write_falling.ensures.order
+    ∙ sym (uniform-falling line.levels.now line.start line.end 1 line.forward refl
+    (subst (IsSpanAtLevel line) (ap level_of_para c.in-One.is) at))
 
 pub returns-then-all_remain-clause-order : goal.returns-then-all_remain-clause-order
 returns-then-all_remain-clause-order g c =
