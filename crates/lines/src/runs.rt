@@ -352,14 +352,14 @@ fn link_on<L: Ledger>(
     let mut stretch = one_run(position, run_end, level);
     loop {
         let start = stretch.end;
-        let Some(level) = level_from(line, start, least) else {
+        let Some(level) = level_from(&span, start, least) else {
             return stretch;
         };
         steps.tick();
         let run = link_run(span, start, level, runs, steps);
         let end = run.end;
         let least_above = stretch.level.get() + 1;
-        let later = if continues_above(line, end, level, least_above) {
+        let later = if continues_above(&span, end, level, least_above) {
             link_on(line, start, end, level, least_above, runs, steps)
         } else {
             one_run(start, end, level)

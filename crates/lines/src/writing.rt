@@ -181,7 +181,8 @@ pub(crate) fn write_rising<L: Ledger>(
     if span.end - span.start < BLOCK {
         return write_each_rising(span, order, steps);
     }
-    write_eights_rising(span.levels, span.start, span.end, order, steps)
+    let LineSpan { levels, start, end } = span;
+    write_eights_rising(levels, start, end, &mut order[..end - start], steps)
 }
 
 /// Does what `write_each_rising` does, but in falling order.
@@ -326,5 +327,6 @@ pub(crate) fn write_falling<L: Ledger>(
     if span.end - span.start < BLOCK {
         return write_each_falling(span, order, steps);
     }
-    write_eights_falling(span.levels, span.start, span.end, order, steps)
+    let LineSpan { levels, start, end } = span;
+    write_eights_falling(levels, start, end, &mut order[..end - start], steps)
 }
