@@ -3,6 +3,7 @@ pub mod Writing
 pub mod Utf8Texts
 pub mod Spellings
 pub mod Utf8Tests
+pub mod BlockReading
 pub mod KnownChars
 pub mod LossyChunks
 pub mod LossyReading

@@ -1,6 +1,7 @@
 //! Decodes texts in UTF-8 and UTF-16: the unit of each character, and the offset of code units at which it begins.
 #![tactic(auto)]
 
+mod blocks;
 pub mod breaking;
 pub mod fault;
 pub mod indices;

@@ -1,17 +1,21 @@
 //! The characters of a text in UTF-8: their units, the offsets at which they begin, and the offset of the first fault.
-ghost use Rattle.std.specs.Prelude.{◌≡◌, ◌<◌, ◌≤◌, ◌+◌, ◌^◌, ◌++◌, List, length, take, IfErr, IfOk, IsTrue, OnOk};
+ghost use Rattle.std.specs.Prelude.{◌≡◌, ◌<◌, ◌≤◌, ◌+◌, ◌^◌, ◌++◌, List, drop, length, map, take, IfErr, IfOk, IsTrue, OnOk};
 ghost use Rattle.std.specs.Str.{chars, IsAscii, IsUtf8};
 ghost use Rattle.std.specs.Str.Lossy.{utf8_valid_len};
-ghost use Rattle.decoding.specs.Decoded.{AreDecoded, IsWritten};
+ghost use Rattle.ucdfiles.specs.Tables.{AreNeutral, AreOfAscii};
+ghost use Rattle.ucdfiles.specs.UnitStages.{unit_by_stages};
+ghost use Rattle.decoding.specs.Decoded.{AreDecoded, IsReadUpTo, IsWritten};
 ghost use Rattle.decoding.specs.Encodings.{utf8_text};
 ghost use Rattle.decoding.specs.Offsets.{Spelled};
 
+use crate::blocks::write_offsets;
 use crate::known::known_char_at;
 use crate::reached::Reached;
 use crate::spelling::char_at;
 use std::simd::prelude::*;
-use ucdfiles::tables::Tables;
+use ucdfiles::tables::{BorrowedUnits, Tables};
 use units::bracket::Unit;
+use units::class::Class;
 
 /// Appends the unit and the offset of each character of a text to the columns, after the `before.characters` that are
 /// written already.
@@ -107,6 +111,207 @@ fn test_utf8(bytes: &[u8]) -> Result<(), usize>
     Ok(())
 }
 
+/// Writes the unit of the ASCII character with the index `k` after those of the characters before it.
+#[inline(always)]
+fn write_next(
+    borrowed: &BorrowedUnits<'_>,
+    classes: &[Class],
+    block: &[u8],
+    k: usize,
+    units: &mut [Unit],
+)
+    requires neutral { AreNeutral borrowed.now.classes borrowed.now.brackets }
+    requires classes { AreOfAscii borrowed.now.classes classes.now }
+    requires inside { k < length block.now }
+    requires ascii { IsAscii block.now }
+    requires fits { length block.now ≤ length units.old }
+    requires before { take k units.old ≡ map (unit_by_stages borrowed.now) (take k block.now) }
+    ensures len { length units.new ≡ length units.old }
+    ensures written { take (k + 1) units.new ≡ map (unit_by_stages borrowed.now) (take (k + 1) block.now) }
+{
+    borrowed.write_ascii(classes, block[k], &mut units[k]);
+}
+
+/// Writes the units of a block of ASCII.
+#[inline(always)]
+fn write_ascii(borrowed: &BorrowedUnits<'_>, classes: &[Class], block: &[u8], units: &mut [Unit])
+    requires neutral { AreNeutral borrowed.now.classes borrowed.now.brackets }
+    requires classes { AreOfAscii borrowed.now.classes classes.now }
+    requires len { length block.now ≡ 16 }
+    requires ascii { IsAscii block.now }
+    requires fits { length units.old ≡ 16 }
+    ensures { units.new ≡ map (unit_by_stages borrowed.now) block.now }
+{
+    for fourth in 0..BLOCK / 4 {
+        let k = fourth * 4;
+        write_next(borrowed, classes, block, k, units);
+        write_next(borrowed, classes, block, k + 1, units);
+        write_next(borrowed, classes, block, k + 2, units);
+        write_next(borrowed, classes, block, k + 3, units);
+    }
+}
+
+/// Writes the units and the offsets of a block of ASCII. The class of each bracket must be ON.
+#[inline(always)]
+fn decode_ascii(
+    bytes: &[u8],
+    borrowed: &BorrowedUnits<'_>,
+    classes: &[Class],
+    before: Reached,
+    units: &mut [Unit],
+    starts: &mut [u32],
+) -> Reached
+    requires neutral { AreNeutral borrowed.now.classes borrowed.now.brackets }
+    requires classes { AreOfAscii borrowed.now.classes classes.now }
+    requires remaining { before.code_units + 16 ≤ length bytes.now }
+    requires ascii { IsAscii (take 16 (drop before.code_units bytes.now)) }
+    requires units { length bytes.now ≤ length units.old }
+    requires starts { length bytes.now ≤ length starts.old }
+    requires small { length bytes.now < 2 ^ 32 }
+    requires read { IsReadUpTo borrowed.now bytes.now before units.old starts.old }
+    ensures units_len { length units.new ≡ length units.old }
+    ensures starts_len { length starts.new ≡ length starts.old }
+    ensures code_units { result.code_units ≡ before.code_units + 16 }
+    ensures read { IsReadUpTo borrowed.now bytes.now result units.new starts.new }
+{
+    let count = before.characters;
+    let at = before.code_units;
+    write_ascii(
+        borrowed,
+        classes,
+        &bytes[at..at + BLOCK],
+        &mut units[count..count + BLOCK],
+    );
+    write_offsets(&mut starts[count..count + BLOCK], at);
+    Reached {
+        characters: count + BLOCK,
+        code_units: at + BLOCK,
+    }
+}
+
+/// Writes the units and the offsets of the characters that begin before the offset `end`. The class of each bracket must
+/// be ON.
+#[inline(always)]
+fn decode_chars(
+    bytes: &[u8],
+    end: usize,
+    borrowed: &BorrowedUnits<'_>,
+    before: Reached,
+    units: &mut [Unit],
+    starts: &mut [u32],
+) -> Reached
+    requires well_formed { IsUtf8 bytes.now }
+    requires neutral { AreNeutral borrowed.now.classes borrowed.now.brackets }
+    requires end { end ≤ length bytes.now }
+    requires units { length bytes.now ≤ length units.old }
+    requires starts { length bytes.now ≤ length starts.old }
+    requires small { length bytes.now < 2 ^ 32 }
+    requires read { IsReadUpTo borrowed.now bytes.now before units.old starts.old }
+    ensures units_len { length units.new ≡ length units.old }
+    ensures starts_len { length starts.new ≡ length starts.old }
+    ensures passed { end ≤ result.code_units }
+    ensures read { IsReadUpTo borrowed.now bytes.now result units.new starts.new }
+{
+    let mut count = before.characters;
+    let mut at = before.code_units;
+    while at < end {
+        let (c, following) = known_char_at(bytes, at);
+        borrowed.write_neutral(c, &mut units[count]);
+        starts[count] = at as u32;
+        count += 1;
+        at = following;
+    }
+    Reached {
+        characters: count,
+        code_units: at,
+    }
+}
+
+/// Writes the units and the offsets of the next characters, up to the end of a block or past it.
+#[inline(always)]
+fn decode_block(
+    bytes: &[u8],
+    borrowed: &BorrowedUnits<'_>,
+    classes: &[Class],
+    before: Reached,
+    units: &mut [Unit],
+    starts: &mut [u32],
+) -> Reached
+    requires well_formed { IsUtf8 bytes.now }
+    requires neutral { AreNeutral borrowed.now.classes borrowed.now.brackets }
+    requires classes { AreOfAscii borrowed.now.classes classes.now }
+    requires remaining { before.code_units + 16 ≤ length bytes.now }
+    requires units { length bytes.now ≤ length units.old }
+    requires starts { length bytes.now ≤ length starts.old }
+    requires small { length bytes.now < 2 ^ 32 }
+    requires read { IsReadUpTo borrowed.now bytes.now before units.old starts.old }
+    ensures units_len { length units.new ≡ length units.old }
+    ensures starts_len { length starts.new ≡ length starts.old }
+    ensures passed { before.code_units + 16 ≤ result.code_units }
+    ensures read { IsReadUpTo borrowed.now bytes.now result units.new starts.new }
+{
+    let at = before.code_units;
+    if is_ascii(u8x16::from_slice(&bytes[at..])) {
+        decode_ascii(bytes, borrowed, classes, before, units, starts)
+    } else {
+        decode_chars(bytes, at + BLOCK, borrowed, before, units, starts)
+    }
+}
+
+/// Writes the units and the offsets of a well-formed text up to fewer bytes than a block at the end. The class of each
+/// bracket must be ON.
+#[inline(never)]
+fn decode_blocks(
+    bytes: &[u8],
+    borrowed: &BorrowedUnits<'_>,
+    units: &mut [Unit],
+    starts: &mut [u32],
+) -> Reached
+    requires well_formed { IsUtf8 bytes.now }
+    requires neutral { AreNeutral borrowed.now.classes borrowed.now.brackets }
+    requires units { length bytes.now ≤ length units.old }
+    requires starts { length bytes.now ≤ length starts.old }
+    requires small { length bytes.now < 2 ^ 32 }
+    ensures units_len { length units.new ≡ length units.old }
+    ensures starts_len { length starts.new ≡ length starts.old }
+    ensures read { IsReadUpTo borrowed.now bytes.now result units.new starts.new }
+{
+    let classes = borrowed.ascii_classes();
+    let mut reached = Reached {
+        characters: 0,
+        code_units: 0,
+    };
+    while bytes.len() - reached.code_units >= BLOCK {
+        reached = decode_block(bytes, borrowed, classes, reached, units, starts);
+    }
+    reached
+}
+
+/// Does what `decode_blocks` does if there is a block, and the class of each bracket is ON; else writes nothing.
+#[inline(always)]
+fn decode_front(
+    bytes: &[u8],
+    borrowed: &BorrowedUnits<'_>,
+    units: &mut [Unit],
+    starts: &mut [u32],
+) -> Reached
+    requires well_formed { IsUtf8 bytes.now }
+    requires units { length bytes.now ≤ length units.old }
+    requires starts { length bytes.now ≤ length starts.old }
+    requires small { length bytes.now < 2 ^ 32 }
+    ensures units_len { length units.new ≡ length units.old }
+    ensures starts_len { length starts.new ≡ length starts.old }
+    ensures read { IsReadUpTo borrowed.now bytes.now result units.new starts.new }
+{
+    if bytes.len() >= BLOCK && borrowed.are_neutral() {
+        return decode_blocks(bytes, borrowed, units, starts);
+    }
+    Reached {
+        characters: 0,
+        code_units: 0,
+    }
+}
+
 /// Writes the units and the offsets of a well-formed text, and after the offsets the offset of the text's end. Returns
 /// how many characters there are.
 #[inline(never)]
@@ -125,8 +330,9 @@ fn decode_well_formed(
     ensures decoded { AreDecoded tables.now (utf8_text bytes.now) result units.new starts.new }
 {
     let borrowed = tables.units();
-    let mut count = 0;
-    let mut at = 0;
+    let front = decode_front(bytes, &borrowed, units, starts);
+    let mut count = front.characters;
+    let mut at = front.code_units;
     while at < bytes.len() {
         let (c, following) = known_char_at(bytes, at);
         borrowed.write_unit(c, &mut units[count]);

@@ -1,7 +1,7 @@
 // The three tables together.
 ghost use Rattle.std.specs.Prelude.{◌≡◌, true, ℕ};
 ghost use Rattle.ucdfiles.specs.Spans.{holds};
-ghost use Rattle.ucdfiles.specs.Tables.{class_by, AreNeutral};
+ghost use Rattle.ucdfiles.specs.Tables.{class_by, AreNeutral, AreOfAscii};
 ghost use Rattle.units.specs.declared.class.Class.TheVariants.{ON};
 
 use crate::bracket_table::BracketTable;
@@ -129,6 +129,33 @@ impl<'a> BorrowedUnits<'a> {
         unit.bracket = Bracket::No;
         if matches!(class, Class::ON) {
             unit.bracket = self.brackets.value(c);
+        }
+    }
+
+    #[tactic(auto, unfolding(crate::specs::Tables::class_by))]
+    #[inline(always)]
+    /// Borrows the classes of the ASCII characters.
+    pub fn ascii_classes(&self) -> &[Class]
+        ensures { AreOfAscii self.now.classes result.now }
+    {
+        self.classes.first_block()
+    }
+
+    #[tactic(auto, unfolding(crate::specs::Tables::class_by, crate::specs::Tables::bracket_by))]
+    #[inline(always)]
+    /// Does what `write_neutral` does for an ASCII character, with one load less: `classes` must be what `ascii_classes`
+    /// returns.
+    pub fn write_ascii(&self, classes: &[Class], byte: u8, unit: &mut Unit)
+        requires neutral { AreNeutral self.now.classes self.now.brackets }
+        requires classes { AreOfAscii self.now.classes classes.now }
+        requires ascii { byte < 0x80 }
+        ensures { unit.new ≡ unit_by_stages self.now byte }
+    {
+        let class = classes[usize::from(byte)];
+        unit.class = class;
+        unit.bracket = Bracket::No;
+        if matches!(class, Class::ON) {
+            unit.bracket = self.brackets.value(char::from(byte));
         }
     }
 

@@ -207,6 +207,15 @@ impl<'a, V: Copy> BorrowedStages<'a, V> {
         let number = self.numbers[code / BLOCK] as usize;
         self.values[number * BLOCK + code % BLOCK]
     }
+
+    /// Returns the values of the first block of code points, which has the ASCII characters.
+    pub fn first_block(&self) -> &[V]
+        ensures len { length result.now ≡ 128 }
+        ensures values { (c : ℕ) (d : V) → c < 128 → slice_index_or result.now c d ≡ stage_at self.now c d }
+    {
+        let from = self.numbers[0] as usize * BLOCK;
+        &self.values[from..from + BLOCK]
+    }
 }
 
 impl<V: Copy> TwoStage<V> {
