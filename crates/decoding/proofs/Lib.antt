@@ -9,4 +9,5 @@ pub mod LossyChunks
 pub mod LossyReading
 pub mod Indexing
 pub mod Utf16Texts
+pub mod Utf16Blocks
 pub mod BreakIndices

@@ -1,5 +1,5 @@
 -- Which characters the code units of a text spell, and by how many each.
-use Rattle.std.specs.Prelude.{ℕ, ◌≡◌, ◌≢◌, ◌<◌, List, length, map, None, slice_index_or}
+use Rattle.std.specs.Prelude.{ℕ, ◌≡◌, ◌≢◌, ◌<◌, ◌≤◌, ◌⊎◌, List, length, map, None, slice_index, slice_index_or}
 use Rattle.std.specs.Char.{encode_utf8}
 use Rattle.std.specs.Char.Escape.{encode_utf16}
 use Rattle.std.specs.Char.Utf16.{utf16_chars, utf16_lossy_chars}
@@ -21,6 +21,15 @@ in_utf16 c = record { code = c; width = length (encode_utf16 c) }
 -- the text that code units of 16 bits spell, with U+FFFD for each unpaired surrogate
 abbrev pub utf16_text : List ℕ → List Spelled
 utf16_text units = map in_utf16 (utf16_lossy_chars units)
+
+-- a character that one code unit spells
+abbrev pub in_one_unit : ℕ → Spelled
+in_one_unit c = record { code = c; width = 1 }
+
+-- none of the code units of 16 bits is a surrogate
+abbrev pub AreNoSurrogates : List ℕ → Type 0
+AreNoSurrogates units =
+    (k : ℕ) → k < length units → (slice_index units k < 0xD800) ⊎ (0xE000 ≤ slice_index units k)
 
 -- there is a character with the index k, and it is not an unpaired surrogate
 abbrev pub IsPaired : List ℕ → ℕ → Type 0
