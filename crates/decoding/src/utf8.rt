@@ -12,6 +12,7 @@ use crate::blocks::write_offsets;
 use crate::known::known_char_at;
 use crate::reached::Reached;
 use crate::spelling::char_at;
+use simdutf8::is_utf8;
 use std::simd::prelude::*;
 use ucdfiles::tables::{BorrowedUnits, Tables};
 use units::bracket::Unit;
@@ -96,6 +97,9 @@ fn test_chars(bytes: &[u8], from: usize, end: usize) -> Result<usize, usize>
     Ok(at)
 }
 
+/// How many bytes a text must have for a test of 64 bytes at once to take fewer instructions.
+const LONG: usize = 64;
+
 /// Tests a text block by block. Fails with the offset of the first fault if the text is ill-formed.
 #[inline(never)]
 fn test_utf8(bytes: &[u8]) -> Result<(), usize>
@@ -103,6 +107,9 @@ fn test_utf8(bytes: &[u8]) -> Result<(), usize>
     ensures fault { IfErr result (λ at. (IsUtf8 bytes.now → ⊥) × (at ≡ utf8_valid_len bytes.now)) }
     ensures well_formed { OnOk result (IsUtf8 bytes.now) }
 {
+    if bytes.len() >= LONG && is_utf8(bytes) {
+        return Ok(());
+    }
     let mut at = 0;
     while at < bytes.len() {
         let ascii = ascii_end(bytes, at);
@@ -189,8 +196,8 @@ fn decode_ascii(
     }
 }
 
-/// Writes the units and the offsets of the characters that begin before the offset `end`. The class of each bracket must
-/// be ON.
+/// Writes the units and the offsets of the characters that begin before the offset `end`. The class of each bracket
+/// must be ON.
 #[inline(always)]
 fn decode_chars(
     bytes: &[u8],
@@ -212,17 +219,17 @@ fn decode_chars(
     ensures passed { end ≤ result.code_units }
     ensures read { IsReadUpTo borrowed.now bytes.now result units.new starts.new }
 {
-    let mut count = before.characters;
+    let mut characters = before.characters;
     let mut at = before.code_units;
     while at < end {
         let (c, following) = known_char_at(bytes, at);
-        borrowed.write_neutral(c, &mut units[count]);
-        starts[count] = at as u32;
-        count += 1;
+        borrowed.write_neutral(c, &mut units[characters]);
+        starts[characters] = at as u32;
+        characters += 1;
         at = following;
     }
     Reached {
-        characters: count,
+        characters,
         code_units: at,
     }
 }

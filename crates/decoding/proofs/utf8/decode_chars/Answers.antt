@@ -23,20 +23,20 @@ loop-at-preserved c =
     let following = c.known_char_at-c.result.1 in
     let is = c.known_char_at-c.ensures in
     let more = forward bytes l.at d following is in
-    let below : l.count < length bytes =
+    let below : l.characters < length bytes =
     omega (arith, l.invariant.few, c.loop-at-test.true, c.requires.end) in
     record {
       few = omega (arith, more, l.invariant.few);
       inside = is.inside;
       front = utf8_more bytes l.at d following l.invariant.front is;
       written = subst (λ (xs : List Spelled). IsWritten tables xs (record {
-        characters = l.count + 1;
+        characters = l.characters + 1;
         code_units =
             following;
-      }) (set l.units l.count c.write_neutral.new.unit) (set l.starts l.count l.at))
+      }) (set l.units l.characters c.write_neutral.new.unit) (set l.starts l.characters l.at))
           (sym (text_more bytes l.at d following l.invariant.front is))
-          (written_more tables (utf8_text (take l.at bytes)) (in_utf8 d) l.count l.at l.units l.starts
-          c.write_neutral.new.unit (record { characters = l.count + 1; code_units = following })
+          (written_more tables (utf8_text (take l.at bytes)) (in_utf8 d) l.characters l.at l.units l.starts
+          c.write_neutral.new.unit (record { characters = l.characters + 1; code_units = following })
           (omega (arith, below, l.auto.units, c.requires.units))
           (omega (arith, below, l.auto.starts, c.requires.starts))
           c.write_neutral.ensures refl is.following l.invariant.written);

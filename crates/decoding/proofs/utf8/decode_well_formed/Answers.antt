@@ -52,7 +52,14 @@ loop-at-preserved c =
           (sym (text_more bytes l.at d following l.invariant.front is))
           (written_more tables (utf8_text (take l.at bytes)) (in_utf8 d) l.count l.at l.units l.starts
           c.write_unit.new.unit (record { characters = l.count + 1; code_units = following })
-          (omega (arith, l.invariant.few, c.loop-at-test.true, l.auto.units, c.decode_front-front.ensures.units_len, c.requires.units)) (omega (
+          (omega (
+            arith,
+            l.invariant.few,
+            c.loop-at-test.true,
+            l.auto.units,
+            c.decode_front-front.ensures.units_len,
+            c.requires.units,
+          )) (omega (
             arith,
             l.invariant.few,
             c.loop-at-test.true,
