@@ -1,10 +1,10 @@
 -- Blocks of characters of one code unit each.
-use Rattle.std.proofs.Common.{◌≡◌, ℕ, suc, ◌+◌, ◌-◌, ◌<◌, ◌≤◌, List, [], ◌∷◌, ◌++◌, length, map, take, drop, refl, subst, sym, ap, ◌∙◌, inl, inr, arith, take-add}
+use Rattle.std.proofs.Common.{◌≡◌, ℕ, suc, ◌+◌, ◌-◌, ◌<◌, ◌≤◌, List, [], ◌∷◌, ◌++◌, length, get_or, map, set, take, drop, refl, subst, sym, ap, ◌∙◌, inl, inr, arith, take-add}
 use Rattle.std.specs.Prelude.{slice_index}
 use Rattle.std.specs.Str.{chars, IsAscii, IsUtf8}
 use Rattle.std.proofs.lemmas.Bool.{cases_lt}
 use Rattle.std.proofs.Math.ListN.{get_or-append}
-use Rattle.std.proofs.lemmas.List.{get_or-append-add, get_or-take, length-append, length-map, length-take-le, map-append, take-map}
+use Rattle.std.proofs.lemmas.List.{get_or-append-add, get_or-take, length-append, length-map, length-take-le, map-append, take-map, take_more, take_more_set}
 use Rattle.std.proofs.lemmas.List.Sums.{sum_by-append, sum_by-cons}
 use Rattle.std.proofs.lemmas.Str.{chars-append, chars-IsAscii, chars-nil, encode_ascii, IsUtf8-nil}
 use Rattle.std.proofs.Math.Seq.{take-append-add}
@@ -16,10 +16,23 @@ use Rattle.ucdfiles.specs.UnitStages.{UnitStages, unit_by_stages, unit_stages}
 use Rattle.decoding.specs.Decoded.{IsReadUpTo, IsWritten, tables_with}
 use Rattle.decoding.specs.Encodings.{in_one_unit, in_utf8, utf8_text}
 use Rattle.decoding.specs.Offsets.{Spelled, code_units, codes_of, offset_of}
+use Rattle.decoding.specs.Spelling.{IsSpelled}
 use Rattle.decoding.specs.declared.reached.Reached.{Reached}
 use Rattle.decoding.proofs.OffsetLemmas.{offset-front}
 use Rattle.decoding.proofs.Utf8Tests.{utf8_block}
-use Rattle.decoding.proofs.Writing.{written_none}
+use Rattle.decoding.proofs.Spellings.{forward, text_more, utf8_more}
+use Rattle.decoding.proofs.Writing.{written_more, written_none}
+
+-- the unit of one character more
+pub unit_more : (stages : UnitStages) (block : List ℕ) (k : ℕ) (units : List BidiUnit) (u : BidiUnit)
+    → k < length block → k < length units → u ≡ unit_by_stages stages (get_or block k 0)
+    → take k units ≡ map (unit_by_stages stages) (take k block)
+    → take (k + 1) (set units k u) ≡ map (unit_by_stages stages) (take (k + 1) block)
+unit_more stages block k units u in_block in_units is before =
+    take_more_set units k u in_units ∙ ap (λ (us : List BidiUnit). us ++ u ∷ []) before
+    ∙ ap (λ (x : BidiUnit). map (unit_by_stages stages) (take k block) ++ x ∷ []) is
+    ∙ sym (map-append (unit_by_stages stages) (take k block) (get_or block k 0 ∷ []))
+    ∙ ap (map (unit_by_stages stages)) (sym (take_more block k 0 in_block))
 
 codes_of_ones : (cs : List ℕ) → codes_of (map in_one_unit cs) ≡ cs
 codes_of_ones [] = refl
@@ -187,6 +200,29 @@ read_block stages bs n before units more starts begins inside ascii r w = record
     code_units = before.code_units + n;
   }) more begins) (sym (text_block bs before.code_units n r.front ascii)) w;
 }
+
+-- a character is read after the characters before it
+pub read_char : (stages : UnitStages) (bs : List ℕ) (c following : ℕ) (before : Reached) (units : List BidiUnit)
+    (starts : List ℕ) (u : BidiUnit)
+    → before.characters < length units → before.characters < length starts → u ≡ unit_by_stages stages c
+    → IsSpelled bs before.code_units (c, following) → IsReadUpTo stages bs before units starts
+    → IsReadUpTo stages bs (record {
+      characters = before.characters + 1;
+      code_units = following;
+    }) (set units before.characters u) (set starts before.characters before.code_units)
+read_char stages bs c following before units starts u in_units in_starts is spelled r =
+    let at : ℕ = before.code_units in
+    let more = forward bs at c following spelled in
+    let next : Reached = record { characters = before.characters + 1; code_units = following } in
+    record {
+      few = omega (arith, more, r.few);
+      inside = spelled.inside;
+      front = utf8_more bs at c following r.front spelled;
+      written = subst (λ (xs : List Spelled). IsWritten (tables_with stages) xs next (set units before.characters u)
+          (set starts before.characters at)) (sym (text_more bs at c following r.front spelled))
+          (written_more (tables_with stages) (utf8_text (take at bs)) (in_utf8 c) before.characters at units starts u
+          next in_units in_starts is refl spelled.following r.written);
+    }
 
 -- nothing is read yet
 pub read_none : (stages : UnitStages) (bs : List ℕ) (units : List BidiUnit) (starts : List ℕ) →

@@ -5,6 +5,7 @@ pub mod Spellings
 pub mod Utf8Tests
 pub mod BlockReading
 pub mod KnownChars
+pub mod PairBlocks
 pub mod LossyChunks
 pub mod LossyReading
 pub mod Indexing

@@ -1,5 +1,5 @@
 -- One character of a text in UTF-8, as its bytes.
-use Rattle.std.specs.Prelude.{ℕ, ◌≡◌, ◌+◌, ◌<◌, ◌≤◌, List, ◌++◌, length, take}
+use Rattle.std.specs.Prelude.{ℕ, ◌≡◌, ◌+◌, ◌<◌, ◌≤◌, ◌*◌, List, ◌++◌, length, take, slice_index}
 use Rattle.std.specs.Char.{encode_utf8, IsScalar}
 use Rattle.std.specs.Str.{StartsWithNoChar}
 
@@ -23,3 +23,9 @@ pub record IsSpelled (bytes : List ℕ) (at : ℕ) (found : ℕ × ℕ) : Type 0
   pub following : found.1 ≡ at + length (encode_utf8 found.0)
   pub inside : found.1 ≤ length bytes
   pub spelled : take found.1 bytes ≡ take at bytes ++ encode_utf8 found.0
+
+-- the byte at the offset is the first of two that spell a code point of this block of 128
+pub record BeginsInBlock (bytes : List ℕ) (block at : ℕ) : Type 0 where
+  pub inside : at < length bytes
+  pub least : 0xC0 + block * 2 ≤ slice_index bytes at
+  pub most : slice_index bytes at < 0xC2 + block * 2

@@ -1,7 +1,7 @@
 //! The character that begins at an offset of well-formed UTF-8, read without tests of its bytes.
-ghost use Rattle.std.specs.Prelude.{ℕ, ◌≡◌, ◌<◌, [], ◌∷◌, length, take};
+ghost use Rattle.std.specs.Prelude.{ℕ, ◌≡◌, ◌<◌, ◌+◌, ◌*◌, ◌↔◌, [], ◌∷◌, length, take, IsTrue};
 ghost use Rattle.std.specs.Str.{IsUtf8};
-ghost use Rattle.decoding.specs.Spelling.{IsOfBytes, IsSpelled};
+ghost use Rattle.decoding.specs.Spelling.{BeginsInBlock, IsOfBytes, IsSpelled};
 
 #[inline(always)]
 fn of_two(x: u8, y: u8) -> char
@@ -49,4 +49,26 @@ pub fn known_char_at(bytes: &[u8], at: usize) -> (char, usize)
         let c = of_four(x, bytes[at + 1], bytes[at + 2], bytes[at + 3]);
         (c, at + 4)
     }
+}
+
+/// Returns whether a character of two bytes begins at an offset, in this block of 128 code points.
+#[inline(always)]
+pub fn is_in_block(bytes: &[u8], at: usize, block: u8) -> bool
+    requires { block < 16 }
+    ensures { IsTrue result ↔ BeginsInBlock bytes.now block at }
+{
+    at < bytes.len() && bytes[at].wrapping_sub(0xC0 + block * 2) < 2
+}
+
+/// Returns the index in its block of the character of two bytes that begins at an offset.
+#[inline(always)]
+pub fn index_in_block(bytes: &[u8], at: usize, block: u8) -> u8
+    requires well_formed { IsUtf8 bytes.now }
+    requires front { IsUtf8 (take at bytes.now) }
+    requires block { block < 16 }
+    requires begins { BeginsInBlock bytes.now block at }
+    ensures small { result < 128 }
+    ensures spelled { IsSpelled bytes.now at (block * 128 + result, at + 2) }
+{
+    (bytes[at] - (0xC0 + block * 2)) * 0x40 + (bytes[at + 1] - 0x80)
 }

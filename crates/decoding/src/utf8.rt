@@ -1,15 +1,15 @@
 //! The characters of a text in UTF-8: their units, the offsets at which they begin, and the offset of the first fault.
-ghost use Rattle.std.specs.Prelude.{◌≡◌, ◌<◌, ◌≤◌, ◌+◌, ◌^◌, ◌++◌, List, drop, length, map, take, IfErr, IfOk, IsTrue, OnOk};
+ghost use Rattle.std.specs.Prelude.{◌≡◌, ◌<◌, ◌≤◌, ◌+◌, ◌^◌, ◌++◌, List, drop, length, map, slice_index, take, IfErr, IfOk, IsTrue, OnOk};
 ghost use Rattle.std.specs.Str.{chars, IsAscii, IsUtf8};
 ghost use Rattle.std.specs.Str.Lossy.{utf8_valid_len};
-ghost use Rattle.ucdfiles.specs.Tables.{AreNeutral, AreOfAscii};
+ghost use Rattle.ucdfiles.specs.Tables.{AreNeutral, AreOfBlock};
 ghost use Rattle.ucdfiles.specs.UnitStages.{unit_by_stages};
 ghost use Rattle.decoding.specs.Decoded.{AreDecoded, IsReadUpTo, IsWritten};
 ghost use Rattle.decoding.specs.Encodings.{utf8_text};
 ghost use Rattle.decoding.specs.Offsets.{Spelled};
 
 use crate::blocks::write_offsets;
-use crate::known::known_char_at;
+use crate::known::{index_in_block, is_in_block, known_char_at};
 use crate::reached::Reached;
 use crate::spelling::char_at;
 use simdutf8::is_utf8;
@@ -128,7 +128,7 @@ fn write_next(
     units: &mut [Unit],
 )
     requires neutral { AreNeutral borrowed.now.classes borrowed.now.brackets }
-    requires classes { AreOfAscii borrowed.now.classes classes.now }
+    requires classes { AreOfBlock borrowed.now.classes 0 classes.now }
     requires inside { k < length block.now }
     requires ascii { IsAscii block.now }
     requires fits { length block.now ≤ length units.old }
@@ -136,14 +136,14 @@ fn write_next(
     ensures len { length units.new ≡ length units.old }
     ensures written { take (k + 1) units.new ≡ map (unit_by_stages borrowed.now) (take (k + 1) block.now) }
 {
-    borrowed.write_ascii(classes, block[k], &mut units[k]);
+    borrowed.write_in_block(classes, 0, block[k], &mut units[k]);
 }
 
 /// Writes the units of a block of ASCII.
 #[inline(always)]
 fn write_ascii(borrowed: &BorrowedUnits<'_>, classes: &[Class], block: &[u8], units: &mut [Unit])
     requires neutral { AreNeutral borrowed.now.classes borrowed.now.brackets }
-    requires classes { AreOfAscii borrowed.now.classes classes.now }
+    requires classes { AreOfBlock borrowed.now.classes 0 classes.now }
     requires len { length block.now ≡ 16 }
     requires ascii { IsAscii block.now }
     requires fits { length units.old ≡ 16 }
@@ -169,7 +169,7 @@ fn decode_ascii(
     starts: &mut [u32],
 ) -> Reached
     requires neutral { AreNeutral borrowed.now.classes borrowed.now.brackets }
-    requires classes { AreOfAscii borrowed.now.classes classes.now }
+    requires classes { AreOfBlock borrowed.now.classes 0 classes.now }
     requires remaining { before.code_units + 16 ≤ length bytes.now }
     requires ascii { IsAscii (take 16 (drop before.code_units bytes.now)) }
     requires units { length bytes.now ≤ length units.old }
@@ -196,8 +196,106 @@ fn decode_ascii(
     }
 }
 
-/// Writes the units and the offsets of the characters that begin before the offset `end`. The class of each bracket
-/// must be ON.
+/// Writes the units and the offsets of the characters of two bytes from an offset on, as long as they are in the block of
+/// the first one. The class of each bracket must be ON.
+#[inline(always)]
+fn decode_pairs(
+    bytes: &[u8],
+    borrowed: &BorrowedUnits<'_>,
+    before: Reached,
+    units: &mut [Unit],
+    starts: &mut [u32],
+) -> Reached
+    requires well_formed { IsUtf8 bytes.now }
+    requires neutral { AreNeutral borrowed.now.classes borrowed.now.brackets }
+    requires pair { (before.code_units < length bytes.now) × (0xC0 ≤ slice_index bytes.now before.code_units)
+        × (slice_index bytes.now before.code_units < 0xE0) }
+    requires units { length bytes.now ≤ length units.old }
+    requires starts { length bytes.now ≤ length starts.old }
+    requires small { length bytes.now < 2 ^ 32 }
+    requires read { IsReadUpTo borrowed.now bytes.now before units.old starts.old }
+    ensures units_len { length units.new ≡ length units.old }
+    ensures starts_len { length starts.new ≡ length starts.old }
+    ensures forward { before.code_units < result.code_units }
+    ensures read { IsReadUpTo borrowed.now bytes.now result units.new starts.new }
+{
+    let block = (bytes[before.code_units] - 0xC0) / 2;
+    let classes = borrowed.block_classes(usize::from(block));
+    let mut characters = before.characters;
+    let mut at = before.code_units;
+    'pairs: while is_in_block(bytes, at, block) {
+        let k = index_in_block(bytes, at, block);
+        borrowed.write_in_block(classes, usize::from(block), k, &mut units[characters]);
+        starts[characters] = at as u32;
+        characters += 1;
+        at += 2;
+    }
+    Reached {
+        characters,
+        code_units: at,
+    }
+}
+
+/// Writes the unit and the offset of a character. The class of each bracket must be ON.
+#[inline(always)]
+fn decode_char(
+    bytes: &[u8],
+    borrowed: &BorrowedUnits<'_>,
+    before: Reached,
+    units: &mut [Unit],
+    starts: &mut [u32],
+) -> Reached
+    requires well_formed { IsUtf8 bytes.now }
+    requires neutral { AreNeutral borrowed.now.classes borrowed.now.brackets }
+    requires remaining { before.code_units < length bytes.now }
+    requires units { length bytes.now ≤ length units.old }
+    requires starts { length bytes.now ≤ length starts.old }
+    requires small { length bytes.now < 2 ^ 32 }
+    requires read { IsReadUpTo borrowed.now bytes.now before units.old starts.old }
+    ensures units_len { length units.new ≡ length units.old }
+    ensures starts_len { length starts.new ≡ length starts.old }
+    ensures forward { before.code_units < result.code_units }
+    ensures read { IsReadUpTo borrowed.now bytes.now result units.new starts.new }
+{
+    let (c, following) = known_char_at(bytes, before.code_units);
+    borrowed.write_neutral(c, &mut units[before.characters]);
+    starts[before.characters] = before.code_units as u32;
+    Reached {
+        characters: before.characters + 1,
+        code_units: following,
+    }
+}
+
+/// Writes the unit and the offset of a character, or of several of two bytes.
+#[inline(always)]
+fn decode_next(
+    bytes: &[u8],
+    borrowed: &BorrowedUnits<'_>,
+    before: Reached,
+    units: &mut [Unit],
+    starts: &mut [u32],
+) -> Reached
+    requires well_formed { IsUtf8 bytes.now }
+    requires neutral { AreNeutral borrowed.now.classes borrowed.now.brackets }
+    requires remaining { before.code_units < length bytes.now }
+    requires units { length bytes.now ≤ length units.old }
+    requires starts { length bytes.now ≤ length starts.old }
+    requires small { length bytes.now < 2 ^ 32 }
+    requires read { IsReadUpTo borrowed.now bytes.now before units.old starts.old }
+    ensures units_len { length units.new ≡ length units.old }
+    ensures starts_len { length starts.new ≡ length starts.old }
+    ensures forward { before.code_units < result.code_units }
+    ensures read { IsReadUpTo borrowed.now bytes.now result units.new starts.new }
+{
+    let x = bytes[before.code_units];
+    if 0xC0 <= x && x < 0xE0 {
+        decode_pairs(bytes, borrowed, before, units, starts)
+    } else {
+        decode_char(bytes, borrowed, before, units, starts)
+    }
+}
+
+/// Writes the units and the offsets of the characters that begin before the offset `end`, and maybe of some after it.
 #[inline(always)]
 fn decode_chars(
     bytes: &[u8],
@@ -219,19 +317,11 @@ fn decode_chars(
     ensures passed { end ≤ result.code_units }
     ensures read { IsReadUpTo borrowed.now bytes.now result units.new starts.new }
 {
-    let mut characters = before.characters;
-    let mut at = before.code_units;
-    while at < end {
-        let (c, following) = known_char_at(bytes, at);
-        borrowed.write_neutral(c, &mut units[characters]);
-        starts[characters] = at as u32;
-        characters += 1;
-        at = following;
+    let mut reached = before;
+    while reached.code_units < end {
+        reached = decode_next(bytes, borrowed, reached, units, starts);
     }
-    Reached {
-        characters,
-        code_units: at,
-    }
+    reached
 }
 
 /// Writes the units and the offsets of the next characters, up to the end of a block or past it.
@@ -246,7 +336,7 @@ fn decode_block(
 ) -> Reached
     requires well_formed { IsUtf8 bytes.now }
     requires neutral { AreNeutral borrowed.now.classes borrowed.now.brackets }
-    requires classes { AreOfAscii borrowed.now.classes classes.now }
+    requires classes { AreOfBlock borrowed.now.classes 0 classes.now }
     requires remaining { before.code_units + 16 ≤ length bytes.now }
     requires units { length bytes.now ≤ length units.old }
     requires starts { length bytes.now ≤ length starts.old }
@@ -283,7 +373,7 @@ fn decode_blocks(
     ensures starts_len { length starts.new ≡ length starts.old }
     ensures read { IsReadUpTo borrowed.now bytes.now result units.new starts.new }
 {
-    let classes = borrowed.ascii_classes();
+    let classes = borrowed.block_classes(0);
     let mut reached = Reached {
         characters: 0,
         code_units: 0,

@@ -1,5 +1,5 @@
 -- What the tables give a code point.
-use Rattle.std.specs.Prelude.{Option, None, ℕ, List, [], map, ◌≡◌, ◌≢◌, ◌<◌, ◌≤◌, length, slice_index_or}
+use Rattle.std.specs.Prelude.{Option, None, ℕ, List, [], map, ◌≡◌, ◌≢◌, ◌<◌, ◌≤◌, ◌+◌, ◌*◌, length, slice_index_or}
 use Rattle.std.specs.Option.{unwrap_or}
 use Rattle.units.specs.declared.class.Class.{Class}
 use Rattle.units.specs.declared.class.Class.TheVariants.{L, ON}
@@ -44,7 +44,7 @@ IsTableOf spans table = (c : ℕ) → c ≤ 0x10FFFF → bracket_by table c ≡ 
 abbrev pub AreNeutral : Stages Class → Stages Bracket → Type 0
 AreNeutral classes brackets = (c : ℕ) → c ≤ 0x10FFFF → class_by classes c ≢ ON → bracket_by brackets c ≡ No
 
--- the classes that a table gives the ASCII characters
-pub record AreOfAscii (table : Stages Class) (classes : List Class) : Type 0 where
+-- the classes that a table gives the code points of a block
+pub record AreOfBlock (table : Stages Class) (block : ℕ) (classes : List Class) : Type 0 where
   pub count : length classes ≡ 128
-  pub values : (c : ℕ) → c < 128 → slice_index_or classes c L ≡ class_by table c
+  pub values : (k : ℕ) → k < 128 → slice_index_or classes k L ≡ class_by table (block * 128 + k)

@@ -1,7 +1,7 @@
 // The three tables together.
 ghost use Rattle.std.specs.Prelude.{◌≡◌, true, ℕ};
 ghost use Rattle.ucdfiles.specs.Spans.{holds};
-ghost use Rattle.ucdfiles.specs.Tables.{class_by, AreNeutral, AreOfAscii};
+ghost use Rattle.ucdfiles.specs.Tables.{class_by, AreNeutral, AreOfBlock};
 ghost use Rattle.units.specs.declared.class.Class.TheVariants.{ON};
 
 use crate::bracket_table::BracketTable;
@@ -81,7 +81,7 @@ impl<'a> Model for BorrowedUnits<'a> {
 }
 
 impl<'a> BorrowedUnits<'a> {
-    ghost use Rattle.std.specs.Prelude.{◌+◌, ◌<◌, ◌≤◌, length, map, take};
+    ghost use Rattle.std.specs.Prelude.{◌+◌, ◌*◌, ◌<◌, ◌≤◌, length, map, take};
     ghost use Rattle.ucdfiles.specs.UnitStages.{unit_by_stages};
 
     /// Returns the properties of a character that the algorithm uses: its class and its bracket.
@@ -134,28 +134,30 @@ impl<'a> BorrowedUnits<'a> {
 
     #[tactic(auto, unfolding(crate::specs::Tables::class_by))]
     #[inline(always)]
-    /// Borrows the classes of the ASCII characters.
-    pub fn ascii_classes(&self) -> &[Class]
-        ensures { AreOfAscii self.now.classes result.now }
+    /// Borrows the classes of a block of 128 code points: the first block has those from 0 on.
+    pub fn block_classes(&self, block: usize) -> &[Class]
+        requires { block < 8704 }
+        ensures { AreOfBlock self.now.classes block result.now }
     {
-        self.classes.first_block()
+        self.classes.block(block)
     }
 
     #[tactic(auto, unfolding(crate::specs::Tables::class_by, crate::specs::Tables::bracket_by))]
     #[inline(always)]
-    /// Does what `write_neutral` does for an ASCII character, with one load less: `classes` must be what `ascii_classes`
-    /// returns.
-    pub fn write_ascii(&self, classes: &[Class], byte: u8, unit: &mut Unit)
+    /// Does what `write_neutral` does for the code point with the index `k` of a block, with one load less: `classes`
+    /// must be those of the block.
+    pub fn write_in_block(&self, classes: &[Class], block: usize, k: u8, unit: &mut Unit)
         requires neutral { AreNeutral self.now.classes self.now.brackets }
-        requires classes { AreOfAscii self.now.classes classes.now }
-        requires ascii { byte < 0x80 }
-        ensures { unit.new ≡ unit_by_stages self.now byte }
+        requires block { block < 8704 }
+        requires classes { AreOfBlock self.now.classes block classes.now }
+        requires inside { k < 128 }
+        ensures { unit.new ≡ unit_by_stages self.now (block * 128 + k) }
     {
-        let class = classes[usize::from(byte)];
+        let class = classes[usize::from(k)];
         unit.class = class;
         unit.bracket = Bracket::No;
         if matches!(class, Class::ON) {
-            unit.bracket = self.brackets.value(char::from(byte));
+            unit.bracket = self.brackets.block(block)[usize::from(k)];
         }
     }
 

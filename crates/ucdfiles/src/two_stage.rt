@@ -208,12 +208,14 @@ impl<'a, V: Copy> BorrowedStages<'a, V> {
         self.values[number * BLOCK + code % BLOCK]
     }
 
-    /// Returns the values of the first block of code points, which has the ASCII characters.
-    pub fn first_block(&self) -> &[V]
+    /// Returns the values of a block of code points: the first block has those from 0 on.
+    pub fn block(&self, block: usize) -> &[V]
+        requires { block < 8704 }
         ensures len { length result.now ≡ 128 }
-        ensures values { (c : ℕ) (d : V) → c < 128 → slice_index_or result.now c d ≡ stage_at self.now c d }
+        ensures values { (k : ℕ) (d : V) → k < 128
+            → slice_index_or result.now k d ≡ stage_at self.now (block * 128 + k) d }
     {
-        let from = self.numbers[0] as usize * BLOCK;
+        let from = self.numbers[block] as usize * BLOCK;
         &self.values[from..from + BLOCK]
     }
 }
