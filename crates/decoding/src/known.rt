@@ -1,5 +1,5 @@
 //! The character that begins at an offset of well-formed UTF-8, read without tests of its bytes.
-ghost use Rattle.std.specs.Prelude.{ℕ, ◌≡◌, ◌<◌, ◌+◌, ◌*◌, ◌↔◌, [], ◌∷◌, length, take, IsTrue};
+ghost use Rattle.std.specs.Prelude.{ℕ, ◌≡◌, ◌<◌, ◌+◌, ◌*◌, ◌↔◌, [], ◌∷◌, length, slice_index, take, IsTrue};
 ghost use Rattle.std.specs.Str.{IsUtf8};
 ghost use Rattle.decoding.specs.Spelling.{BeginsInBlock, IsOfBytes, IsSpelled};
 
@@ -49,6 +49,17 @@ pub fn known_char_at(bytes: &[u8], at: usize) -> (char, usize)
         let c = of_four(x, bytes[at + 1], bytes[at + 2], bytes[at + 3]);
         (c, at + 4)
     }
+}
+
+/// Returns the ASCII character at an offset.
+#[inline(always)]
+pub fn ascii_at(bytes: &[u8], at: usize) -> u8
+    requires inside { at < length bytes.now }
+    requires ascii { slice_index bytes.now at < 0x80 }
+    ensures small { result < 0x80 }
+    ensures spelled { IsSpelled bytes.now at (result, at + 1) }
+{
+    bytes[at]
 }
 
 /// Returns whether a character of two bytes begins at an offset, in this block of 128 code points.

@@ -9,7 +9,7 @@ ghost use Rattle.decoding.specs.Encodings.{utf8_text};
 ghost use Rattle.decoding.specs.Offsets.{Spelled};
 
 use crate::blocks::write_offsets;
-use crate::known::{index_in_block, is_in_block, known_char_at};
+use crate::known::{ascii_at, index_in_block, is_in_block, known_char_at};
 use crate::reached::Reached;
 use crate::spelling::char_at;
 use simdutf8::is_utf8;
@@ -266,6 +266,37 @@ fn decode_char(
     }
 }
 
+/// Writes the unit and the offset of an ASCII character. The class of each bracket must be ON.
+#[inline(always)]
+fn decode_byte(
+    bytes: &[u8],
+    borrowed: &BorrowedUnits<'_>,
+    before: Reached,
+    units: &mut [Unit],
+    starts: &mut [u32],
+) -> Reached
+    requires neutral { AreNeutral borrowed.now.classes borrowed.now.brackets }
+    requires remaining { before.code_units < length bytes.now }
+    requires ascii { slice_index bytes.now before.code_units < 0x80 }
+    requires units { length bytes.now ≤ length units.old }
+    requires starts { length bytes.now ≤ length starts.old }
+    requires small { length bytes.now < 2 ^ 32 }
+    requires read { IsReadUpTo borrowed.now bytes.now before units.old starts.old }
+    ensures units_len { length units.new ≡ length units.old }
+    ensures starts_len { length starts.new ≡ length starts.old }
+    ensures forward { before.code_units < result.code_units }
+    ensures read { IsReadUpTo borrowed.now bytes.now result units.new starts.new }
+{
+    let byte = ascii_at(bytes, before.code_units);
+    let classes = borrowed.block_classes(0);
+    borrowed.write_in_block(classes, 0, byte, &mut units[before.characters]);
+    starts[before.characters] = before.code_units as u32;
+    Reached {
+        characters: before.characters + 1,
+        code_units: before.code_units + 1,
+    }
+}
+
 /// Writes the unit and the offset of a character, or of several of two bytes.
 #[inline(always)]
 fn decode_next(
@@ -288,7 +319,9 @@ fn decode_next(
     ensures read { IsReadUpTo borrowed.now bytes.now result units.new starts.new }
 {
     let x = bytes[before.code_units];
-    if 0xC0 <= x && x < 0xE0 {
+    if x < 0x80 {
+        decode_byte(bytes, borrowed, before, units, starts)
+    } else if 0xC0 <= x && x < 0xE0 {
         decode_pairs(bytes, borrowed, before, units, starts)
     } else {
         decode_char(bytes, borrowed, before, units, starts)
@@ -324,6 +357,15 @@ fn decode_chars(
     reached
 }
 
+/// Returns whether a block of ASCII begins at an offset.
+#[inline(always)]
+fn begins_ascii(bytes: &[u8], at: usize) -> bool
+    requires { at ≤ length bytes.now }
+    ensures { IsTrue result → (at + 16 ≤ length bytes.now) × IsAscii (take 16 (drop at bytes.now)) }
+{
+    bytes.len() - at >= BLOCK && is_ascii(u8x16::from_slice(&bytes[at..]))
+}
+
 /// Writes the units and the offsets of the next characters, up to the end of a block or past it.
 #[inline(always)]
 fn decode_block(
@@ -337,27 +379,27 @@ fn decode_block(
     requires well_formed { IsUtf8 bytes.now }
     requires neutral { AreNeutral borrowed.now.classes borrowed.now.brackets }
     requires classes { AreOfBlock borrowed.now.classes 0 classes.now }
-    requires remaining { before.code_units + 16 ≤ length bytes.now }
+    requires remaining { before.code_units < length bytes.now }
     requires units { length bytes.now ≤ length units.old }
     requires starts { length bytes.now ≤ length starts.old }
     requires small { length bytes.now < 2 ^ 32 }
     requires read { IsReadUpTo borrowed.now bytes.now before units.old starts.old }
     ensures units_len { length units.new ≡ length units.old }
     ensures starts_len { length starts.new ≡ length starts.old }
-    ensures passed { before.code_units + 16 ≤ result.code_units }
+    ensures forward { before.code_units < result.code_units }
     ensures read { IsReadUpTo borrowed.now bytes.now result units.new starts.new }
 {
     let at = before.code_units;
-    if is_ascii(u8x16::from_slice(&bytes[at..])) {
+    if begins_ascii(bytes, at) {
         decode_ascii(bytes, borrowed, classes, before, units, starts)
     } else {
-        decode_chars(bytes, at + BLOCK, borrowed, before, units, starts)
+        let end = bytes.len().min(at + BLOCK);
+        decode_chars(bytes, end, borrowed, before, units, starts)
     }
 }
 
-/// Writes the units and the offsets of a well-formed text up to fewer bytes than a block at the end. The class of each
-/// bracket must be ON.
-#[inline(never)]
+/// Writes the units and the offsets of a well-formed text. The class of each bracket must be ON.
+#[inline(always)]
 fn decode_blocks(
     bytes: &[u8],
     borrowed: &BorrowedUnits<'_>,
@@ -371,6 +413,7 @@ fn decode_blocks(
     requires small { length bytes.now < 2 ^ 32 }
     ensures units_len { length units.new ≡ length units.old }
     ensures starts_len { length starts.new ≡ length starts.old }
+    ensures whole { length bytes.now ≤ result.code_units }
     ensures read { IsReadUpTo borrowed.now bytes.now result units.new starts.new }
 {
     let classes = borrowed.block_classes(0);
@@ -378,35 +421,10 @@ fn decode_blocks(
         characters: 0,
         code_units: 0,
     };
-    while bytes.len() - reached.code_units >= BLOCK {
+    while reached.code_units < bytes.len() {
         reached = decode_block(bytes, borrowed, classes, reached, units, starts);
     }
     reached
-}
-
-/// Does what `decode_blocks` does if there is a block, and the class of each bracket is ON; else writes nothing.
-#[inline(always)]
-fn decode_front(
-    bytes: &[u8],
-    borrowed: &BorrowedUnits<'_>,
-    units: &mut [Unit],
-    starts: &mut [u32],
-) -> Reached
-    requires well_formed { IsUtf8 bytes.now }
-    requires units { length bytes.now ≤ length units.old }
-    requires starts { length bytes.now ≤ length starts.old }
-    requires small { length bytes.now < 2 ^ 32 }
-    ensures units_len { length units.new ≡ length units.old }
-    ensures starts_len { length starts.new ≡ length starts.old }
-    ensures read { IsReadUpTo borrowed.now bytes.now result units.new starts.new }
-{
-    if bytes.len() >= BLOCK && borrowed.are_neutral() {
-        return decode_blocks(bytes, borrowed, units, starts);
-    }
-    Reached {
-        characters: 0,
-        code_units: 0,
-    }
 }
 
 /// Writes the units and the offsets of a well-formed text, and after the offsets the offset of the text's end. Returns
@@ -427,9 +445,8 @@ fn decode_well_formed(
     ensures decoded { AreDecoded tables.now (utf8_text bytes.now) result units.new starts.new }
 {
     let borrowed = tables.units();
-    let front = decode_front(bytes, &borrowed, units, starts);
-    let mut count = front.characters;
-    let mut at = front.code_units;
+    let mut count = 0;
+    let mut at = 0;
     while at < bytes.len() {
         let (c, following) = known_char_at(bytes, at);
         borrowed.write_unit(c, &mut units[count]);
@@ -439,6 +456,26 @@ fn decode_well_formed(
     }
     starts[count] = at as u32;
     count
+}
+
+/// Does what `decode_well_formed` does. Takes fewer instructions if there are several characters.
+#[inline(never)]
+fn decode_long(bytes: &[u8], tables: &Tables, units: &mut [Unit], starts: &mut [u32]) -> usize
+    requires well_formed { IsUtf8 bytes.now }
+    requires units { length bytes.now ≤ length units.old }
+    requires starts { length bytes.now < length starts.old }
+    requires small { length bytes.now < 2 ^ 32 }
+    ensures units_len { length units.new ≡ length units.old }
+    ensures starts_len { length starts.new ≡ length starts.old }
+    ensures decoded { AreDecoded tables.now (utf8_text bytes.now) result units.new starts.new }
+{
+    let borrowed = tables.units();
+    if !borrowed.are_neutral() {
+        return decode_well_formed(bytes, tables, units, starts);
+    }
+    let reached = decode_blocks(bytes, &borrowed, units, starts);
+    starts[reached.characters] = reached.code_units as u32;
+    reached.characters
 }
 
 /// Writes the units and the offsets of a text, and after the offsets the offset of the text's end. Returns how many
@@ -462,5 +499,8 @@ pub fn decode_utf8(
         AreDecoded tables.now (utf8_text bytes.now) count units.new starts.new) }
 {
     test_utf8(bytes)?;
-    Ok(decode_well_formed(bytes, tables, units, starts))
+    if bytes.len() < BLOCK {
+        return Ok(decode_well_formed(bytes, tables, units, starts));
+    }
+    Ok(decode_long(bytes, tables, units, starts))
 }

@@ -1,26 +1,25 @@
-use Rattle.std.proofs.Common.{◌∙◌, ◌+◌, ◌-◌, ◌<◌, List, ap, arith, length, refl, set, subst, sym, take}
+use Rattle.std.proofs.Common.{◌∙◌, ◌+◌, ◌-◌, ◌<◌, ℕ, List, ap, arith, length, map, refl, set, subst, sym, take}
+use Rattle.std.proofs.lemmas.Str.{chars-nil, IsUtf8-nil}
 use Rattle.ucdfiles.specs.UnitStages.{UnitStages, unit_by_stages}
-use Rattle.decoding.specs.Decoded.{IsReadUpTo, IsWritten}
+use Rattle.decoding.specs.Decoded.{IsWritten}
 use Rattle.decoding.specs.Encodings.{in_utf8, utf8_text}
 use Rattle.decoding.specs.Offsets.{Spelled}
 use Rattle.decoding.proofs.Spellings.{forward, text_more, utf8_more}
-use Rattle.decoding.proofs.BlockReading.{written_with}
-use Rattle.decoding.proofs.Writing.{written_more}
+use Rattle.decoding.proofs.Writing.{written_more, written_none}
 use Rattle.decoding.proofs.utf8.decode_well_formed.Goals as goal
 
 pub loop-at-init : goal.loop-at-init
-loop-at-init c =
-    let front = c.decode_front-front in
-    let bytes = c.args.bytes.now in
-    let r = subst (λ (s : UnitStages). IsReadUpTo s bytes front.result front.new.units front.new.starts)
-    c.units-borrowed.ensures front.ensures.read in
-    record {
-      few = r.few;
-      inside = r.inside;
-      front = r.front;
-      written = written_with c.args.tables.now (utf8_text (take front.result.code_units bytes)) front.result
-          front.new.units front.new.starts r.written;
-    }
+loop-at-init c = record {
+  few = omega arith;
+  inside = omega arith;
+  front = IsUtf8-nil;
+  written = subst (λ (cs : List ℕ). IsWritten c.args.tables.now (map in_utf8 cs) (record {
+    characters = 0;
+    code_units =
+        0;
+  }) c.args.units.now c.args.starts.now) (sym chars-nil)
+      (written_none c.args.tables.now c.args.units.now c.args.starts.now);
+}
 
 pub loop-at-smaller : goal.loop-at-smaller
 loop-at-smaller c =
@@ -52,19 +51,11 @@ loop-at-preserved c =
           (sym (text_more bytes l.at d following l.invariant.front is))
           (written_more tables (utf8_text (take l.at bytes)) (in_utf8 d) l.count l.at l.units l.starts
           c.write_unit.new.unit (record { characters = l.count + 1; code_units = following })
-          (omega (
-            arith,
-            l.invariant.few,
-            c.loop-at-test.true,
-            l.auto.units,
-            c.decode_front-front.ensures.units_len,
-            c.requires.units,
-          )) (omega (
+          (omega (arith, l.invariant.few, c.loop-at-test.true, l.auto.units, c.requires.units)) (omega (
             arith,
             l.invariant.few,
             c.loop-at-test.true,
             l.auto.starts,
-            c.decode_front-front.ensures.starts_len,
             c.requires.starts,
           ))
           unit refl is.following l.invariant.written);
