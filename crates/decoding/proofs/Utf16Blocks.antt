@@ -8,9 +8,9 @@ use Rattle.std.proofs.lemmas.Simd.{bitmask_splat, zip2_splat}
 use Rattle.std.proofs.str.Utf16.{lone_unit_char_low, lone_unit_char_high, utf16_chars-drop_lone}
 use lib.Lanes.{mask_l, top, zip2}
 use mir.Syntax.{w16}
-use Rattle.decoding.specs.Encodings.{in_one_unit, in_utf16, utf16_text, AreNoSurrogates, IsPaired}
+use Rattle.decoding.specs.Encodings.{in_one_unit, in_utf16, utf16_text, AreNoSurrogates, IsAt, IsPaired}
 use Rattle.decoding.specs.Offsets.{Spelled, offset_of}
-use Rattle.decoding.proofs.Utf16Texts.{at_next, is_some, one_unit, IsAt}
+use Rattle.decoding.proofs.Utf16Texts.{at_next, is_some, one_unit}
 
 -- no lane passes a test if no bit of the mask is set
 none_set : (p : ℕ → Bool) (xs : List ℕ) → mask_l (map p xs) ≡ 0 → (i : ℕ) → i < length xs → p (get_or xs i 0) ≡ false

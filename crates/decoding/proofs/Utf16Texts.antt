@@ -9,8 +9,8 @@ use Rattle.std.proofs.lemmas.List.{get_or-map, get_or-drop, length-drop, length-
 use Rattle.std.proofs.lemmas.List.Elements.{All-map}
 use Rattle.std.proofs.str.Utf16.{utf16_chars-drop_all}
 use borrow.Author.Tests.{lt-ltb, le-ltb}
-use Rattle.decoding.specs.Encodings.{in_utf16, utf16_text}
-use Rattle.decoding.specs.Offsets.{Spelled, IsSpelledOut, code_units, offset_of}
+use Rattle.decoding.specs.Encodings.{in_utf16, utf16_text, IsAt}
+use Rattle.decoding.specs.Offsets.{Spelled, IsSpelledOut, code_units}
 use Rattle.decoding.proofs.OffsetLemmas.{offset_more}
 
 -- a character below 2 ^ 16 takes one code unit, the others two
@@ -43,13 +43,6 @@ front_of_rest xs ys n x d is = (
   ap (λ k. get_or xs k d) {x = n} {y = n + 0} (omega arith) ∙ sym (get_or-drop n xs 0 d) ∙ ap (λ zs. get_or zs 0 d) is,
   sym (drop-drop 1 n xs) ∙ ap (drop 1) is,
 )
-
--- the characters from the index on are those of the code units from the offset on
-pub record IsAt (units : List ℕ) (count at : ℕ) : Type 0 where
-  pub rest : drop count (utf16_chars units) ≡ utf16_chars (drop at units)
-  pub offset : at ≡ offset_of (utf16_text units) count
-  pub few : count ≤ at
-  pub inside : at ≤ length units
 
 -- the next character and the offset after it
 pub record IsNext (units : List ℕ) (count at : ℕ) (found : Option ℕ) (following : ℕ) : Type 0 where

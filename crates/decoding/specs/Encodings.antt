@@ -1,5 +1,5 @@
 -- Which characters the code units of a text spell, and by how many each.
-use Rattle.std.specs.Prelude.{ℕ, ◌≡◌, ◌≢◌, ◌<◌, ◌≤◌, ◌⊎◌, List, length, map, None, slice_index, slice_index_or}
+use Rattle.std.specs.Prelude.{ℕ, ◌≡◌, ◌≢◌, ◌<◌, ◌≤◌, ◌⊎◌, List, drop, length, map, None, slice_index, slice_index_or}
 use Rattle.std.specs.Char.{encode_utf8}
 use Rattle.std.specs.Char.Escape.{encode_utf16}
 use Rattle.std.specs.Char.Utf16.{utf16_chars, utf16_lossy_chars}
@@ -46,3 +46,10 @@ pub record IsFirstLone (units : List ℕ) (at : ℕ) : Type 0 where
   pub lone : slice_index_or (utf16_chars units) index None ≡ None
   pub earlier : (k : ℕ) → k < index → IsPaired units k
   pub offset : at ≡ offset_of (utf16_text units) index
+
+-- the characters from the index on are those of the code units of 16 bits from the offset on
+pub record IsAt (units : List ℕ) (count at : ℕ) : Type 0 where
+  pub rest : drop count (utf16_chars units) ≡ utf16_chars (drop at units)
+  pub offset : at ≡ offset_of (utf16_text units) count
+  pub few : count ≤ at
+  pub inside : at ≤ length units

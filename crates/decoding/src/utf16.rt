@@ -1,12 +1,12 @@
 //! The characters of a text in UTF-16: their units, and the offsets at which they begin.
-ghost use Rattle.std.specs.Prelude.{◌≡◌, ◌<◌, ◌≤◌, ◌+◌, ◌^◌, ◌∷◌, ◌++◌, List, drop, length, map, slice_index, take, IfErr, IfOk, IsTrue, MatchOption, OnOk, Some, None};
+ghost use Rattle.std.specs.Prelude.{ℕ, ◌≡◌, ◌<◌, ◌≤◌, ◌+◌, ◌^◌, ◌∷◌, ◌++◌, List, drop, length, map, slice_index, take, IfErr, IfOk, IsTrue, MatchOption, OnOk, Some, None};
 ghost use Rattle.std.specs.Option.{unwrap_or};
 ghost use Rattle.std.specs.Char.Escape.{encode_utf16};
 ghost use Rattle.std.specs.Char.Utf16.{utf16_chars};
 ghost use Rattle.ucdfiles.specs.Tables.{AreNeutral};
 ghost use Rattle.ucdfiles.specs.UnitStages.{unit_by_stages};
 ghost use Rattle.decoding.specs.Decoded.{tables_with, AreDecoded, IsWritten};
-ghost use Rattle.decoding.specs.Encodings.{in_one_unit, utf16_text, AreNoSurrogates, IsFirstLone, IsUtf16};
+ghost use Rattle.decoding.specs.Encodings.{in_one_unit, utf16_text, AreNoSurrogates, IsAt, IsFirstLone, IsPaired, IsUtf16};
 ghost use Rattle.decoding.specs.Offsets.{Spelled, code_units};
 ghost use Rattle.decoding.specs.declared.fault.Faults.TheVariants.{Rejected};
 
@@ -150,6 +150,55 @@ fn decode_block(
     write_offsets(&mut starts[count..count + BLOCK], at);
 }
 
+/// Writes the units and the offsets of blocks from an offset on, as long as they have no surrogates. Writes nothing if
+/// the class of each bracket isn't known to be ON.
+#[inline(never)]
+fn decode_blocks(
+    text: &[u16],
+    tables: &Tables,
+    before: Reached,
+    units: &mut [Unit],
+    starts: &mut [u32],
+) -> Reached
+    requires units { length text.now ≤ length units.old }
+    requires starts { length text.now ≤ length starts.old }
+    requires small { length text.now < 2 ^ 32 }
+    requires reached { IsAt text.now before.characters before.code_units }
+    requires written { IsWritten tables.now (take before.characters (utf16_text text.now)) before units.old starts.old }
+    ensures units_len { length units.new ≡ length units.old }
+    ensures starts_len { length starts.new ≡ length starts.old }
+    ensures from { before.code_units ≤ result.code_units }
+    ensures reached { IsAt text.now result.characters result.code_units }
+    ensures written { IsWritten tables.now (take result.characters (utf16_text text.now)) result units.new starts.new }
+    ensures paired { (k : ℕ) → before.characters ≤ k → k < result.characters → IsPaired text.now k }
+{
+    let borrowed = tables.units();
+    if !borrowed.are_neutral() {
+        return before;
+    }
+    let mut count = before.characters;
+    let mut at = before.code_units;
+    'scalars: while begins_block(text, at) {
+        let reached = Reached {
+            characters: count,
+            code_units: at,
+        };
+        decode_block(text, &borrowed, reached, units, starts);
+        count += BLOCK;
+        at += BLOCK;
+    }
+    Reached {
+        characters: count,
+        code_units: at,
+    }
+}
+
+/// Returns the offset from which on a text is tested for blocks: its end if it is too short.
+#[inline(always)]
+fn first_test(text: &[u16]) -> usize {
+    if text.len() < BLOCK { text.len() } else { 0 }
+}
+
 /// Writes the units and the offsets of a text, and after the offsets the offset of the text's end. Returns how many
 /// characters there are. If `faults` rejects unpaired surrogates, fails with the offset of the first one.
 // Not inlined, a code unit takes fewer instructions.
@@ -173,23 +222,20 @@ pub fn decode_utf16(
     ensures whole { OnOk result (code_units (utf16_text text.now) ≡ length text.now) }
 {
     let borrowed = tables.units();
-    let neutral = borrowed.are_neutral();
     let mut count = 0;
     let mut at = 0;
-    let mut tested = 0;
+    let mut tested = first_test(text);
     while at < text.len() {
         if tested <= at {
-            if neutral && begins_block(text, at) {
-                let before = Reached {
-                    characters: count,
-                    code_units: at,
-                };
-                decode_block(text, &borrowed, before, units, starts);
-                count += BLOCK;
-                at += BLOCK;
-                continue;
-            }
-            tested = at + BLOCK;
+            let before = Reached {
+                characters: count,
+                code_units: at,
+            };
+            let reached = decode_blocks(text, tables, before, units, starts);
+            count = reached.characters;
+            at = reached.code_units;
+            tested = at + 2 * BLOCK;
+            continue;
         }
         let (found, following) = char_at(text, at);
         let Some(c) = read(found, faults) else {

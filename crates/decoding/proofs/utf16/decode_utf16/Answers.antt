@@ -1,54 +1,14 @@
-use Rattle.std.proofs.Common.{◌≡◌, ◌∙◌, ◌<◌, ◌+◌, ◌++◌, ℕ, List, [], arith, ap, drop, get_or, inl, inr, length, map, set, subst, sym, take}
+use Rattle.std.proofs.Common.{◌≡◌, ◌∙◌, ◌<◌, ◌+◌, ℕ, List, [], arith, ap, get_or, inl, inr, length, set, subst, sym, take}
 use Rattle.std.specs.Option.{unwrap_or}
 use Rattle.std.specs.Char.Escape.{encode_utf16}
-use Rattle.std.proofs.lemmas.Bool.{cases_eq, cases_lt}
+use Rattle.std.proofs.lemmas.Bool.{cases_eq}
 use Rattle.ucdfiles.specs.UnitStages.{UnitStages, unit_by_stages}
-use Rattle.decoding.specs.Decoded.{tables_with, IsWritten}
-use Rattle.decoding.specs.Encodings.{in_one_unit, in_utf16, utf16_text, IsPaired}
+use Rattle.decoding.specs.Decoded.{IsWritten}
+use Rattle.decoding.specs.Encodings.{in_utf16, utf16_text, IsPaired}
 use Rattle.decoding.specs.Offsets.{Spelled}
 use Rattle.decoding.proofs.Utf16Texts.{at_end, at_next, units_of_utf16, whole_text, is_some}
-use Rattle.decoding.proofs.Utf16Blocks.{apart_in_block, at_block}
-use Rattle.decoding.proofs.BlockReading.{written_from, written_with}
 use Rattle.decoding.proofs.Writing.{decoded_whole, written_next}
 use Rattle.decoding.proofs.utf16.decode_utf16.Goals as goal
-
-pub decode_block-requires-clause-scalars : goal.decode_block-requires-clause-scalars
-decode_block-requires-clause-scalars c = (c.begins_block.ensures c.if-begins_block.true).1
-
-pub loop-at-preserved-then-begins_block : goal.loop-at-preserved-then-begins_block
-loop-at-preserved-then-begins_block c =
-    let l = c.loop-at in
-    let text = c.args.text.now in
-    let tables = c.args.tables.now in
-    let stages = c.units-borrowed.result in
-    let begins = c.begins_block.ensures c.if-begins_block.true in
-    let block = at_block text l.count l.at 8 begins.0 (λ k. omega (arith, c.type_inv.text k))
-    (apart_in_block text l.at 8 begins.0 begins.1) l.invariant.reached in
-    let before = written_from tables (take l.count (utf16_text text)) (record {
-      characters = l.count;
-      code_units = l.at;
-    }) l.units l.starts l.invariant.written in
-    let after = c.decode_block.ensures.written (take l.count (utf16_text text))
-    (subst (λ (s : UnitStages). IsWritten (tables_with s) (take l.count (utf16_text text)) (record {
-      characters = l.count;
-      code_units = l.at;
-    }) l.units l.starts) (sym c.units-borrowed.ensures) before) in
-    record {
-      reached = block.later;
-      written = subst (λ (xs : List Spelled). IsWritten tables xs (record {
-        characters = l.count + 8;
-        code_units = l.at + 8;
-      }) c.decode_block.new.units c.decode_block.new.starts) (sym block.read)
-          (written_with tables _ _ _ _ (subst (λ (s : UnitStages). IsWritten (tables_with s)
-          (take l.count (utf16_text text) ++ map in_one_unit (take 8 (drop l.at text))) (record {
-            characters = l.count + 8;
-            code_units = l.at + 8;
-          }) c.decode_block.new.units c.decode_block.new.starts) c.units-borrowed.ensures after));
-      paired = λ rejected k lt. elim (cases_lt k l.count) [
-        | inl below ↦ l.invariant.paired rejected k below
-        | inr from ↦ block.paired k (omega (arith, from)) lt
-      ];
-    }
 
 pub loop-at-preserved : goal.loop-at-preserved
 loop-at-preserved c =

@@ -1,8 +1,7 @@
-use Rattle.std.proofs.Common.{◌≡◌, ◌<◌, ◌-◌, ℕ, length, take}
+use Rattle.std.proofs.Common.{◌≡◌, ◌<◌, ◌+◌, ◌*◌, ◌-◌, ℕ, length, take}
 use Rattle.decoding.specs.Decoded.{IsWritten}
-use Rattle.decoding.specs.Encodings.{utf16_text, IsPaired}
+use Rattle.decoding.specs.Encodings.{utf16_text, IsAt, IsPaired}
 use Rattle.decoding.specs.declared.fault.Faults.TheVariants.{Rejected}
-use Rattle.decoding.proofs.Utf16Texts.{IsAt}
 use Rattle.decoding.proofs.utf16.decode_utf16.Given as goal
 
 abbrev pub invariant-loop-at : goal.invariant-loop-at
@@ -17,5 +16,6 @@ invariant-loop-at l =
       paired : l.fn.faults ≡ Rejected → (k : ℕ) → k < l.count → IsPaired l.text k;
     }
 
+-- fewer code units are left, or the next test is later
 abbrev pub decreases-loop-at : goal.decreases-loop-at
-decreases-loop-at l = length l.text - l.at
+decreases-loop-at l = (length l.text - l.at) * 2 + (l.at + 16 - l.tested)

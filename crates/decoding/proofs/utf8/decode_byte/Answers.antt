@@ -1,4 +1,4 @@
-use Rattle.std.proofs.Common.{◌≡◌, ◌+◌, ◌*◌, ◌<◌, ◌∙◌, ap, arith, length}
+use Rattle.std.proofs.Common.{◌+◌, ◌*◌, ◌<◌, ◌∙◌, ap, arith, length}
 use Rattle.ucdfiles.specs.UnitStages.{unit_by_stages}
 use Rattle.decoding.proofs.BlockReading.{read_char}
 use Rattle.decoding.proofs.utf8.decode_byte.Goals as goal

@@ -1,4 +1,4 @@
-use Rattle.std.proofs.Common.{arith, List, ℕ, ap, subst, take}
+use Rattle.std.proofs.Common.{arith, List, ℕ, subst, take}
 use Rattle.std.proofs.lemmas.List.{take_all}
 use Rattle.ucdfiles.specs.UnitStages.{UnitStages}
 use Rattle.decoding.specs.Decoded.{IsReadUpTo, IsWritten}

@@ -1,4 +1,4 @@
-use Rattle.std.proofs.Common.{◌≡◌, ◌+◌, ◌*◌, ◌∙◌, ap, arith, get_or}
+use Rattle.std.proofs.Common.{◌+◌, ◌*◌, ◌∙◌, ap, arith, get_or}
 use Rattle.ucdfiles.specs.UnitStages.{unit_by_stages}
 use Rattle.decoding.proofs.BlockReading.{unit_more}
 use Rattle.decoding.proofs.utf8.write_next.Goals as goal
