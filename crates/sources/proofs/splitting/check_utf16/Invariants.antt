@@ -1,6 +1,5 @@
 use Rattle.std.proofs.Common.{◌-◌, ◌<◌, ℕ, length}
-use Rattle.decoding.specs.Encodings.{IsPaired}
-use Rattle.decoding.proofs.Utf16Texts.{IsAt}
+use Rattle.decoding.specs.Encodings.{IsAt, IsPaired}
 use Rattle.sources.proofs.splitting.check_utf16.Given as goal
 
 -- some characters have been read, and none of them is a lone surrogate
