@@ -3,21 +3,50 @@ ghost use Rattle.std.specs.Prelude.{true, ◌≡◌, ◌<◌, ◌≤◌, ◌+◌
 ghost use Rattle.std.specs.Char.{IsScalar};
 ghost use Rattle.ucdfiles.specs.Tables.{AreNeutral, units_by};
 ghost use Rattle.ucdfiles.specs.UnitStages.{unit_by_stages};
-ghost use Rattle.sources.specs.Kinds.{AllAre, IsFirstOther};
+ghost use Rattle.sources.specs.Kinds.{AllAre, IsFirstOther, IsNoSurrogate};
 
 use ucdfiles::tables::{BorrowedUnits, Tables};
 use units::bracket::Unit;
 
-/// Returns whether all these numbers are scalar values. It reads all of them whatever it finds, so that the processor
-/// can test several at once.
+/// Returns the greatest of these numbers, 0 if there is none.
+fn greatest_of(codes: &[u32]) -> u32
+    ensures { AllAre (λ code. code ≤ result) codes.now }
+{
+    let mut greatest = 0;
+    for code in codes {
+        greatest = greatest.max(*code);
+    }
+    greatest
+}
+
+/// The first surrogate, which is no scalar value. All numbers below are scalar values.
+const FIRST_SURROGATE: u32 = 0xD800;
+
+/// How many surrogates there are, one after another. All numbers from there on up to 0x10FFFF are scalar values.
+const SURROGATES: u32 = 0x800;
+
+/// Returns whether none of these numbers is a surrogate. From the first surrogate on it counts them, and numbers below
+/// that wrap round to great ones.
+fn have_no_surrogate(codes: &[u32]) -> bool
+    ensures { result ≡ true → AllAre IsNoSurrogate codes.now }
+{
+    let mut least = u32::MAX;
+    for code in codes {
+        least = least.min(code.wrapping_sub(FIRST_SURROGATE));
+    }
+    least >= SURROGATES
+}
+
+/// Returns whether all these numbers are scalar values. Each loop reads all of them whatever it finds, so that the
+/// processor can test several at once.
 fn are_scalars(codes: &[u32]) -> bool
     ensures { result ≡ true → AllAre IsScalar codes.now }
 {
-    let mut all = true;
-    for code in codes {
-        all &= char::from_u32(*code).is_some();
+    let greatest = greatest_of(codes);
+    if greatest < FIRST_SURROGATE {
+        return true;
     }
-    all
+    greatest <= char::MAX as u32 && have_no_surrogate(codes)
 }
 
 /// Fails with the index of the first code point that isn't a scalar value.
