@@ -43,3 +43,4 @@ pub mod KnownLevels
 pub mod Unsegmented
 pub mod Begun
 pub mod ResetSteps
+pub mod OneLevel

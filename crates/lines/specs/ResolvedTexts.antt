@@ -26,3 +26,9 @@ pub record IsResolved (limits : LimitsOf) (text : List BidiUnit) (direction : Di
 -- what is known about a text that is one paragraph and one line, and whose paragraph keeps its level
 abbrev pub one_line : ResolvedText
 one_line = record { paragraphs = 1; lines = 1; uniform = true; complete = false; segmented = true }
+
+-- it is one paragraph, which keeps its level, and one line
+pub record IsOneLine (resolved : ResolvedText) : Type 0 where
+  pub paragraphs : resolved.paragraphs ≡ 1
+  pub lines : resolved.lines ≡ 1
+  pub uniform : resolved.uniform ≡ true

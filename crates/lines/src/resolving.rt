@@ -9,7 +9,7 @@ ghost use Rattle.units.specs.Classes.{classes_of, is_removed};
 ghost use Rattle.explicit.specs.FirstParagraph.{first_length};
 ghost use Rattle.paragraph.specs.Contents.{Describes, IsFirstOf, has_none};
 ghost use Rattle.lines.specs.Unchanged.{each_keeps_level, keeps_own_level};
-ghost use Rattle.lines.specs.ResolvedTexts.{IsResolved, one_line};
+ghost use Rattle.lines.specs.ResolvedTexts.{IsOneLine, IsResolved, one_line};
 ghost use Rattle.lines.specs.Spaces.{HasNoSegments, has_segments};
 ghost use Rattle.lines.specs.StepBounds.{uniform_text_steps, text_steps};
 
@@ -36,7 +36,7 @@ pub struct ResolvedText {
     pub lines: usize,
     /// True only if each paragraph keeps its level: each remaining position (X9) has the level of its paragraph.
     pub uniform: bool,
-    /// True only if X9 removes no position of a uniform text.
+    /// True only if X9 removes no position of a uniform text, which is one paragraph and one line.
     pub complete: bool,
     /// False only if the text has no segment separator (L1).
     pub segmented: bool,
@@ -252,6 +252,7 @@ pub(crate) fn resolve_text<L: Ledger>(
         options.now.breaks.now.positions result columns.new bounds.new }
     ensures complete { result.complete ≡ true
         → list_all is_some (levels_filled (length text.now) columns.new) ≡ true }
+    ensures if_complete { result.complete ≡ true → IsOneLine result }
     ensures segments { result.segmented ≡ false → HasNoSegments text.now }
     ensures at_least { steps.old + 2 * length text.now + result.paragraphs + result.lines ≤ steps.new }
     ensures at_most { steps.new ≤ steps.old + text_steps * length text.now }
