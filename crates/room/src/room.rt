@@ -84,11 +84,12 @@ fn items_if(encodes: bool, n: usize) -> usize
 
 impl Room {
     ghost use Rattle.std.specs.Prelude.{ℕ, true, ◌≡◌, ◌<◌, ◌≤◌, ◌↔◌, ◌-◌, Err, None, length, take};
-    ghost use Rattle.std.specs.Prelude.{IfOk, MatchOption, MatchResult, OnErr};
+    ghost use Rattle.std.specs.Prelude.{IfOk, IfSome, MatchOption, MatchResult, OnErr};
     ghost use Rattle.std.specs.List.{All};
     ghost use Rattle.units.specs.Layout.{longest_text, text_levels};
     ghost use Rattle.lines.specs.Layouts.{view_of};
     ghost use Rattle.lines.specs.LinesAlone.{RejectsSpan};
+    ghost use Rattle.lines.specs.OneLevel.{AllHaveLevel};
     ghost use Rattle.room.specs.OrderedLines.{LinesHaveOrder};
     ghost use Rattle.room.specs.Leaving.{Leaves, SetsLines};
     ghost use Rattle.room.specs.LineOf.{WritesCharacters};
@@ -292,6 +293,14 @@ impl Room {
         ensures in_order { LinesHaveOrder (view_of result) }
     {
         self.scratch.layout()
+    }
+
+    /// Returns the level that all characters have after L1, if `Scratch::one_level` knows that they have one. Else
+    /// returns `None`.
+    pub fn one_level(&self) -> Option<Level>
+        ensures { IfSome result (λ level. AllHaveLevel level self.now.layout.levels) }
+    {
+        self.scratch.one_level()
     }
 
     /// Returns the level of each character before L1 (P1 to I2); a character that X9 removes has none.
