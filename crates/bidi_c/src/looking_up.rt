@@ -10,7 +10,7 @@ ghost use Rattle.bidi_c.specs.ContentsAt.{contents_at, layout_at, line_of_room, 
 use crate::bidi_handle::BidiHandle;
 use crate::putting::put;
 use for_c::call_error::{CallError, status};
-use for_c::columns::{write_levels, write_para_levels};
+use for_c::columns::{write_levels_of, write_para_levels};
 use for_c::line::BidiLine;
 use for_c::positions::{line_at, write_order};
 
@@ -26,7 +26,7 @@ pub extern "C" fn bidi_levels(room: &mut BidiHandle, levels: &mut [u8]) -> usize
         return 0;
     };
     match contents.room() {
-        Some(room) => write_levels(room.layout().levels(), levels),
+        Some(room) => write_levels_of(room, levels),
         None => 0,
     }
 }

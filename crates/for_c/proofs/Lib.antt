@@ -4,3 +4,5 @@ mod FileFaults
 mod LineLengths
 pub mod LineRunLists
 pub mod LinesInBytes
+pub mod OneLevel
+mod LevelBlocks

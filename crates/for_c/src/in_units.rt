@@ -1,5 +1,6 @@
 //! What a room says about its text in the units of the text's source.
 ghost use Rattle.std.specs.Prelude.{◌≡◌, ◌≤◌, ◌+◌, min, IfErr, IfOk, length};
+ghost use Rattle.lines.specs.OneLevel.{AllHaveLevel};
 ghost use Rattle.room.specs.Looking.{line_in, size_in};
 ghost use Rattle.room.specs.Rooms.{characters_in, offset_in};
 ghost use Rattle.room.specs.Written.{WritesWhole};
@@ -14,6 +15,7 @@ use crate::line::{BidiLine, line_for_c};
 use crate::runs::{BidiRun, run_of};
 use room::places::put;
 use room::room::Room;
+use units::level::Level;
 
 /// Returns the index of the character that a unit belongs to. From the text's end on it returns the number of
 /// characters.
@@ -41,9 +43,22 @@ pub fn level_byte_at(room: &Room, at: usize) -> u8
     byte_of(room.level_at(at))
 }
 
-/// Writes the level of each unit as a byte to `out`, which has as many items.
+/// Does what `fill_level_bytes` does, for a text whose characters all have this level.
+#[tactic(auto, using(crate::proofs::OneLevel::unit_bytes))]
+fn fill_at_level(room: &Room, level: Level, out: &mut [u8])
+    requires size { length out.old ≡ size_in room.now }
+    requires level { AllHaveLevel level room.now.layout.levels }
+    ensures len { length out.new ≡ length out.old }
+    ensures levels { AreLevelBytes room.now out.new }
+{
+    room.offsets_rise();
+    let _count = room.characters();
+    out.fill(level.get());
+}
+
+/// Does what `fill_level_bytes` does, for any text.
 #[tactic(auto, using(room::proofs::LevelPass::one_more))]
-fn fill_level_bytes(room: &Room, out: &mut [u8])
+fn fill_by_character(room: &Room, out: &mut [u8])
     requires { length out.old ≡ size_in room.now }
     ensures len { length out.new ≡ length out.old }
     ensures levels { AreLevelBytes room.now out.new }
@@ -56,6 +71,18 @@ fn fill_level_bytes(room: &Room, out: &mut [u8])
         let to = room.offset_of(k + 1);
         put(byte_of(levels[k]), from, to, out);
         from = to;
+    }
+}
+
+/// Writes the level of each unit as a byte to `out`, which has as many items.
+fn fill_level_bytes(room: &Room, out: &mut [u8])
+    requires { length out.old ≡ size_in room.now }
+    ensures len { length out.new ≡ length out.old }
+    ensures levels { AreLevelBytes room.now out.new }
+{
+    match room.one_level() {
+        Some(level) => fill_at_level(room, level, out),
+        None => fill_by_character(room, out),
     }
 }
 

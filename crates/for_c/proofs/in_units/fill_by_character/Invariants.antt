@@ -2,7 +2,7 @@ use Rattle.std.proofs.Common.{◌≡◌}
 use Rattle.room.specs.Rooms.{offset_in}
 use Rattle.room.proofs.LevelPass.{AreWritten}
 use Rattle.for_c.specs.LevelBytes.{level_byte}
-use Rattle.for_c.proofs.in_units.fill_level_bytes.Given as goal
+use Rattle.for_c.proofs.in_units.fill_by_character.Given as goal
 
 -- the levels of the units before this character are written
 abbrev pub invariant-loop-k : goal.invariant-loop-k

@@ -6,7 +6,7 @@ use Rattle.room.specs.Rooms.{characters_in, offset_in}
 use Rattle.room.specs.Looking.{size_in}
 use Rattle.room.proofs.LevelPass.{at_inside, one_more}
 use Rattle.for_c.specs.LevelBytes.{level_byte}
-use Rattle.for_c.proofs.in_units.fill_level_bytes.Goals as goal
+use Rattle.for_c.proofs.in_units.fill_by_character.Goals as goal
 
 pub loop-k-preserved : goal.loop-k-preserved
 loop-k-preserved c =
