@@ -80,21 +80,49 @@ fn write_blocks(levels: &[Option<Level>], out: &mut [u8]) -> usize
     blocks * BLOCK
 }
 
+/// Does what `copy_levels` does, for any number of levels.
+#[inline(never)]
+fn copy_several(levels: &[Option<Level>], out: &mut [u8])
+    requires { length levels.now ≤ length out.old }
+    ensures len { length out.new ≡ length out.old }
+    ensures copied { take (length levels.now) out.new ≡ map level_byte levels.now }
+    ensures following { drop (length levels.now) out.new ≡ drop (length levels.now) out.old }
+{
+    let written = write_blocks(levels, out);
+    for i in written..levels.len() {
+        out[i] = byte_of(levels[i]);
+    }
+}
+
+/// Writes levels as bytes to the front of `out`, which has as many items or more. One alone takes no loop.
+#[inline(always)]
+fn copy_levels(levels: &[Option<Level>], out: &mut [u8])
+    requires { length levels.now ≤ length out.old }
+    ensures len { length out.new ≡ length out.old }
+    ensures copied { take (length levels.now) out.new ≡ map level_byte levels.now }
+    ensures following { drop (length levels.now) out.new ≡ drop (length levels.now) out.old }
+{
+    if levels.len() == 1 {
+        out[0] = byte_of(levels[0]);
+    } else {
+        copy_several(levels, out);
+    }
+}
+
 /// Writes levels as bytes to the front of `out`, if all fit there. Returns how many there are.
 pub fn write_levels(levels: &[Option<Level>], out: &mut [u8]) -> usize
     ensures { WritesWhole (map level_byte levels.now) result out.old out.new }
 {
     if levels.len() <= out.len() {
-        let written = write_blocks(levels, out);
-        for i in written..levels.len() {
-            out[i] = byte_of(levels[i]);
-        }
+        copy_levels(levels, out);
     }
     levels.len()
 }
 
 /// Writes the level of as many positions as a byte each to the front of `out`, if all fit there. Returns how many there
 /// are.
+// Inlined, a call on a text of one letter takes more instructions.
+#[inline(never)]
 fn write_one_level(level: Level, count: usize, out: &mut [u8]) -> usize
     ensures { WritesWhole (replicate count level) result out.old out.new }
 {
