@@ -193,8 +193,8 @@ module _ (links : List (Option ℕ)) (h : LinksForward links) where
         }
 
     -- of the positions that are left, these are the first eight
-    pub left_eight : length (linked links (link_at links p)) ≡ 8 + length (linked links (link_at links (p + 8)))
-    left_eight =
+    pub remaining_eight : length (linked links (link_at links p)) ≡ 8 + length (linked links (link_at links (p + 8)))
+    remaining_eight =
         let rest : List ℕ = linked links (link_at links (p + 8)) in
         ap length (linked_run 8 p on)
         ∙ length-append (positions_from (p + 1) 8) rest

@@ -1,7 +1,7 @@
 use Rattle.std.proofs.Common.{◌≡◌, ◌+◌, ◌-◌, ◌∙◌, ◌++◌, ℕ, take, ap, arith}
 use Rattle.sequences.specs.Blocks.{LeadOn}
 use Rattle.sequences.specs.Links.{link_at, linked}
-use Rattle.sequences.proofs.Links.{stretch_eight, left_eight, pushed_eight}
+use Rattle.sequences.proofs.Links.{stretch_eight, remaining_eight, pushed_eight}
 use Rattle.sequences.proofs.heads.write_eights.Goals as goal
 
 pub loop-lead_on-init : goal.loop-lead_on-init
@@ -26,7 +26,7 @@ write_eight-requires-clause-room g c =
       arith,
       c.requires.room,
       l.invariant.rest,
-      left_eight links c.requires.linked c.args.first l.p l.invariant.stretch on,
+      remaining_eight links c.requires.linked c.args.first l.p l.invariant.stretch on,
       l.auto.column,
     )
 
@@ -53,6 +53,6 @@ loop-lead_on-preserved g c =
       stretch = stretch_eight links c.requires.linked first p s on;
       column = pushed_eight links c.requires.linked first p s on _ (take at l.column) _ l.invariant.column
           (ap (λ (k : ℕ). take k c.write_eight.new.column) more ∙ written.column);
-      rest = omega (arith, more, l.invariant.rest, left_eight links c.requires.linked first p s on);
+      rest = omega (arith, more, l.invariant.rest, remaining_eight links c.requires.linked first p s on);
       steps = omega (arith, written.steps, l.invariant.steps);
     }
