@@ -12,7 +12,6 @@ use crate::blocks::write_offsets;
 use crate::known::{ascii_at, index_in_block, is_in_block, known_char_at};
 use crate::reached::Reached;
 use crate::spelling::char_at;
-use simdutf8::is_utf8;
 use std::simd::prelude::*;
 use ucdfiles::tables::{BorrowedUnits, Tables};
 use units::bracket::Unit;
@@ -97,9 +96,6 @@ fn test_chars(bytes: &[u8], from: usize, end: usize) -> Result<usize, usize>
     Ok(at)
 }
 
-/// How many bytes a text must have for a test of 64 bytes at once to take fewer instructions.
-const LONG: usize = 64;
-
 /// Tests a text block by block. Fails with the offset of the first fault if the text is ill-formed.
 #[inline(never)]
 fn test_utf8(bytes: &[u8]) -> Result<(), usize>
@@ -107,9 +103,6 @@ fn test_utf8(bytes: &[u8]) -> Result<(), usize>
     ensures fault { IfErr result (λ at. (IsUtf8 bytes.now → ⊥) × (at ≡ utf8_valid_len bytes.now)) }
     ensures well_formed { OnOk result (IsUtf8 bytes.now) }
 {
-    if bytes.len() >= LONG && is_utf8(bytes) {
-        return Ok(());
-    }
     let mut at = 0;
     while at < bytes.len() {
         let ascii = ascii_end(bytes, at);
