@@ -1,5 +1,5 @@
 //! The character that begins at an offset of well-formed UTF-8, read without tests of its bytes.
-ghost use Rattle.std.specs.Prelude.{ℕ, ◌≡◌, ◌<◌, ◌+◌, ◌*◌, ◌↔◌, [], ◌∷◌, length, slice_index, take, IsTrue};
+ghost use Rattle.std.specs.Prelude.{ℕ, ◌≡◌, ◌<◌, ◌+◌, ◌*◌, [], ◌∷◌, length, slice_index, take};
 ghost use Rattle.std.specs.Str.{IsUtf8};
 ghost use Rattle.decoding.specs.Spelling.{BeginsInBlock, IsOfBytes, IsSpelled};
 
@@ -60,15 +60,6 @@ pub fn ascii_at(bytes: &[u8], at: usize) -> u8
     ensures spelled { IsSpelled bytes.now at (result, at + 1) }
 {
     bytes[at]
-}
-
-/// Returns whether a character of two bytes begins at an offset, in this block of 128 code points.
-#[inline(always)]
-pub fn is_in_block(bytes: &[u8], at: usize, block: u8) -> bool
-    requires { block < 16 }
-    ensures { IsTrue result ↔ BeginsInBlock bytes.now block at }
-{
-    at < bytes.len() && bytes[at].wrapping_sub(0xC0 + block * 2) < 2
 }
 
 /// Returns the index in its block of the character of two bytes that begins at an offset.

@@ -9,7 +9,7 @@ ghost use Rattle.decoding.specs.Encodings.{utf8_text};
 ghost use Rattle.decoding.specs.Offsets.{Spelled};
 
 use crate::blocks::write_offsets;
-use crate::known::{ascii_at, index_in_block, is_in_block, known_char_at};
+use crate::known::{ascii_at, index_in_block, known_char_at};
 use crate::reached::Reached;
 use crate::spelling::char_at;
 use std::simd::prelude::*;
@@ -189,10 +189,9 @@ fn decode_ascii(
     }
 }
 
-/// Writes the units and the offsets of the characters of two bytes from an offset on, as long as they are in the block of
-/// the first one. The class of each bracket must be ON.
+/// Writes the unit and the offset of a character of two bytes. The class of each bracket must be ON.
 #[inline(always)]
-fn decode_pairs(
+fn decode_pair(
     bytes: &[u8],
     borrowed: &BorrowedUnits<'_>,
     before: Reached,
@@ -212,24 +211,24 @@ fn decode_pairs(
     ensures forward { before.code_units < result.code_units }
     ensures read { IsReadUpTo borrowed.now bytes.now result units.new starts.new }
 {
-    let block = (bytes[before.code_units] - 0xC0) / 2;
+    let at = before.code_units;
+    let block = (bytes[at] - 0xC0) / 2;
+    let k = index_in_block(bytes, at, block);
     let classes = borrowed.block_classes(usize::from(block));
-    let mut characters = before.characters;
-    let mut at = before.code_units;
-    'pairs: while is_in_block(bytes, at, block) {
-        let k = index_in_block(bytes, at, block);
-        borrowed.write_in_block(classes, usize::from(block), k, &mut units[characters]);
-        starts[characters] = at as u32;
-        characters += 1;
-        at += 2;
-    }
+    borrowed.write_in_block(
+        classes,
+        usize::from(block),
+        k,
+        &mut units[before.characters],
+    );
+    starts[before.characters] = at as u32;
     Reached {
-        characters,
-        code_units: at,
+        characters: before.characters + 1,
+        code_units: at + 2,
     }
 }
 
-/// Writes the unit and the offset of a character. The class of each bracket must be ON.
+/// Writes the unit and the offset of a character of any number of bytes. The class of each bracket must be ON.
 #[inline(always)]
 fn decode_char(
     bytes: &[u8],
@@ -290,7 +289,7 @@ fn decode_byte(
     }
 }
 
-/// Writes the unit and the offset of a character, or of several of two bytes.
+/// Writes the unit and the offset of a character, of whatever length. The class of each bracket must be ON.
 #[inline(always)]
 fn decode_next(
     bytes: &[u8],
@@ -315,13 +314,13 @@ fn decode_next(
     if x < 0x80 {
         decode_byte(bytes, borrowed, before, units, starts)
     } else if 0xC0 <= x && x < 0xE0 {
-        decode_pairs(bytes, borrowed, before, units, starts)
+        decode_pair(bytes, borrowed, before, units, starts)
     } else {
         decode_char(bytes, borrowed, before, units, starts)
     }
 }
 
-/// Writes the units and the offsets of the characters that begin before the offset `end`, and maybe of some after it.
+/// Writes the units and the offsets of the characters that begin before the offset `end`.
 #[inline(always)]
 fn decode_chars(
     bytes: &[u8],
