@@ -193,20 +193,13 @@ fn decode_blocks(
     }
 }
 
-/// Returns the offset from which on a text is tested for blocks: its end if it is too short.
+/// Does what `decode_utf16` does, and tests for blocks from the offset `first` on.
 #[inline(always)]
-fn first_test(text: &[u16]) -> usize {
-    if text.len() < BLOCK { text.len() } else { 0 }
-}
-
-/// Writes the units and the offsets of a text, and after the offsets the offset of the text's end. Returns how many
-/// characters there are. If `faults` rejects unpaired surrogates, fails with the offset of the first one.
-// Not inlined, a code unit takes fewer instructions.
-#[inline(never)]
-pub fn decode_utf16(
+fn decode_units(
     text: &[u16],
     faults: Faults,
     tables: &Tables,
+    first: usize,
     units: &mut [Unit],
     starts: &mut [u32],
 ) -> Result<usize, usize>
@@ -224,7 +217,7 @@ pub fn decode_utf16(
     let borrowed = tables.units();
     let mut count = 0;
     let mut at = 0;
-    let mut tested = first_test(text);
+    let mut tested = first;
     while at < text.len() {
         if tested <= at {
             let before = Reached {
@@ -248,4 +241,78 @@ pub fn decode_utf16(
     }
     starts[count] = at as u32;
     Ok(count)
+}
+
+/// Does what `decode_utf16` does, one by one. Takes fewer instructions if there is no block.
+// Not inlined, a code unit takes fewer instructions.
+#[inline(never)]
+fn decode_short(
+    text: &[u16],
+    faults: Faults,
+    tables: &Tables,
+    units: &mut [Unit],
+    starts: &mut [u32],
+) -> Result<usize, usize>
+    requires units { length text.now ≤ length units.old }
+    requires starts { length text.now < length starts.old }
+    requires small { length text.now < 2 ^ 32 }
+    ensures units_len { length units.new ≡ length units.old }
+    ensures starts_len { length starts.new ≡ length starts.old }
+    ensures fault { IfErr result (λ at. (faults ≡ Rejected) × IsFirstLone text.now at) }
+    ensures well_formed { OnOk result (faults ≡ Rejected → IsUtf16 text.now) }
+    ensures decoded { IfOk result (λ count.
+        AreDecoded tables.now (utf16_text text.now) count units.new starts.new) }
+    ensures whole { OnOk result (code_units (utf16_text text.now) ≡ length text.now) }
+{
+    decode_units(text, faults, tables, text.len(), units, starts)
+}
+
+/// Does what `decode_utf16` does, by blocks.
+// Not inlined, a code unit takes fewer instructions.
+#[inline(never)]
+fn decode_long(
+    text: &[u16],
+    faults: Faults,
+    tables: &Tables,
+    units: &mut [Unit],
+    starts: &mut [u32],
+) -> Result<usize, usize>
+    requires units { length text.now ≤ length units.old }
+    requires starts { length text.now < length starts.old }
+    requires small { length text.now < 2 ^ 32 }
+    ensures units_len { length units.new ≡ length units.old }
+    ensures starts_len { length starts.new ≡ length starts.old }
+    ensures fault { IfErr result (λ at. (faults ≡ Rejected) × IsFirstLone text.now at) }
+    ensures well_formed { OnOk result (faults ≡ Rejected → IsUtf16 text.now) }
+    ensures decoded { IfOk result (λ count.
+        AreDecoded tables.now (utf16_text text.now) count units.new starts.new) }
+    ensures whole { OnOk result (code_units (utf16_text text.now) ≡ length text.now) }
+{
+    decode_units(text, faults, tables, 0, units, starts)
+}
+
+/// Writes the units and the offsets of a text, and after the offsets the offset of the text's end. Returns how many
+/// characters there are. If `faults` rejects unpaired surrogates, fails with the offset of the first one.
+pub fn decode_utf16(
+    text: &[u16],
+    faults: Faults,
+    tables: &Tables,
+    units: &mut [Unit],
+    starts: &mut [u32],
+) -> Result<usize, usize>
+    requires units { length text.now ≤ length units.old }
+    requires starts { length text.now < length starts.old }
+    requires small { length text.now < 2 ^ 32 }
+    ensures units_len { length units.new ≡ length units.old }
+    ensures starts_len { length starts.new ≡ length starts.old }
+    ensures fault { IfErr result (λ at. (faults ≡ Rejected) × IsFirstLone text.now at) }
+    ensures well_formed { OnOk result (faults ≡ Rejected → IsUtf16 text.now) }
+    ensures decoded { IfOk result (λ count.
+        AreDecoded tables.now (utf16_text text.now) count units.new starts.new) }
+    ensures whole { OnOk result (code_units (utf16_text text.now) ≡ length text.now) }
+{
+    if text.len() < BLOCK {
+        return decode_short(text, faults, tables, units, starts);
+    }
+    decode_long(text, faults, tables, units, starts)
 }

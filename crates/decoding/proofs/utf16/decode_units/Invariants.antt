@@ -2,7 +2,7 @@ use Rattle.std.proofs.Common.{◌≡◌, ◌<◌, ◌+◌, ◌*◌, ◌-◌, ℕ
 use Rattle.decoding.specs.Decoded.{IsWritten}
 use Rattle.decoding.specs.Encodings.{utf16_text, IsAt, IsPaired}
 use Rattle.decoding.specs.declared.fault.Faults.TheVariants.{Rejected}
-use Rattle.decoding.proofs.utf16.decode_utf16.Given as goal
+use Rattle.decoding.proofs.utf16.decode_units.Given as goal
 
 abbrev pub invariant-loop-at : goal.invariant-loop-at
 invariant-loop-at l =

@@ -8,7 +8,7 @@ use Rattle.decoding.specs.Encodings.{in_utf16, utf16_text, IsPaired}
 use Rattle.decoding.specs.Offsets.{Spelled}
 use Rattle.decoding.proofs.Utf16Texts.{at_end, at_next, units_of_utf16, whole_text, is_some}
 use Rattle.decoding.proofs.Writing.{decoded_whole, written_next}
-use Rattle.decoding.proofs.utf16.decode_utf16.Goals as goal
+use Rattle.decoding.proofs.utf16.decode_units.Goals as goal
 
 pub loop-at-preserved : goal.loop-at-preserved
 loop-at-preserved c =
