@@ -72,5 +72,5 @@ pub fn index_in_block(bytes: &[u8], at: usize, block: u8) -> u8
     ensures small { result < 128 }
     ensures spelled { IsSpelled bytes.now at (block * 128 + result, at + 2) }
 {
-    (bytes[at] - (0xC0 + block * 2)) * 0x40 + (bytes[at + 1] - 0x80)
+    bytes[at].wrapping_mul(0x40).wrapping_add(bytes[at + 1]) % 0x80
 }
