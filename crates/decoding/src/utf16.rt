@@ -193,13 +193,13 @@ fn decode_blocks(
     }
 }
 
-/// Does what `decode_utf16` does, and tests for blocks from the offset `first` on.
+/// Does what `decode_utf16` does. Tests for blocks only if `by_blocks` is true.
 #[inline(always)]
 fn decode_units(
     text: &[u16],
     faults: Faults,
     tables: &Tables,
-    first: usize,
+    by_blocks: bool,
     units: &mut [Unit],
     starts: &mut [u32],
 ) -> Result<usize, usize>
@@ -217,9 +217,9 @@ fn decode_units(
     let borrowed = tables.units();
     let mut count = 0;
     let mut at = 0;
-    let mut tested = first;
+    let mut tested = 0;
     while at < text.len() {
-        if tested <= at {
+        if by_blocks && tested <= at {
             let before = Reached {
                 characters: count,
                 code_units: at,
@@ -264,7 +264,7 @@ fn decode_short(
         AreDecoded tables.now (utf16_text text.now) count units.new starts.new) }
     ensures whole { OnOk result (code_units (utf16_text text.now) ≡ length text.now) }
 {
-    decode_units(text, faults, tables, text.len(), units, starts)
+    decode_units(text, faults, tables, false, units, starts)
 }
 
 /// Does what `decode_utf16` does, by blocks.
@@ -288,7 +288,7 @@ fn decode_long(
         AreDecoded tables.now (utf16_text text.now) count units.new starts.new) }
     ensures whole { OnOk result (code_units (utf16_text text.now) ≡ length text.now) }
 {
-    decode_units(text, faults, tables, 0, units, starts)
+    decode_units(text, faults, tables, true, units, starts)
 }
 
 /// Writes the units and the offsets of a text, and after the offsets the offset of the text's end. Returns how many
