@@ -490,10 +490,9 @@ pub fn decode_utf8(
     ensures decoded { IfOk result (λ count.
         AreDecoded tables.now (utf8_text bytes.now) count units.new starts.new) }
 {
+    test_utf8(bytes)?;
     if bytes.len() < BLOCK {
-        test_blocks(bytes)?;
         return Ok(decode_well_formed(bytes, tables, units, starts));
     }
-    test_utf8(bytes)?;
     Ok(decode_long(bytes, tables, units, starts))
 }
