@@ -3,6 +3,7 @@ pub mod Writing
 pub mod Utf8Texts
 pub mod Spellings
 pub mod Utf8Tests
+pub mod Utf8Blocks
 pub mod BlockReading
 pub mod KnownChars
 pub mod PairBlocks

@@ -80,7 +80,7 @@ no_fourth x y z w rest least stops = no_char (x ∷ y ∷ z ∷ w ∷ rest) 0 (�
     let fourth = r.fourth least in stops (record { least = omega (arith, fourth); most = omega (arith, fourth) }))
 
 -- the first bytes of the rest
-split_one : (bs : List ℕ) (at : ℕ) → at < length bs → drop at bs ≡ get_or bs at 0 ∷ drop (at + 1) bs
+pub split_one : (bs : List ℕ) (at : ℕ) → at < length bs → drop at bs ≡ get_or bs at 0 ∷ drop (at + 1) bs
 split_one bs at lt = drop-cons bs at 0 lt ∙ ap (λ n. get_or bs at 0 ∷ drop n bs) (let e : suc at ≡ at + 1 =
     omega arith in e)
 

@@ -1,5 +1,6 @@
 //! The characters of a text in UTF-8: their units, the offsets at which they begin, and the offset of the first fault.
-ghost use Rattle.std.specs.Prelude.{◌≡◌, ◌<◌, ◌≤◌, ◌+◌, ◌^◌, ◌++◌, List, drop, length, map, slice_index, take, IfErr, IfOk, IsTrue, OnOk};
+ghost use Rattle.std.specs.Prelude.{◌≡◌, ◌<◌, ◌≤◌, ◌+◌, ◌^◌, ◌++◌, List, drop, length, map, slice_index, take, leb, IfErr, IfOk, IsTrue, OnOk};
+ghost use Rattle.std.specs.Simd.Lanes.{mask_l};
 ghost use Rattle.std.specs.Str.{chars, IsAscii, IsUtf8};
 ghost use Rattle.std.specs.Str.Lossy.{utf8_valid_len};
 ghost use Rattle.ucdfiles.specs.Tables.{AreNeutral, AreOfBlock};
@@ -7,6 +8,7 @@ ghost use Rattle.ucdfiles.specs.UnitStages.{unit_by_stages};
 ghost use Rattle.decoding.specs.Decoded.{AreDecoded, IsReadUpTo, IsWritten};
 ghost use Rattle.decoding.specs.Encodings.{utf8_text};
 ghost use Rattle.decoding.specs.Offsets.{Spelled};
+ghost use Rattle.decoding.specs.Spelling.{ArePairs};
 
 use crate::blocks::write_offsets;
 use crate::known::{ascii_at, index_in_block, known_char_at};
@@ -77,6 +79,46 @@ fn ascii_end(bytes: &[u8], from: usize) -> usize
     at
 }
 
+/// Returns which bytes of a block are at least as great as another one, the first one's bit lowest.
+#[inline(always)]
+fn at_least(block: u8x16, least: u8) -> u64
+    ensures small { result < 2 ^ 16 }
+    ensures bits { result ≡ mask_l (map (leb least) block) }
+{
+    block.simd_ge(u8x16::splat(least)).to_bitmask()
+}
+
+/// Returns whether a block is of characters of one and two bytes, if a character begins with it. The last byte may be
+/// the first one of two. Doesn't find blocks of ASCII.
+#[inline(always)]
+fn are_pairs(block: u8x16) -> bool
+    ensures { IsTrue result → ArePairs block }
+{
+    let leads = at_least(block, 0xC0);
+    let others = at_least(block, 0x80);
+    // Each lead byte's bit, once more at the byte after it, is that of a continuation byte.
+    others != 0
+        && leads + leads * 2 % 0x1_0000 == others
+        && at_least(block, 0xC2) == leads
+        && at_least(block, 0xE0) == 0
+}
+
+/// Returns the end of the blocks of characters of one and two bytes that begin at an offset.
+#[inline(always)]
+fn pairs_end(bytes: &[u8], from: usize) -> usize
+    requires inside { from ≤ length bytes.now }
+    requires front { IsUtf8 (take from bytes.now) }
+    ensures forward { from ≤ result }
+    ensures inside { result ≤ length bytes.now }
+    ensures front { IsUtf8 (take result bytes.now) }
+{
+    let mut at = from;
+    while bytes.len() - at >= BLOCK && are_pairs(u8x16::from_slice(&bytes[at..])) {
+        at += BLOCK - usize::from(bytes[at + BLOCK - 1] >= 0xC0);
+    }
+    at
+}
+
 /// Tests the characters that begin from the offset `from` on and before `end`, and returns the end of the last one.
 /// Fails with the offset of the first fault if there is one.
 #[inline(always)]
@@ -96,6 +138,22 @@ fn test_chars(bytes: &[u8], from: usize, end: usize) -> Result<usize, usize>
     Ok(at)
 }
 
+/// Tests the next characters, block by block if blocks begin at an offset, and returns the end of the last one. Fails
+/// with the offset of the first fault if there is one.
+#[inline(always)]
+fn test_next(bytes: &[u8], from: usize) -> Result<usize, usize>
+    requires inside { from < length bytes.now }
+    requires front { IsUtf8 (take from bytes.now) }
+    ensures fault { IfErr result (λ at. (IsUtf8 bytes.now → ⊥) × (at ≡ utf8_valid_len bytes.now)) }
+    ensures passed { IfOk result (λ at. (from < at) × (at ≤ length bytes.now) × IsUtf8 (take at bytes.now)) }
+{
+    let passed = pairs_end(bytes, ascii_end(bytes, from));
+    if passed > from {
+        return Ok(passed);
+    }
+    test_chars(bytes, from, bytes.len().min(from + BLOCK))
+}
+
 /// Tests a text block by block. Fails with the offset of the first fault if the text is ill-formed.
 #[inline(never)]
 fn test_utf8(bytes: &[u8]) -> Result<(), usize>
@@ -105,8 +163,7 @@ fn test_utf8(bytes: &[u8]) -> Result<(), usize>
 {
     let mut at = 0;
     while at < bytes.len() {
-        let ascii = ascii_end(bytes, at);
-        at = test_chars(bytes, ascii, bytes.len().min(ascii + BLOCK))?;
+        at = test_next(bytes, at)?;
     }
     Ok(())
 }
