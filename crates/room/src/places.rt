@@ -6,8 +6,9 @@ use crate::room::Room;
 /// The place of a unit that is not shown.
 pub const NOWHERE: usize = usize::MAX;
 
-/// Writes a value to the items from `start` up to `end`, as far as there are any.
-pub fn put<T: Copy>(value: T, start: usize, end: usize, out: &mut [T])
+/// Does what `put` does, by a loop, which becomes a call that fills memory.
+#[inline(always)]
+fn put_each<T: Copy>(value: T, start: usize, end: usize, out: &mut [T])
     ensures len { length out.new ≡ length out.old }
     ensures put { (i : ℕ) (d : T) → start ≤ i → i < end → i < length out.old → slice_index_or out.new i d ≡ value }
     ensures others { (i : ℕ) (d : T) → (i < start) ⊎ (end ≤ i)
@@ -15,6 +16,34 @@ pub fn put<T: Copy>(value: T, start: usize, end: usize, out: &mut [T])
 {
     for i in start..end.min(out.len()) {
         out[i] = value;
+    }
+}
+
+/// Does what `put` does, the first item by itself.
+#[inline(always)]
+fn put_first<T: Copy>(value: T, start: usize, end: usize, out: &mut [T])
+    ensures len { length out.new ≡ length out.old }
+    ensures put { (i : ℕ) (d : T) → start ≤ i → i < end → i < length out.old → slice_index_or out.new i d ≡ value }
+    ensures others { (i : ℕ) (d : T) → (i < start) ⊎ (end ≤ i)
+        → slice_index_or out.new i d ≡ slice_index_or out.old i d }
+{
+    if start < end && start < out.len() {
+        out[start] = value;
+        put_each(value, start + 1, end, out);
+    }
+}
+
+/// Writes a value to the items from `start` up to `end`, as far as there are any. Two items, as many as most characters
+/// have units, take no call.
+pub fn put<T: Copy>(value: T, start: usize, end: usize, out: &mut [T])
+    ensures len { length out.new ≡ length out.old }
+    ensures put { (i : ℕ) (d : T) → start ≤ i → i < end → i < length out.old → slice_index_or out.new i d ≡ value }
+    ensures others { (i : ℕ) (d : T) → (i < start) ⊎ (end ≤ i)
+        → slice_index_or out.new i d ≡ slice_index_or out.old i d }
+{
+    if start < end && start < out.len() {
+        out[start] = value;
+        put_first(value, start + 1, end, out);
     }
 }
 

@@ -1,6 +1,6 @@
 use Rattle.std.proofs.Common.{◌≡◌, ◌<◌, ◌≤◌, ℕ, length}
 use Rattle.std.specs.Prelude.{◌⊎◌, slice_index_or}
-use Rattle.room.proofs.places.put.Given as goal
+use Rattle.room.proofs.places.put_each.Given as goal
 
 -- the value is written before i, and nothing else is
 abbrev pub invariant-loop-i : goal.invariant-loop-i

@@ -1,6 +1,6 @@
 use Rattle.std.proofs.Common.{inl, inr}
 use Rattle.std.proofs.lemmas.Bool.{cases_lt}
-use Rattle.room.proofs.places.put.Goals as goal
+use Rattle.room.proofs.places.put_each.Goals as goal
 
 pub returns-clause-others : goal.returns-clause-others
 returns-clause-others g c i d side =
