@@ -53,7 +53,7 @@ pub(crate) fn fill_str(
     }
 }
 
-/// How many bytes are tested at once for being ASCII.
+/// How many bytes are tested, or decoded, at once.
 const BLOCK: usize = 16;
 
 #[inline(always)]
@@ -147,11 +147,12 @@ fn test_next(bytes: &[u8], from: usize) -> Result<usize, usize>
     ensures fault { IfErr result (λ at. (IsUtf8 bytes.now → ⊥) × (at ≡ utf8_valid_len bytes.now)) }
     ensures passed { IfOk result (λ at. (from < at) × (at ≤ length bytes.now) × IsUtf8 (take at bytes.now)) }
 {
-    let passed = pairs_end(bytes, ascii_end(bytes, from));
-    if passed > from {
+    let ascii = ascii_end(bytes, from);
+    let passed = pairs_end(bytes, ascii);
+    if passed > ascii {
         return Ok(passed);
     }
-    test_chars(bytes, from, bytes.len().min(from + BLOCK))
+    test_chars(bytes, ascii, bytes.len().min(ascii + BLOCK))
 }
 
 /// Tests a text block by block. Fails with the offset of the first fault if the text is ill-formed.

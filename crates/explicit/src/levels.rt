@@ -116,8 +116,9 @@ fn level_one<L: Ledger>(
     p + 1
 }
 
-// X5a to X6a: writes up to two positions from `p` on as `level_one` does, and stops before a class that is not ordinary.
-// Returns the position after the written ones. With `<` in place of `!=` the compiler would test again what it knows.
+// X5a to X6a: writes up to two positions from `p` on as `level_one` does, and stops before a class that is not
+// ordinary. Returns the position after the written ones. With `<` in place of `!=` the compiler would test again what
+// it knows.
 fn level_two<L: Ledger>(
     para: &[Unit],
     p: usize,

@@ -32,8 +32,8 @@ fn eight_remain(levels: &[Option<Level>], position: usize) -> bool
 /// How many positions are written at once if X9 removed none of them.
 const BLOCK: usize = 8;
 
-/// Writes the remaining positions of a span to the front of `order`, rising, one by one, and returns their number. Takes
-/// one step for each position of the span.
+/// Writes the remaining positions of a span to the front of `order`, rising, one by one, and returns their number.
+/// Takes one step for each position of the span.
 // Inlined, short runs take fewer instructions.
 #[inline(always)]
 pub(crate) fn write_each_rising<L: Ledger>(
@@ -56,8 +56,8 @@ pub(crate) fn write_each_rising<L: Ledger>(
     count
 }
 
-/// Writes the remaining positions of a span after the first `count` items of `order`, rising, one by one, and returns how
-/// many items are then written. Takes one step for each position of the span.
+/// Writes the remaining positions of a span after the first `count` items of `order`, rising, one by one, and returns
+/// how many items are then written. Takes one step for each position of the span.
 fn append_each_rising<L: Ledger>(
     span: LineSpan<'_>,
     order: &mut [usize],
@@ -117,8 +117,8 @@ fn write_eight_rising<L: Ledger>(
     write_each_of_eight_rising(levels, start, order, steps)
 }
 
-/// Writes the remaining ones of the eight positions from `start` on after the first `count` items of `order`, rising, and
-/// returns how many items are then written. Takes eight steps.
+/// Writes the remaining ones of the eight positions from `start` on after the first `count` items of `order`, rising,
+/// and returns how many items are then written. Takes eight steps.
 fn append_eight_rising<L: Ledger>(
     levels: &[Option<Level>],
     start: usize,
@@ -166,8 +166,8 @@ fn write_eights_rising<L: Ledger>(
     append_each_rising(rest, order, count, steps)
 }
 
-/// Writes the remaining positions of a span to the front of `order`, rising, and returns their number. Takes one step for
-/// each position of the span.
+/// Writes the remaining positions of a span to the front of `order`, rising, and returns their number. Takes one step
+/// for each position of the span.
 pub(crate) fn write_rising<L: Ledger>(
     span: LineSpan<'_>,
     order: &mut [usize],

@@ -113,7 +113,7 @@ fn give_level_if_uniform<L: Ledger>(
     true
 }
 
-/// Does what `give_level_if_uniform` does, but tests the first class without a call.
+/// Does what `give_level_if_uniform` does, but tests sos and the first and last class without a call.
 #[inline(always)]
 fn resolve_if_uniform<L: Ledger>(
     s: &Sequence,
