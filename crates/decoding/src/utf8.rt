@@ -1,5 +1,5 @@
 //! The characters of a text in UTF-8: their units, the offsets at which they begin, and the offset of the first fault.
-ghost use Rattle.std.specs.Prelude.{◌≡◌, ◌<◌, ◌≤◌, ◌+◌, ◌^◌, ◌++◌, List, drop, length, map, slice_index, take, leb, IfErr, IfOk, IsTrue, OnOk};
+ghost use Rattle.std.specs.Prelude.{◌≡◌, ◌<◌, ◌≤◌, ◌+◌, ◌^◌, ◌++◌, ◌⊎◌, List, drop, length, map, slice_index, take, leb, IfErr, IfOk, IsTrue, OnOk};
 ghost use Rattle.std.specs.Simd.Lanes.{mask_l};
 ghost use Rattle.std.specs.Str.{chars, IsAscii, IsUtf8};
 ghost use Rattle.std.specs.Str.Lossy.{utf8_valid_len};
@@ -8,7 +8,7 @@ ghost use Rattle.ucdfiles.specs.UnitStages.{unit_by_stages};
 ghost use Rattle.decoding.specs.Decoded.{AreDecoded, IsReadUpTo, IsWritten};
 ghost use Rattle.decoding.specs.Encodings.{utf8_text};
 ghost use Rattle.decoding.specs.Offsets.{Spelled};
-ghost use Rattle.decoding.specs.Spelling.{ArePairs};
+ghost use Rattle.decoding.specs.Spelling.{AreShort};
 
 use crate::blocks::write_offsets;
 use crate::known::{ascii_at, index_in_block, known_char_at};
@@ -88,33 +88,56 @@ fn at_least(block: u8x16, least: u8) -> u64
     block.simd_ge(u8x16::splat(least)).to_bitmask()
 }
 
-/// Returns whether a block is of characters of one and two bytes, if a character begins with it. The last byte may be
-/// the first one of two. Doesn't find blocks of ASCII.
+/// Returns whether three bytes that begin with a byte of the block that is at least 0xE0 are a character, whatever
+/// continuation bytes follow it. `threes` has the bits of these bytes.
 #[inline(always)]
-fn are_pairs(block: u8x16) -> bool
-    ensures { IsTrue result → ArePairs block }
+fn are_of_three(block: u8x16, threes: u64) -> bool
+    ensures { IsTrue result → (threes ≡ 0) ⊎ ((mask_l (map (leb 0xE1) block) ≡ threes)
+        × (mask_l (map (leb 0xED) block) ≡ mask_l (map (leb 0xEE) block)) × (mask_l (map (leb 0xF0) block) ≡ 0)) }
 {
-    let leads = at_least(block, 0xC0);
-    let others = at_least(block, 0x80);
-    // Each lead byte's bit, once more at the byte after it, is that of a continuation byte.
-    others != 0
-        && leads + leads * 2 % 0x1_0000 == others
-        && at_least(block, 0xC2) == leads
-        && at_least(block, 0xE0) == 0
+    if threes == 0 {
+        return true;
+    }
+    if at_least(block, 0xE1) != threes || at_least(block, 0xED) != at_least(block, 0xEE) {
+        return false;
+    }
+    at_least(block, 0xF0) == 0
 }
 
-/// Returns the end of the blocks of characters of one and two bytes that begin at an offset.
+/// Returns whether a block is of characters of one to three bytes, if a character begins with it. The last one may
+/// continue after the block. Doesn't find blocks of ASCII, nor those with a byte 0xE0 or 0xED.
 #[inline(always)]
-fn pairs_end(bytes: &[u8], from: usize) -> usize
+fn are_short(block: u8x16) -> bool
+    ensures { IsTrue result → AreShort block }
+{
+    let leads = at_least(block, 0xC0);
+    let threes = at_least(block, 0xE0);
+    let others = at_least(block, 0x80);
+    // The bits of continuation bytes are those of lead bytes, one byte later, and of those of three, two bytes later.
+    others != 0
+        && leads + (leads * 2 + threes * 4) % 0x1_0000 == others
+        && at_least(block, 0xC2) == leads
+        && are_of_three(block, threes)
+}
+
+/// Returns the end of the blocks of characters of one to three bytes that begin at an offset.
+#[inline(always)]
+fn short_end(bytes: &[u8], from: usize) -> usize
     requires inside { from ≤ length bytes.now }
     requires front { IsUtf8 (take from bytes.now) }
     ensures forward { from ≤ result }
     ensures inside { result ≤ length bytes.now }
     ensures front { IsUtf8 (take result bytes.now) }
 {
+    // In scripts of 0xE0, such as Devanagari and Thai, few blocks begin with another byte.
+    if from < bytes.len() && bytes[from] == 0xE0 {
+        return from;
+    }
     let mut at = from;
-    while bytes.len() - at >= BLOCK && are_pairs(u8x16::from_slice(&bytes[at..])) {
-        at += BLOCK - usize::from(bytes[at + BLOCK - 1] >= 0xC0);
+    while bytes.len() - at >= BLOCK && are_short(u8x16::from_slice(&bytes[at..])) {
+        let last = usize::from(bytes[at + BLOCK - 1] >= 0xC0);
+        let last_two = usize::from(bytes[at + BLOCK - 2] >= 0xE0) * 2;
+        at += BLOCK - last - last_two;
     }
     at
 }
@@ -148,7 +171,7 @@ fn test_next(bytes: &[u8], from: usize) -> Result<usize, usize>
     ensures passed { IfOk result (λ at. (from < at) × (at ≤ length bytes.now) × IsUtf8 (take at bytes.now)) }
 {
     let ascii = ascii_end(bytes, from);
-    let passed = pairs_end(bytes, ascii);
+    let passed = short_end(bytes, ascii);
     if passed > ascii {
         return Ok(passed);
     }
