@@ -178,6 +178,16 @@ fn test_next(bytes: &[u8], from: usize) -> Result<usize, usize>
     test_chars(bytes, ascii, bytes.len().min(ascii + BLOCK))
 }
 
+/// Tests a text character by character. Fails with the offset of the first fault if the text is ill-formed.
+#[inline(never)]
+fn test_short(bytes: &[u8]) -> Result<(), usize>
+    ensures fault { IfErr result (λ at. (IsUtf8 bytes.now → ⊥) × (at ≡ utf8_valid_len bytes.now)) }
+    ensures well_formed { OnOk result (IsUtf8 bytes.now) }
+{
+    test_chars(bytes, 0, bytes.len())?;
+    Ok(())
+}
+
 /// Tests a text block by block. Fails with the offset of the first fault if the text is ill-formed.
 #[inline(never)]
 fn test_utf8(bytes: &[u8]) -> Result<(), usize>
@@ -571,9 +581,10 @@ pub fn decode_utf8(
     ensures decoded { IfOk result (λ count.
         AreDecoded tables.now (utf8_text bytes.now) count units.new starts.new) }
 {
-    test_utf8(bytes)?;
     if bytes.len() < BLOCK {
+        test_short(bytes)?;
         return Ok(decode_well_formed(bytes, tables, units, starts));
     }
+    test_utf8(bytes)?;
     Ok(decode_long(bytes, tables, units, starts))
 }

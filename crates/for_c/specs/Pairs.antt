@@ -3,7 +3,7 @@ use Rattle.std.specs.Prelude.{ℕ, ◌≡◌, ◌==◌, ◌<◌, ◌⊎◌, Bool
 use Rattle.std.specs.Char.{IsScalar}
 use Rattle.unicode_normalization.specs.Decompose.{decompose_canonical}
 use Rattle.units.specs.declared.bracket.Bracket.{Bracket}
-use Rattle.units.specs.declared.bracket.Bracket.TheVariants.{No, Open, Close}
+use Rattle.units.specs.declared.bracket.Bracket.TheVariants.{Open, Close}
 use Rattle.ucdfiles.specs.Tables.{TablesOf, bracket_by, mirror_by}
 
 -- one of the two brackets opens and the other closes, and their keys are equal

@@ -1,4 +1,4 @@
-use Rattle.std.proofs.Common.{◌≡◌, ◌≤◌, ◌<◌, List, arith, length, refl, subst, sym}
+use Rattle.std.proofs.Common.{◌≡◌, ◌≤◌, arith, length, refl, subst, sym}
 use Rattle.std.proofs.lemmas.List.{get_or_past}
 use Rattle.units.specs.Layout.{LineLayout}
 use Rattle.lines.specs.Layouts.{line_at, no_line}

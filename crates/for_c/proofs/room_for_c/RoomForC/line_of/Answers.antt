@@ -7,7 +7,6 @@ use Rattle.room.specs.LineOf.{WritesLineOf}
 use Rattle.room.specs.Rooms.{RoomOf, characters_in, offset_in}
 use Rattle.room.specs.Written.{WritesWhole}
 use Rattle.for_c.specs.LevelBytes.{level_byte}
-use Rattle.for_c.specs.RoomCalls.{WritesLineBytes}
 use Rattle.for_c.proofs.LinesInBytes.{put_back, written_bytes}
 use Rattle.for_c.proofs.room_for_c.RoomForC.line_of.Goals as goal
 
