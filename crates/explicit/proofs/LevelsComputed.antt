@@ -4,3 +4,4 @@ pub mod Stretches
 pub mod WantedLevels
 pub mod Leveled
 pub mod InsideIsolates
+pub mod Alone

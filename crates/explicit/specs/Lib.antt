@@ -17,3 +17,4 @@ pub mod Flat
 pub mod IdleRules
 pub mod Uniform
 pub mod FlatTheorems
+pub mod LevelsAlone

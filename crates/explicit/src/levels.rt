@@ -30,7 +30,7 @@ use units::steps::Steps;
 #[derive(Drop)]
 pub struct Explicit {
     column: BoxedSlice<LeveledClass>,
-    stack: StatusStack,
+    pub(crate) stack: StatusStack,
 }
 
 impl Model for Explicit {

@@ -9,6 +9,7 @@ pub mod flat_theorems;
 pub mod isolates;
 pub mod leveled_class;
 pub mod levels;
+pub mod levels_alone;
 pub mod para_level;
 mod roles;
 pub mod side;

@@ -238,6 +238,8 @@ impl StatusStack {
     /// class of that position, or none if it is removed. An initiator that asks for a level above the depth, 1 to 125,
     /// is an overflow initiator. `right_to_left` says whether the content of an FSI begins right to left. Each entry
     /// that is dropped is a step.
+    // Not inlined, initiators that follow one another take more instructions.
+    #[inline(always)]
     pub fn pass<L: Ledger>(
         &mut self,
         class: Class,

@@ -8,6 +8,7 @@ use Rattle.units.specs.declared.class.Class.TheVariants.{L, R, AL, EN, ES, ET, C
 use Rattle.explicit.specs.Uniform.{may_rise_at_even, may_rise_at_odd}
 use Rattle.resolve.specs.Wanted.{may_weaken}
 use Rattle.paragraph.specs.ClassSets.{is_class}
+use Rattle.paragraph.specs.LeftToRight.{may_leave}
 use Rattle.paragraph.proofs.ClassSets.{any_of, tested_by}
 
 -- tests that are joined from the left, and from the right
@@ -44,6 +45,10 @@ weak_is _ = refl
 rising_at_even_is : (c : Class) → may_rise_at_even c ≡ any_of (R ∷ AL ∷ AN ∷ []) (c ∷ [])
 rising_at_even_is R = refl
 rising_at_even_is _ = refl
+
+leaving_is : (c : Class) → may_leave c ≡ any_of (R ∷ AL ∷ AN ∷ RLE ∷ RLO ∷ RLI ∷ []) (c ∷ [])
+leaving_is R = refl
+leaving_is _ = refl
 
 rising_at_odd_is : (c : Class) → may_rise_at_odd c ≡ any_of (L ∷ EN ∷ AN ∷ []) (c ∷ [])
 rising_at_odd_is L = refl
@@ -103,6 +108,20 @@ module _ (cs : List Class) where
       c ≡ list_any (is_class AN) cs → ((a || b) || c) ≡ list_any may_rise_at_odd cs
   any_rising_at_odd a b c ha hb hc =
       or_3 a b c ∙ rw (ha, hb, hc) (tested_by may_rise_at_odd (L ∷ EN ∷ AN ∷ []) rising_at_odd_is cs)
+
+  pub any_leaving : (a b c d e f : Bool) → a ≡ list_any (is_class R) cs → b ≡ list_any (is_class AL) cs →
+      c ≡ list_any (is_class AN) cs → d ≡ list_any (is_class RLE) cs →
+      e ≡ list_any (is_class RLO) cs → f ≡ list_any (is_class RLI) cs →
+      (((((a || b) || c) || d) || e) || f) ≡ list_any may_leave cs
+  any_leaving a b c d e f ha hb hc hd he hf =
+      or_6 a b c d e f ∙ rw (
+        ha,
+        hb,
+        hc,
+        hd,
+        he,
+        hf,
+      ) (tested_by may_leave (R ∷ AL ∷ AN ∷ RLE ∷ RLO ∷ RLI ∷ []) leaving_is cs)
 
 -- not any class passes the test exactly if each class fails it
 pub none_where_not_any : (test : Class → Bool) (cs : List Class) →

@@ -12,3 +12,6 @@ pub mod KnownLevels
 pub mod FlatApart
 pub mod FewLevels
 pub mod UniformSequences
+pub mod KnownSets
+pub mod LeftToRight
+mod JoinedSets

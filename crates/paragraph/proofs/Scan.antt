@@ -3,7 +3,7 @@ use Rattle.std.proofs.Common.{◌≡◌, ℕ, zero, suc, ◌+◌, ◌-◌, ◌<�
 use Rattle.std.specs.Option.{option_or}
 use Rattle.std.specs.Prelude.{find, None, Some}
 use Rattle.std.proofs.lemmas.Bool.{both_ways, cases_Bool, false_from_ne_true, false≢true}
-use Rattle.std.proofs.lemmas.List.{drop_more, get_or-take, length-take-le, map-append, take_more}
+use Rattle.std.proofs.lemmas.List.{drop_more, get_or-take, length-take-le, map-append, take_all, take_more}
 use Rattle.std.proofs.lemmas.List.Folds.{find-append, list_any_at}
 use Rattle.std.specs.List.{list_any}
 use Rattle.units.specs.Classes.{classes_of, is_separator, is_strong}
@@ -161,3 +161,12 @@ first_strong_stays_later us k next later within c found =
     let same : k + (next - k) ≡ next = omega arith in
     let P : ℕ → Type 0 = λ j. find is_strong (classes_of (take j us)) ≡ Some c in
     subst P same (first_strong_stays_by us (next - k) k (omega arith) c found)
+
+-- the first strong one of the first units of a text is that of the text
+pub text_strong : (us : List BidiUnit) (k : ℕ) (d : BidiUnit) → k < length us → is_strong (get_or us k d).class ≡ true →
+    find is_strong (classes_of (take k us)) ≡ None → find is_strong (classes_of us) ≡ Some (get_or us k d).class
+text_strong us k d lt strong none =
+    let P : List BidiUnit → Type 0 = λ seen. find is_strong (classes_of seen) ≡ Some (get_or us k d).class in
+    subst P (take_all (length us) us (omega arith))
+    (first_strong_stays_later us (k + 1) (length us) (omega (arith, lt)) (omega arith) (get_or us k d).class
+    (first_strong_here us k d lt strong none))

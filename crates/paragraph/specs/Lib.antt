@@ -6,3 +6,4 @@ pub mod Resolvers
 pub mod StepBounds
 pub mod FirstSides
 pub mod KnownLevels
+pub mod LeftToRight

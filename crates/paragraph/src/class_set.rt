@@ -35,6 +35,15 @@ impl ClassSet {
         }
     }
 
+    /// Adds the classes of another set.
+    pub fn joined(self, other: ClassSet) -> ClassSet
+        ensures { (cs ds : List BidiClass) → IsSetOf self cs → IsSetOf other ds → IsSetOf result (cs ++ ds) }
+    {
+        ClassSet {
+            bits: self.bits | other.bits,
+        }
+    }
+
     /// Returns whether the set has this class.
     pub fn has(self, class: Class) -> bool
         ensures { (cs : List BidiClass) → IsSetOf self cs → result ≡ list_any (is_class class) cs }

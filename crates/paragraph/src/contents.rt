@@ -10,9 +10,11 @@ ghost use Rattle.explicit.specs.Uniform.{may_rise_at_even, may_rise_at_odd};
 ghost use Rattle.paragraph.specs.ClassSets.{IsSetOf, is_class};
 ghost use Rattle.paragraph.specs.Contents.{Describes, IsFirstOf, IsFront, IsUniformLevel, are_flat, has_none, keeps_level, keeps_own};
 ghost use Rattle.paragraph.specs.FirstSides.{side_by};
+ghost use Rattle.paragraph.specs.LeftToRight.{keeps_explicit, may_leave};
 ghost use Rattle.resolve.specs.Wanted.{may_weaken};
 
 use crate::class_set::ClassSet;
+use crate::left_to_right::begins_at_zero;
 use explicit::para_level::level_under;
 use explicit::side::Side;
 use std::sync::ledger::Ledger;
@@ -85,6 +87,18 @@ fn may_rise_at_odd(classes: ClassSet) -> bool
     ensures { (cs : List BidiClass) → IsSetOf classes cs → result ≡ list_any may_rise_at_odd cs }
 {
     classes.has(Class::L) | classes.has(Class::EN) | classes.has(Class::AN)
+}
+
+/// X1 to I2: Returns whether a class can bring a position of a paragraph of level 0 above its explicit level.
+fn may_leave(classes: ClassSet) -> bool
+    ensures { (cs : List BidiClass) → IsSetOf classes cs → result ≡ list_any may_leave cs }
+{
+    classes.has(Class::R)
+        | classes.has(Class::AL)
+        | classes.has(Class::AN)
+        | classes.has(Class::RLE)
+        | classes.has(Class::RLO)
+        | classes.has(Class::RLI)
 }
 
 impl Contents {
@@ -179,6 +193,14 @@ impl Contents {
             ParaLevel::Zero => !has_initiator(self.classes) & !may_rise_at_even(self.classes),
             ParaLevel::One => !has_initiator(self.classes) & !may_rise_at_odd(self.classes),
         }
+    }
+
+    /// P2 to I2: Returns whether there is an initiator, but no R, AL, AN, RLE, RLO or RLI, so that the paragraph has
+    /// level 0 under this direction and each position that remains keeps its explicit level.
+    pub fn keeps_explicit(&self, direction: Direction) -> bool
+        ensures { (cs : List BidiClass) → Describes self.now cs → result ≡ keeps_explicit direction cs }
+    {
+        begins_at_zero(direction) & has_initiator(self.classes) & !may_leave(self.classes)
     }
 
     /// P2 to I2: Returns the level of the paragraph under a direction. Returns `None` if not each position that remains
@@ -355,6 +377,60 @@ fn scan_near<L: Ledger>(
     }
 }
 
+/// P2: Returns the side of the first strong class of a text whose classes are this set, or that no class is strong.
+/// Returns `None` if the set has strong classes of both sides, since it does not show which of them is the first.
+fn only_side(classes: ClassSet) -> Option<Side>
+    ensures { (cs : List BidiClass) → IsSetOf classes cs → MatchOption result
+        ((list_any (is_class BidiClass.L) cs
+        && (list_any (is_class BidiClass.R) cs || list_any (is_class BidiClass.AL) cs)) ≡ true)
+        (λ side. side ≡ side_by (find is_strong cs)) }
+{
+    let left_to_right = classes.has(Class::L);
+    let right_to_left = classes.has(Class::R) | classes.has(Class::AL);
+    if left_to_right & right_to_left {
+        None
+    } else if left_to_right {
+        Some(Side::LeftToRight)
+    } else if right_to_left {
+        Some(Side::RightToLeft)
+    } else {
+        Some(Side::Unknown)
+    }
+}
+
+/// P2: Returns the side of the first strong class of a text whose set of classes is known. It searches the text up to
+/// that class. The units after it count as steps too, because they were passed when the set was found.
+fn search_side<L: Ledger>(text: &[Unit], steps: &mut Steps<L>) -> Side
+    ensures side { result ≡ side_by (find is_strong (classes_of text.now)) }
+    ensures steps { steps.new ≡ steps.old + length text.now }
+{
+    for k in 0..text.len() {
+        steps.tick();
+        let class = text[k].class;
+        if class.is_strong() {
+            steps.add(text.len() - k - 1);
+            return Side::Unknown.noting(class);
+        }
+    }
+    Side::Unknown
+}
+
+/// P2: Returns the side of the first strong class of a text whose set of classes is known. It passes units only if the
+/// set has strong classes of both sides. Each unit counts as a step, because it was passed when the set was found.
+fn side_known<L: Ledger>(text: &[Unit], classes: ClassSet, steps: &mut Steps<L>) -> Side
+    requires { IsSetOf classes (classes_of text.now) }
+    ensures side { result ≡ side_by (find is_strong (classes_of text.now)) }
+    ensures steps { steps.new ≡ steps.old + length text.now }
+{
+    match only_side(classes) {
+        Some(side) => {
+            steps.add(text.len());
+            side
+        }
+        None => search_side(text, steps),
+    }
+}
+
 impl FirstParagraph {
     /// P1: Returns the first paragraph of a text and its contents, with a step for each of its units. After the first
     /// strong class it searches only for classes and the separator.
@@ -385,6 +461,34 @@ impl FirstParagraph {
         FirstParagraph {
             length: text.len(),
             contents: Contents { classes, side },
+        }
+    }
+
+    /// P1: Returns what `of` returns, for a caller that may know the set of the classes of the text. If the set is given
+    /// and has no separator, the text is its own first paragraph, and the set shows its contents. Each unit counts as a
+    /// step, because it was passed when the set was found.
+    // Inlined, a short paragraph takes fewer instructions.
+    #[inline(always)]
+    pub fn of_known<L: Ledger>(
+        text: &[Unit],
+        classes: Option<ClassSet>,
+        steps: &mut Steps<L>,
+    ) -> FirstParagraph
+        requires classes { IfSome classes (λ set. IsSetOf set (classes_of text.now)) }
+        ensures first { IsFirstOf result text.now }
+        ensures within { result.length ≤ length text.now }
+        ensures some { 0 < length text.now → 0 < result.length }
+        ensures steps { steps.new ≡ steps.old + result.length }
+    {
+        match classes {
+            Some(set) if !set.has(Class::B) => FirstParagraph {
+                length: text.len(),
+                contents: Contents {
+                    classes: set,
+                    side: side_known(text, set, steps),
+                },
+            },
+            _ => FirstParagraph::of(text, steps),
         }
     }
 }

@@ -1,11 +1,12 @@
 //! A paragraph, from its units to its resolved levels (P1 to I2).
 #![tactic(auto)]
 
-mod class_set;
+pub mod class_set;
 pub mod contents;
 mod fast_paths;
 mod few;
 mod found;
+mod left_to_right;
 pub mod one_unit;
 pub mod resolver;
 mod rooms;

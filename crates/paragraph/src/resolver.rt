@@ -13,6 +13,7 @@ use crate::contents::{Contents, FirstParagraph};
 use crate::fast_paths::{find_level, find_sequences, write_level};
 use crate::few::{few_column, resolve_if_few};
 use crate::found::{KnownParagraph, resolve_sequences};
+use crate::left_to_right::resolve_left_to_right;
 use crate::rooms::{RoomToFind, RoomToResolve};
 use std::alloc::Global;
 use std::boxed::BoxedSlice;
@@ -145,6 +146,15 @@ impl Resolver {
         ensures at_most { steps.new ≤ steps.old + driver_steps * length para.now + 1 }
         ensures if_uniform { result.uniform ≡ true → steps.new ≤ steps.old + length para.now }
     {
+        // P2 to I2, if nothing can leave its explicit level.
+        if contents.keeps_explicit(direction) {
+            resolve_left_to_right(para, direction, limits, &mut self.found, levels, steps);
+            return Resolved {
+                level: ParaLevel::Zero,
+                uniform: false,
+            };
+        }
+
         // BD9, P2, P3.
         let level = find_level(para, contents, direction, &mut self.found, steps);
 

@@ -36,7 +36,7 @@ module _ (cs : List Class) (from end : ℕ) (s : IsStretch is_ordinary cs from e
   module _ (depth base : ℕ) (status : Status) (level : status.level ≡
       (state_within depth cs base (open_before cs from)).level) (override_class : status.override_class ≡
       (state_within depth cs base (open_before cs from)).override) where
-    stretch-leveled : (n : ℕ) → from + n < end →
+    pub stretch-leveled : (n : ℕ) → from + n < end →
         Some (leveled_by_status status (class_at cs (from + n))) ≡ explicit_at depth cs base (from + n)
     stretch-leveled n h =
         let w = s.within in

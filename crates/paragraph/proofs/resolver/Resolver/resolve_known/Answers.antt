@@ -1,11 +1,27 @@
-use Rattle.std.proofs.Common.{rules, ap, sym, ◌∙◌, ℕ, map}
+use Rattle.std.proofs.Common.{rules, ap, sym, ◌∙◌, ℕ, List, map}
+use Rattle.std.proofs.lemmas.Bool.{false≢true}
 use Rattle.units.specs.Classes.{classes_of}
 use Rattle.units.specs.Isolates.{level_of_para}
 use Rattle.units.specs.Layout.{resolved_levels}
 use Rattle.units.specs.declared.bracket.Unit.{Unit as BidiUnit}
+use Rattle.units.specs.declared.class.Class.{Class}
 use Rattle.explicit.specs.Uniform.{level_unless_removed_at}
 use Rattle.paragraph.proofs.FlatLevels.{unchanged_stays, levels_are_unchanged}
+use Rattle.paragraph.proofs.LeftToRight.{keeping, keeping_not_level}
 use Rattle.paragraph.proofs.resolver.Resolver.resolve_known.Goals as goal
+
+pub returns-then-keeps_explicit-clause-resolved : goal.returns-then-keeps_explicit-clause-resolved
+returns-then-keeps_explicit-clause-resolved g c =
+    let cs : List Class = classes_of c.args.para.now in
+    let para = c.resolve_left_to_right.ensures.para_level in
+    let keeps = sym (c.keeps_explicit.ensures cs c.requires.contents) ∙ c.if-keeps_explicit.true in
+    record {
+      level = sym para;
+      levels = c.resolve_left_to_right.ensures.levels ∙
+          ap (resolved_levels c.args.limits c.args.para.now) (sym para);
+      known = sym (keeping_not_level c.args.direction cs 0 (keeping c.args.direction cs keeps));
+      uniform = λ e. absurd (false≢true e);
+    }
 
 pub returns-then-keeps-clause-resolved : goal.returns-then-keeps-clause-resolved
 returns-then-keeps-clause-resolved g c =
