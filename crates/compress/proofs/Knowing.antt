@@ -8,10 +8,10 @@ use Rattle.std.proofs.lemmas.Bool.{cases_Bool, cond-true, cond-false}
 use Rattle.units.specs.Classes.{is_nonspacing, is_strong}
 use Rattle.units.specs.declared.bracket.Unit.{Unit as BidiUnit}
 use Rattle.units.specs.declared.class.Class.{Class}
-use Rattle.units.specs.declared.class.Class.TheVariants.{L, R, AL, NSM, ON, WS, S}
+use Rattle.units.specs.declared.class.Class.TheVariants.{L, R, AL, EN, ES, ET, AN, CS, NSM, ON, WS, S}
 use Rattle.resolve.specs.declared.preceding.Preceding.{Preceding}
-use Rattle.compress.specs.Spread.{is_space, may_repeat}
-use Rattle.compress.specs.Squeeze.{Stack, is_bare, repeats, is_directed, joins, is_between, known_after, popped, added, next_for, first_unit, squeezed}
+use Rattle.compress.specs.Spread.{is_space, is_quiet, is_firm, is_still, is_apart, is_no_number, may_repeat}
+use Rattle.compress.specs.Squeeze.{Stack, is_bare, repeats, is_directed, joins, is_between, comma_between, class_for, known_after, popped, added, next_for, first_unit, squeezed}
 use Rattle.resolve.specs.ThroughW3.{preceding_past}
 use Rattle.compress.proofs.Sound.{both_parts}
 
@@ -44,10 +44,10 @@ after_sees sos (top ∷ back) = past_sees (known_after sos back) top.0.class (af
 abbrev pub strong_after : Class → Stack → Class
 strong_after sos stack = (known_after sos stack).strong
 
-strong_next : (sos : Class) (top : BidiUnit × ℕ) (back : Stack) → strong_after sos (top ∷ back) ≡ (if is_strong top.0.class then top.0.class else strong_after sos back)
+pub strong_next : (sos : Class) (top : BidiUnit × ℕ) (back : Stack) → strong_after sos (top ∷ back) ≡ (if is_strong top.0.class then top.0.class else strong_after sos back)
 strong_next sos top back = past_strong (known_after sos back) top.0.class (after_sees sos back)
 
-space_weak : (c : Class) → is_space c ≡ true → is_strong c ≡ false
+pub space_weak : (c : Class) → is_space c ≡ true → is_strong c ≡ false
 space_weak S h = refl
 space_weak WS h = refl
 space_weak ON h = refl
@@ -96,6 +96,43 @@ turned_strong direction sos stack u = adds (popped stack u) ∙ ap (λ (s : Clas
             ∙ ap (λ (s : Class). if is_strong u.class then u.class else s) (sym (strong_next sos c back))
         | inr f ↦ ap (strong_after sos) (cond-false (joins direction c.0 u) less all f) ∙ strong_next sos (u, 1) (c ∷ back)
       ]
+
+-- what replaces a class leaves the last strong one as the class itself does
+comma_weak : (c n s : Class) (b : Bool) → (if is_strong (if b then ON else comma_between c n) then (if b then ON else comma_between c n) else s) ≡ s
+comma_weak c n s true = refl
+comma_weak EN EN s false = refl
+comma_weak AN AN s false = refl
+comma_weak c n s false = refl
+
+sign_weak : (s u : Class) (b : Bool) → is_strong u ≡ false → (if is_strong (if b then ON else u) then (if b then ON else u) else s) ≡ s
+sign_weak s u true h = refl
+sign_weak s u false h = cond-false (is_strong u) u s h
+
+number_alike : (s : Class) (b : Bool) → (b ≡ true → is_directed L s ≡ true) → (if is_strong (if b then L else EN) then (if b then L else EN) else s) ≡ s
+number_alike s false h = refl
+number_alike L true h = refl
+number_alike s true h = let e = h refl in cc
+
+replaced_alike : (s c u n : Class) → (if is_strong (class_for s c u n) then class_for s c u n else s) ≡ (if is_strong u then u else s)
+replaced_alike s c CS n = comma_weak c n s (is_quiet c || (is_firm c && is_no_number n))
+replaced_alike s c ES n = sign_weak s ES (is_quiet c || (is_firm c && is_no_number n)) refl
+replaced_alike s c ET n = sign_weak s ET (is_quiet c && is_still n) refl
+replaced_alike s c EN n =
+    number_alike s ((is_quiet c && is_directed L s) && is_apart n) (λ h. (both_parts (is_quiet c) _ (both_parts (is_quiet c && is_directed L s) _ h).0).1)
+replaced_alike s c u n = refl
+
+pub next_alike : (sos : Class) (stack : Stack) (u : BidiUnit) (n s : Class) → s ≡ strong_after sos stack →
+    (if is_strong (next_for sos stack u n).class then (next_for sos stack u n).class else s) ≡ (if is_strong u.class then u.class else s)
+next_alike sos [] u n s e = refl
+next_alike sos (c ∷ back) u n s e =
+    let now : Class = strong_after sos (c ∷ back) in
+    let v : BidiUnit = record { class = class_for now c.0.class u.class n; bracket = u.bracket } in
+    let alike : (if is_strong v.class then v.class else s) ≡ (if is_strong u.class then u.class else s) =
+    ap (λ (t : Class). if is_strong (class_for t c.0.class u.class n) then class_for t c.0.class u.class n else s) (sym e) ∙ replaced_alike s c.0.class u.class n in
+    elim (cases_Bool (is_bare u.bracket)) [
+      | inl t ↦ ap (λ (w : BidiUnit). if is_strong w.class then w.class else s) (cond-true (is_bare u.bracket) v u t) ∙ alike
+      | inr f ↦ ap (λ (w : BidiUnit). if is_strong w.class then w.class else s) (cond-false (is_bare u.bracket) v u f)
+    ]
 
 -- one turn of the pass over a list, by index
 pub one_turn : (direction : Class) (units : List BidiUnit) (i : ℕ) (stack next : Stack) (v : BidiUnit) → i < length units →

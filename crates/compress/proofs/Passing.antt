@@ -1,5 +1,5 @@
 -- Units that are passed after the one that was chosen last, and what leads on to the whole stack.
-use Rattle.std.specs.Prelude.{ℕ, zero, suc, ◌+◌, ◌-◌, ◌<◌, ◌≤◌, Bool, true, false, ◌&&◌, ◌||◌, ◌≡◌, List, [], ◌∷◌, length, drop, if◌then◌else◌, refl}
+use Rattle.std.specs.Prelude.{ℕ, zero, suc, ◌+◌, ◌-◌, ◌<◌, ◌≤◌, Bool, true, false, not, ◌&&◌, ◌||◌, ◌≡◌, List, [], ◌∷◌, length, drop, if◌then◌else◌, refl}
 use Rattle.std.proofs.Common.{arith, ap, sym, subst, ◌∙◌, inl, inr}
 use Rattle.std.proofs.lemmas.List.{drop_all}
 use Rattle.std.proofs.lemmas.Bool.{both_ways, cases_Bool, cond-true, cond-false}
@@ -10,7 +10,7 @@ use Rattle.units.specs.declared.class.Class.TheVariants.{L, R, AL, EN, ES, ET, A
 use Rattle.compress.specs.Laid.{start_at, class_after, IsApart, remaining_before, stack_of, IsLaid, IsPassed, LeadsOn}
 use Rattle.compress.specs.Remaining.{remaining_units}
 use Rattle.compress.specs.Spread.{may_repeat, is_space, is_quiet, is_firm, is_apart, is_no_number}
-use Rattle.compress.specs.Squeeze.{Stack, is_bare, repeats, is_directed, is_one_way, joins, is_between, is_sign, passes, passes_after, comma_between, class_for, is_number_or_sign, needs_next, unit_for, known_after, popped, added, next_for, turned, first_unit, squeezed}
+use Rattle.compress.specs.Squeeze.{Stack, is_bare, is_open_letter, repeats, is_directed, is_one_way, joins, is_between, is_sign, passes, passes_after, comma_between, class_for, is_number_or_sign, needs_next, unit_for, known_after, popped, added, next_for, turned, first_unit, squeezed}
 use Rattle.compress.proofs.Counting.{at, remaining_chosen, removed_between, remaining_here}
 use Rattle.compress.proofs.Laying.{stack_of-joins, laid_later}
 use Rattle.compress.proofs.Sound.{both_parts, join_parts}
@@ -20,7 +20,7 @@ use Rattle.compress.proofs.Squeezed.{or_parts, mark_is, repeats_is}
 abbrev joins_class : Class → Class → Class → Bool
 joins_class d t v = (is_nonspacing v && may_repeat t) || (repeats t v || (is_space v && (is_space t || is_directed d t)))
 
-spaced_is_quiet : (d t : Class) → (is_space t || is_directed d t) ≡ true → is_quiet t ≡ true
+pub spaced_is_quiet : (d t : Class) → (is_space t || is_directed d t) ≡ true → is_quiet t ≡ true
 spaced_is_quiet d L h = refl
 spaced_is_quiet d R h = refl
 spaced_is_quiet d AL h = refl
@@ -279,6 +279,41 @@ removed_passes d top c t =
       | inr f ↦ cond-false (is_bare top.bracket) (passes d top.class c) (is_removed c) f ∙ t
     ]
 
+-- a letter is no mark
+pub strong_unmarked : (u : Class) → is_strong u ≡ true → is_nonspacing u ≡ false
+strong_unmarked NSM h = cc
+strong_unmarked u h = refl
+
+-- a letter is no number and no sign
+pub strong_plain : (u : Class) → is_strong u ≡ true → is_number_or_sign u ≡ false
+strong_plain L h = refl
+strong_plain R h = refl
+strong_plain AL h = refl
+strong_plain u h = cc
+
+-- only a letter lets the one before it be dropped
+pub popped_weak : (stack : Stack) (u : BidiUnit) → is_strong u.class ≡ false → stack ≡ popped stack u
+popped_weak [] u h = refl
+popped_weak (d ∷ []) u h = refl
+popped_weak (d ∷ c ∷ back) u h =
+    let less : Stack = (c.0, c.1 + d.1) ∷ back in
+    let all : Stack = d ∷ c ∷ back in
+    sym (cond-false (is_between c.0 d.0 u) less all
+    (and_false (is_bare d.0.bracket && is_bare c.0.bracket) _ (and_false (is_space d.0.class) _ (weak_one_way c.0.class u.class h))))
+
+-- what is passed after a letter without a bracket, but no white space: neutrals after it depend on what comes after them
+open_unless_spaced : (d t : Class) → is_strong t ≡ true → passes d t WS ≡ false → (is_strong t && not (is_directed d t)) ≡ true
+open_unless_spaced d t s h = ap (λ b. b && not (is_directed d t)) s ∙ undirected (is_directed d t) (or_both (is_space t) _ (or_both (repeats t WS) _ h).1).1 where
+  undirected : (b : Bool) → b ≡ false → not b ≡ true
+  undirected true f = cc
+  undirected false f = refl
+
+pub open_letter : (d : Class) (top : BidiUnit) → is_bare top.bracket ≡ true → is_strong top.class ≡ true → passes_after d top WS ≡ false →
+    is_open_letter d top ≡ true
+open_letter d top bare strong h =
+    join_parts (is_bare top.bracket) (is_strong top.class && not (is_directed d top.class)) bare
+    (open_unless_spaced d top.class strong (sym (cond-true (is_bare top.bracket) (passes d top.class WS) (is_removed WS) bare) ∙ h))
+
 or_none : (b r : Bool) → r ≡ false → (b || r) ≡ b
 or_none true r f = refl
 or_none false r f = f
@@ -297,6 +332,15 @@ apart_at_stop d chosen (suc k) has u some h stop =
         stopped = λ j e. sym (ap (λ b. b && is_bare u.bracket) (h j e)) ∙ sym (ap (λ b. has && b) (or_none (is_bare u.bracket) (is_removed u.class) f)) ∙ stop;
       }
     ]
+
+-- the same of the last chosen one and the classes that are passed after it
+pub stop_apart : (d : Class) (chosen : List BidiUnit) (k : ℕ) (top u : BidiUnit) (has : Class → Bool) → top ≡ at chosen k →
+    ((c : Class) → has c ≡ passes_after d top c) → (has u.class && (is_bare u.bracket || is_removed u.class)) ≡ false → IsApart d chosen (suc k) u
+stop_apart d chosen k top u has same set stop =
+    apart_at_stop d chosen (suc k) (has u.class) u (omega arith)
+    (λ j i. let last : k ≡ j = omega arith in
+    set u.class ∙ ap (λ t. passes_after d t u.class) same ∙ ap (λ t. passes_after d (at chosen t) u.class) last)
+    stop
 
 -- no number, sign or separator needs the next class, whatever the last strong class is
 plain_needs-none : (s u : Class) → is_number_or_sign u ≡ false → needs_next s u ≡ false

@@ -21,7 +21,7 @@ pub record IsSpread (us starts : List BidiUnit) (m : ℕ) (old levels : List (Op
   pub rising : AreRising starts k end
   pub within : end ≤ length us
   pub done : (p : ℕ) → end ≤ p → p < length us → slice_index_or levels p None ≡ level_by us starts old m p
-  pub rest : (p : ℕ) → p < end → slice_index_or levels p None ≡ slice_index_or old p None
+  pub rest : (p : ℕ) → p < k → slice_index_or levels p None ≡ slice_index_or old p None
   pub lower : (p : ℕ) → p < end → level_by us starts old m p ≡ level_by us starts old k p
 
 -- later units begin later
@@ -45,7 +45,7 @@ not_before starts m end (suc k) r lt =
 spread_next : (us starts : List BidiUnit) (m : ℕ) (old levels new : List (Option ℕ)) (end start j : ℕ) (level : Option ℕ) →
     IsSpread us starts m old levels end (suc j) → start ≡ start_at starts j → level ≡ slice_index_or levels j None →
     ((p : ℕ) → start ≤ p → p < end → slice_index_or new p None ≡ (if is_removed (at us p).class then None else level)) →
-    ((p : ℕ) → p < start → slice_index_or new p None ≡ slice_index_or levels p None) →
+    ((p : ℕ) → p < j → slice_index_or new p None ≡ slice_index_or levels p None) →
     ((p : ℕ) → end ≤ p → slice_index_or new p None ≡ slice_index_or levels p None) → IsSpread us starts m old new start j
 spread_next us starts m old levels new end start j level s e v inside below above =
     let low = s.rising.low j (omega arith) in
@@ -81,13 +81,19 @@ spread_next us starts m old levels new end start j level s e v inside below abov
 pub spread_one : (us starts : List BidiUnit) (m : ℕ) (old levels new : List (Option ℕ)) (end start k : ℕ) (level : Option ℕ) → 0 < k →
     IsSpread us starts m old levels end k → start ≡ start_at starts (k - 1) → level ≡ slice_index_or levels (k - 1) None →
     ((p : ℕ) → start ≤ p → p < end → slice_index_or new p None ≡ (if is_removed (at us p).class then None else level)) →
-    ((p : ℕ) → p < start → slice_index_or new p None ≡ slice_index_or levels p None) →
+    ((p : ℕ) → p < k - 1 → slice_index_or new p None ≡ slice_index_or levels p None) →
     ((p : ℕ) → end ≤ p → slice_index_or new p None ≡ slice_index_or levels p None) → IsSpread us starts m old new start (k - 1)
 spread_one us starts m old levels new end start zero level lt s e v inside below above = absurd (omega arith)
 spread_one us starts m old levels new end start (suc j) level lt s e v inside below above =
     let one : suc j - 1 ≡ j = omega arith in
     subst (λ i. IsSpread us starts m old new start i) (sym one)
-    (spread_next us starts m old levels new end start j level s (e ∙ ap (start_at starts) one) (v ∙ ap (λ i. slice_index_or levels i None) one) inside below above)
+    (spread_next us starts m old levels new end start j level s (e ∙ ap (start_at starts) one) (v ∙ ap (λ i. slice_index_or levels i None) one) inside
+    (λ p lt. below p (omega (arith, lt))) above)
+
+-- the next one begins no earlier than its number
+pub starts_above : (us starts : List BidiUnit) (m : ℕ) (old levels : List (Option ℕ)) (end k : ℕ) → 0 < k → IsSpread us starts m old levels end k →
+    k - 1 ≤ start_at starts (k - 1)
+starts_above us starts m old levels end k lt s = not_before starts k end (k - 1) s.rising (omega arith)
 
 pub spread_none : (us starts : List BidiUnit) (m : ℕ) (old : List (Option ℕ)) → IsLaid us starts m (length us) → IsSpread us starts m old old (length us) m
 spread_none us starts m old laid = record {

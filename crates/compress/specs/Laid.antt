@@ -9,6 +9,8 @@ use Rattle.units.specs.declared.bracket.Bracket.{Bracket}
 use Rattle.units.specs.declared.bracket.Bracket.TheVariants.{Open}
 use Rattle.units.specs.declared.bracket.Unit.{Unit as BidiUnit}
 use Rattle.units.specs.declared.class.Class.{Class}
+use Rattle.units.specs.declared.class.Class.TheVariants.{L, EN}
+use Rattle.compress.specs.Spread.{is_apart}
 use Rattle.compress.specs.Remaining.{remaining_units}
 use Rattle.compress.specs.Squeeze.{Stack, is_bare, passes_after, known_after, first_unit, squeezed}
 use Rattle.compress.specs.declared.pass.Known.{Known}
@@ -70,6 +72,14 @@ LeadsOn direction us stack p =
 abbrev pub class_after : List BidiUnit → ℕ → Class
 class_after us p = (first_unit (remaining_units (drop (p + 1) us))).class
 
+-- W7: the unit at this position is a number without a bracket, and becomes this letter, L, after L or neutrals after it:
+-- what comes next is of a class that joins no number
+pub record BecomesLetter (letter : Class) (us : List BidiUnit) (p : ℕ) : Type 0 where
+  pub is_l : letter ≡ L
+  pub number : (slice_index_or us p no_unit).class ≡ EN
+  pub bare : is_bare (slice_index_or us p no_unit).bracket ≡ true
+  pub apart : is_apart (class_after us p) ≡ true
+
 -- the unit at this position has the level of the last of the first m chosen ones, whatever comes after it
 pub record IsPassed (direction : Class) (us chosen : List BidiUnit) (m p : ℕ) : Type 0 where
   pub passes : (k : ℕ) → m ≡ suc k →
@@ -121,4 +131,11 @@ pub record IsRun (us : List BidiUnit) (start end : ℕ) (level : Option ℕ) (ol
   pub inside : (p : ℕ) → start ≤ p → p < end →
       slice_index_or levels p None ≡ (if is_removed (slice_index_or us p no_unit).class then None else level)
   pub below : (p : ℕ) → p < start → slice_index_or levels p None ≡ slice_index_or old p None
+  pub above : (p : ℕ) → end ≤ p → slice_index_or levels p None ≡ slice_index_or old p None
+
+-- the same, but levels from the lowest position on may have changed before start too
+pub record IsRunAfter (us : List BidiUnit) (lowest start end : ℕ) (level : Option ℕ) (old levels : List (Option ℕ)) : Type 0 where
+  pub inside : (p : ℕ) → start ≤ p → p < end →
+      slice_index_or levels p None ≡ (if is_removed (slice_index_or us p no_unit).class then None else level)
+  pub below : (p : ℕ) → p < lowest → slice_index_or levels p None ≡ slice_index_or old p None
   pub above : (p : ℕ) → end ≤ p → slice_index_or levels p None ≡ slice_index_or old p None

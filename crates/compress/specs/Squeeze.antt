@@ -108,6 +108,14 @@ passes_after direction c u = if is_bare c.bracket then passes direction c.class 
 abbrev pub is_neutral_unit : BidiUnit → Bool
 is_neutral_unit u = is_bare u.bracket && (is_space u.class || is_sign u.class)
 
+abbrev pub is_terminator : Class → Bool
+is_terminator ET = true
+is_terminator c = false
+
+-- a terminator, without a bracket: between letters it is neutral
+abbrev pub is_terminator_unit : BidiUnit → Bool
+is_terminator_unit u = is_bare u.bracket && is_terminator u.class
+
 -- the same letter
 abbrev pub is_same_letter : Class → Class → Bool
 is_same_letter L L = true

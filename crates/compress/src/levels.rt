@@ -1,9 +1,9 @@
 //! The levels of a flat paragraph from those of the few units that were resolved in its place.
-ghost use Rattle.std.specs.Prelude.{◌≡◌, ℕ, List, true, false, ◌+◌, ◌<◌, ◌≤◌, None, length, slice_index_or, if◌then◌else◌};
+ghost use Rattle.std.specs.Prelude.{◌≡◌, ℕ, List, true, false, ◌+◌, ◌<◌, ◌≤◌, max, None, length, slice_index_or, if◌then◌else◌};
 ghost use Rattle.units.specs.Classes.{is_removed};
 ghost use Rattle.units.specs.Layout.{no_unit};
 ghost use Rattle.units.specs.declared.bracket.Unit.{Unit as BidiUnit};
-ghost use Rattle.compress.specs.Laid.{IsLaid, IsRun, RemainAll, ResolvesFrom};
+ghost use Rattle.compress.specs.Laid.{IsLaid, IsRun, IsRunAfter, RemainAll, ResolvesFrom};
 
 use crate::pass::start_of;
 use crate::passed_set::PassedSet;
@@ -63,6 +63,71 @@ fn write_all<L: Ledger>(
     }
 }
 
+/// How many levels are written together.
+const BLOCK: usize = 8;
+
+/// Writes this level at the eight positions from `p` on.
+fn write_eight(p: usize, level: &Option<Level>, levels: &mut [Option<Level>])
+    requires { p + 8 ≤ length levels.old }
+    ensures { (us : List BidiUnit) → RemainAll us → length levels.old ≡ length us
+        → IsRun us p (p + 8) level.now levels.old levels.new }
+{
+    for i in 0..BLOCK {
+        levels[p + i] = *level;
+    }
+}
+
+/// Writes this level before `end`, eight at a time, down to `start` or a few positions before it, but nothing before
+/// `lowest`. Returns from which position on it is written. Each position from `start` on is a step.
+// Eight levels are one store, so the few before `start` cost nothing.
+fn write_back<L: Ledger>(
+    lowest: usize,
+    start: usize,
+    end: usize,
+    level: &Option<Level>,
+    levels: &mut [Option<Level>],
+    steps: &mut Steps<L>,
+) -> usize
+    requires lowest { lowest ≤ end }
+    requires order { start ≤ end }
+    requires within { end ≤ length levels.old }
+    ensures lowest { lowest ≤ result }
+    ensures within { result ≤ end }
+    ensures run { (us : List BidiUnit) → RemainAll us → length levels.old ≡ length us
+        → IsRun us result end level.now levels.old levels.new }
+    ensures steps { steps.new + max start result ≡ steps.old + end }
+{
+    let mut p = end;
+    while p > start && p - lowest >= BLOCK {
+        steps.add((p - start).min(BLOCK));
+        p -= BLOCK;
+        write_eight(p, level, levels);
+    }
+    p
+}
+
+/// Writes this level from `start` up to `end`, and perhaps at positions before these, but at none before `lowest`.
+fn write_mostly_back<L: Ledger>(
+    lowest: usize,
+    start: usize,
+    end: usize,
+    level: &Option<Level>,
+    levels: &mut [Option<Level>],
+    steps: &mut Steps<L>,
+)
+    requires lowest { lowest ≤ start }
+    requires order { start ≤ end }
+    requires within { end ≤ length levels.old }
+    ensures run { (us : List BidiUnit) → RemainAll us → length levels.old ≡ length us
+        → IsRunAfter us lowest start end level.now levels.old levels.new }
+    ensures steps { steps.new + start ≡ steps.old + end }
+{
+    let p = write_back(lowest, start, end, level, levels, steps);
+    if p > start {
+        write_all(start, p, level, levels, steps);
+    }
+}
+
 /// A paragraph, and whether all its units remain (X9).
 #[derive(Clone, Copy)]
 pub struct FlatPara<'a> {
@@ -72,32 +137,59 @@ pub struct FlatPara<'a> {
     pub all_remain: bool,
 }
 
-/// X9: Writes this level from `start` up to `end`, and `None` at what is removed.
-fn write_run<L: Ledger>(
-    para: &FlatPara,
-    start: usize,
-    end: usize,
-    level: &Option<Level>,
+/// Writes the levels of a paragraph of which all units remain, as `spread` does.
+#[inline(never)]
+fn spread_all<L: Ledger>(
+    para: &[Unit],
+    starts: &[Unit],
+    m: usize,
     levels: &mut [Option<Level>],
     steps: &mut Steps<L>,
 )
-    requires all_remain { para.now.all_remain ≡ true → RemainAll para.now.units.now }
-    requires order { start ≤ end }
-    requires within { end ≤ length para.now.units.now }
-    requires levels { length levels.old ≡ length para.now.units.now }
-    ensures run { IsRun para.now.units.now start end level.now levels.old levels.new }
-    ensures steps { steps.new + start ≡ steps.old + end }
+    requires all_remain { RemainAll para.now }
+    requires laid { IsLaid para.now starts.now m (length para.now) }
+    requires starts { m ≤ length starts.now }
+    requires levels { length levels.old ≡ length para.now }
+    ensures resolved { ResolvesFrom para.now starts.now m levels.old levels.new }
+    ensures steps { steps.new ≡ steps.old + length para.now }
 {
-    if para.all_remain {
-        write_all(start, end, level, levels, steps);
-    } else {
-        write_remaining(para.units, start, end, level, levels, steps);
+    let mut end = para.len();
+    for k in (0..m).rev() {
+        let start = start_of(starts[k]);
+        let level = levels[k];
+        write_mostly_back(k, start, end, &level, levels, steps);
+        end = start;
     }
+    write_mostly_back(0, 0, end, &None, levels, steps);
+}
+
+/// X9: Writes the levels of any paragraph, as `spread` does.
+#[inline(never)]
+fn spread_remaining<L: Ledger>(
+    para: &[Unit],
+    starts: &[Unit],
+    m: usize,
+    levels: &mut [Option<Level>],
+    steps: &mut Steps<L>,
+)
+    requires laid { IsLaid para.now starts.now m (length para.now) }
+    requires starts { m ≤ length starts.now }
+    requires levels { length levels.old ≡ length para.now }
+    ensures resolved { ResolvesFrom para.now starts.now m levels.old levels.new }
+    ensures steps { steps.new ≡ steps.old + length para.now }
+{
+    let mut end = para.len();
+    for k in (0..m).rev() {
+        let start = start_of(starts[k]);
+        let level = levels[k];
+        write_remaining(para, start, end, &level, levels, steps);
+        end = start;
+    }
+    write_remaining(para, 0, end, &None, levels, steps);
 }
 
 /// Writes the levels of a paragraph, of which the first `m` levels are those of the chosen units. `starts` are the
 /// positions at which these begin. Each position is a step.
-#[inline(never)]
 pub fn spread<L: Ledger>(
     para: &FlatPara,
     starts: &[Unit],
@@ -112,12 +204,9 @@ pub fn spread<L: Ledger>(
     ensures resolved { ResolvesFrom para.now.units.now starts.now m levels.old levels.new }
     ensures steps { steps.new ≡ steps.old + length para.now.units.now }
 {
-    let mut end = para.units.len();
-    for k in (0..m).rev() {
-        let start = start_of(starts[k]);
-        let level = levels[k];
-        write_run(para, start, end, &level, levels, steps);
-        end = start;
+    if para.all_remain {
+        spread_all(para.units, starts, m, levels, steps);
+    } else {
+        spread_remaining(para.units, starts, m, levels, steps);
     }
-    write_run(para, 0, end, &None, levels, steps);
 }

@@ -4,15 +4,15 @@ ghost use Rattle.units.specs.Classes.{is_removed, is_strong};
 ghost use Rattle.units.specs.Layout.{no_unit};
 ghost use Rattle.units.specs.declared.bracket.Unit.{Unit as BidiUnit};
 ghost use Rattle.units.specs.declared.class.Class.{Class as BidiClass};
-ghost use Rattle.compress.specs.Laid.{start_of, stack_of, class_after, IsLaid, IsNextAt, IsApart, IsStateAt, LeadsOn, AreFew};
+ghost use Rattle.compress.specs.Laid.{start_of, stack_of, class_after, BecomesLetter, IsLaid, IsNextAt, IsApart, IsStateAt, LeadsOn, AreFew};
 ghost use Rattle.compress.specs.PassedSets.{has};
 ghost use Rattle.compress.specs.Remaining.{remaining_units};
-ghost use Rattle.compress.specs.Squeeze.{Stack, is_bare, passes_after, popped, added, next_for, turned, first_unit, known_after};
+ghost use Rattle.compress.specs.Squeeze.{Stack, is_bare, is_open_letter, passes_after, popped, added, next_for, turned, first_unit, known_after};
 
 use crate::passed_set::PassedSet;
 use crate::rules::{
-    is_bare, is_between, is_letter_again, is_mark, is_neutral_unit, is_open_letter, joins,
-    needs_next, unit_for,
+    is_apart, is_bare, is_between, is_letter_again, is_mark, is_neutral_unit, is_terminator_unit,
+    joins, needs_next, unit_for,
 };
 use std::sync::ledger::Ledger;
 use units::bracket::{Bracket, Key, Unit};
@@ -120,12 +120,10 @@ struct Known {
     strong: Class,
 }
 
-/// How many units are chosen after a unit, its class or that of what replaces it, and the position from which on the
-/// next one is.
+/// How many units are chosen after a unit, and the position from which on the next one is.
 #[derive(Clone, Copy)]
 struct Turned {
     m: usize,
-    class: Class,
     end: usize,
 }
 
@@ -155,9 +153,6 @@ fn turn_by_next<L: Ledger>(
         (slice_index_or para.now p no_unit) (class_after para.now p) }
     ensures laid { IsStateAt known para.now chosen.old starts.old m p
         → IsLaid para.now starts.new result.m result.end }
-    ensures class { IsStateAt known para.now chosen.old starts.old m p
-        → result.class ≡ (next_for known.direction (stack_of para.now chosen.old starts.old m p)
-        (slice_index_or para.now p no_unit) (class_after para.now p)).class }
     ensures more { result.m ≤ m + 1 }
     ensures some { 0 < result.m }
     ensures steps { steps.new + p + 1 ≡ steps.old + result.end }
@@ -166,41 +161,108 @@ fn turn_by_next<L: Ledger>(
     let unit = next_for(known.strong, chosen, m, para[p], class_or_l(para, end));
     let count = popped(chosen, m, unit);
     let m = added(known.direction, chosen, starts, count, unit, p);
-    Turned {
-        m,
-        class: unit.class,
-        end,
-    }
+    Turned { m, end }
 }
 
-/// Chooses the unit at the position `p`, which nothing replaces, or drops it. Returns how many are chosen then.
-fn turn_plain(
+/// Lets the unit at the position `p` join the last chosen one, or chooses it. Returns how many are chosen then.
+// It reads the unit by itself, so that no other turn needs a copy of it in memory.
+#[inline(never)]
+fn added_at(
     direction: Class,
     chosen: &mut [Unit],
     starts: &mut [Unit],
     m: usize,
-    unit: Unit,
+    para: &[Unit],
     p: usize,
 ) -> usize
     requires chosen { m < length chosen.old }
     requires starts { m < length starts.old }
-    requires short { p < 2 ^ 32 }
+    requires here { p < length para.now }
+    requires short { length para.now < 2 ^ 32 }
     ensures stack { (us : List BidiUnit) (end : ℕ) → IsLaid us starts.old m p → IsNextAt us p end
-        → IsApart direction chosen.old m unit
         → stack_of us chosen.new starts.new result end
-        ≡ added direction (popped (stack_of us chosen.old starts.old m p) unit) unit }
+        ≡ added direction (stack_of us chosen.old starts.old m p) (slice_index_or para.now p no_unit) }
     ensures laid { (us : List BidiUnit) (end : ℕ) → IsLaid us starts.old m p → IsNextAt us p end
         → IsLaid us starts.new result end }
     ensures within { result ≤ m + 1 }
     ensures some { 0 < result }
 {
-    let count = popped(chosen, m, unit);
-    if count < m || is_mark(unit.class) {
-        return added(direction, chosen, starts, count, unit, p);
+    added(direction, chosen, starts, m, para[p], p)
+}
+
+/// Chooses the letter at the position `p`. Returns how many are chosen then.
+fn turn_letter(
+    direction: Class,
+    chosen: &mut [Unit],
+    starts: &mut [Unit],
+    m: usize,
+    para: &[Unit],
+    p: usize,
+) -> usize
+    requires chosen { m < length chosen.old }
+    requires starts { m < length starts.old }
+    requires here { p < length para.now }
+    requires short { length para.now < 2 ^ 32 }
+    requires letter { is_strong (slice_index_or para.now p no_unit).class ≡ true }
+    ensures stack { (us : List BidiUnit) (end : ℕ) → IsLaid us starts.old m p → IsNextAt us p end
+        → IsApart direction chosen.old m (slice_index_or para.now p no_unit)
+        → stack_of us chosen.new starts.new result end
+        ≡ added direction (popped (stack_of us chosen.old starts.old m p) (slice_index_or para.now p no_unit))
+        (slice_index_or para.now p no_unit) }
+    ensures laid { (us : List BidiUnit) (end : ℕ) → IsLaid us starts.old m p → IsNextAt us p end
+        → IsLaid us starts.new result end }
+    ensures within { result ≤ m + 1 }
+    ensures some { 0 < result }
+{
+    let count = popped(chosen, m, para[p]);
+    if count < m {
+        return added_at(direction, chosen, starts, count, para, p);
     }
-    chosen[m] = unit;
+    chosen[m] = para[p];
     starts[m] = stored(p);
     m + 1
+}
+
+/// Chooses the unit at the position `p`, which is no letter and which nothing replaces, or drops it. Returns how many
+/// are chosen then.
+fn turn_other(
+    direction: Class,
+    chosen: &mut [Unit],
+    starts: &mut [Unit],
+    m: usize,
+    para: &[Unit],
+    p: usize,
+) -> usize
+    requires chosen { m < length chosen.old }
+    requires starts { m < length starts.old }
+    requires here { p < length para.now }
+    requires short { length para.now < 2 ^ 32 }
+    requires other { is_strong (slice_index_or para.now p no_unit).class ≡ false }
+    ensures stack { (us : List BidiUnit) (end : ℕ) → IsLaid us starts.old m p → IsNextAt us p end
+        → IsApart direction chosen.old m (slice_index_or para.now p no_unit)
+        → stack_of us chosen.new starts.new result end
+        ≡ added direction (popped (stack_of us chosen.old starts.old m p) (slice_index_or para.now p no_unit))
+        (slice_index_or para.now p no_unit) }
+    ensures laid { (us : List BidiUnit) (end : ℕ) → IsLaid us starts.old m p → IsNextAt us p end
+        → IsLaid us starts.new result end }
+    ensures within { result ≤ m + 1 }
+    ensures some { 0 < result }
+{
+    if is_mark(para[p].class) {
+        return added_at(direction, chosen, starts, m, para, p);
+    }
+    chosen[m] = para[p];
+    starts[m] = stored(p);
+    m + 1
+}
+
+/// What is known after a turn: how many units are chosen, the last strong class, and the position from which on the
+/// next unit is.
+#[derive(Clone, Copy)]
+struct Now {
+    m: usize,
+    strong: Class,
+    end: usize,
 }
 
 /// Chooses the unit at the position `p`, or what replaces it, or drops it.
@@ -212,7 +274,7 @@ fn turn<L: Ledger>(
     para: &[Unit],
     p: usize,
     steps: &mut Steps<L>,
-) -> Turned
+) -> Now
     requires chosen { m < length chosen.old }
     requires starts { m < length starts.old }
     requires here { p < length para.now }
@@ -227,30 +289,36 @@ fn turn<L: Ledger>(
         (slice_index_or para.now p no_unit) (class_after para.now p) }
     ensures laid { IsStateAt known para.now chosen.old starts.old m p
         → IsLaid para.now starts.new result.m result.end }
-    ensures class { IsStateAt known para.now chosen.old starts.old m p
-        → result.class ≡ (next_for known.direction (stack_of para.now chosen.old starts.old m p)
-        (slice_index_or para.now p no_unit) (class_after para.now p)).class }
+    ensures strong { result.strong
+        ≡ (if is_strong (slice_index_or para.now p no_unit).class then (slice_index_or para.now p no_unit).class
+        else known.strong) }
     ensures more { result.m ≤ m + 1 }
     ensures some { 0 < result.m }
     ensures steps { steps.new + p + 1 ≡ steps.old + result.end }
 {
-    let unit = para[p];
-    if needs_next(known.strong, unit.class) {
-        return turn_by_next(known, chosen, starts, m, para, p, steps);
+    let class = para[p].class;
+    if class.is_strong() {
+        let m = turn_letter(known.direction, chosen, starts, m, para, p);
+        return Now {
+            m,
+            strong: class,
+            end: p + 1,
+        };
     }
-    let m = turn_plain(known.direction, chosen, starts, m, unit, p);
-    Turned {
+    if needs_next(known.strong, class) {
+        let turned = turn_by_next(known, chosen, starts, m, para, p, steps);
+        return Now {
+            m: turned.m,
+            strong: known.strong,
+            end: turned.end,
+        };
+    }
+    let m = turn_other(known.direction, chosen, starts, m, para, p);
+    Now {
         m,
-        class: unit.class,
+        strong: known.strong,
         end: p + 1,
     }
-}
-
-/// Returns the last strong class after a unit of this class.
-fn later(strong: Class, class: Class) -> Class
-    ensures { result ≡ (if is_strong class then class else strong) }
-{
-    if class.is_strong() { class } else { strong }
 }
 
 /// Returns the classes that are passed after a chosen unit.
@@ -306,6 +374,17 @@ fn four_are_bare(para: &[Unit], p: usize) -> bool
         & is_bare(para[p + 3].bracket)
 }
 
+/// Returns whether the four units from `p` on are of these classes and have no bracket.
+fn four_pass(set: PassedSet, para: &[Unit], p: usize) -> bool
+    requires { p + 4 ≤ length para.now }
+    ensures classes { result ≡ true → (q : ℕ) → p ≤ q → q < p + 4
+        → has set (slice_index_or para.now q no_unit).class ≡ true }
+    ensures bare { result ≡ true → (q : ℕ) → p ≤ q → q < p + 4
+        → is_bare (slice_index_or para.now q no_unit).bracket ≡ true }
+{
+    four_are_of(set, para, p) && four_are_bare(para, p)
+}
+
 /// Passes units from `start` on, four at a time, as long as these are of these classes and have no bracket. Returns the
 /// position after them.
 fn pass_fours<L: Ledger>(para: &[Unit], start: usize, set: PassedSet, steps: &mut Steps<L>) -> usize
@@ -319,35 +398,25 @@ fn pass_fours<L: Ledger>(para: &[Unit], start: usize, set: PassedSet, steps: &mu
     ensures steps { steps.new + start ≡ steps.old + result }
 {
     let mut p = start;
-    while para.len() - p >= BLOCK && four_are_of(set, para, p) && four_are_bare(para, p) {
-        steps.add(BLOCK);
-        p += BLOCK;
+    while para.len() - p >= 2 * BLOCK && four_pass(set, para, p) {
+        if !four_pass(set, para, p + BLOCK) {
+            steps.add(BLOCK);
+            return p + BLOCK;
+        }
+        steps.add(2 * BLOCK);
+        p += 2 * BLOCK;
     }
     p
 }
 
-/// Passes the unit at `start` and most of those after it, as long as they are of these classes and have no bracket. A
-/// run that has no white space is short, so only others are passed four at a time. Returns the position after them.
-fn pass_most<L: Ledger>(para: &[Unit], start: usize, set: PassedSet, steps: &mut Steps<L>) -> usize
-    requires { start ≤ length para.now }
-    ensures from_start { start ≤ result }
-    ensures within { result ≤ length para.now }
-    ensures passed { (p : ℕ) → start ≤ p → p < result
-        → has set (slice_index_or para.now p no_unit).class ≡ true }
-    ensures bare { (p : ℕ) → start ≤ p → p < result → (is_bare (slice_index_or para.now p no_unit).bracket
-        || is_removed (slice_index_or para.now p no_unit).class) ≡ true }
-    ensures steps { steps.new + start ≡ steps.old + result }
-{
-    if start >= para.len() || !set.has(Class::WS) || !is_passed(set, para[start]) {
-        return start;
-    }
-    steps.tick();
-    pass_fours(para, start + 1, set, steps)
-}
-
-/// Passes units from `start` on, as long as they are of these classes and have no bracket. Returns the position after
-/// them.
-fn pass_run<L: Ledger>(para: &[Unit], start: usize, set: PassedSet, steps: &mut Steps<L>) -> usize
+/// Passes units from `start` on one by one, as long as they are of these classes and have no bracket. Returns the
+/// position after them.
+fn pass_singly<L: Ledger>(
+    para: &[Unit],
+    start: usize,
+    set: PassedSet,
+    steps: &mut Steps<L>,
+) -> usize
     requires { start ≤ length para.now }
     ensures from_start { start ≤ result }
     ensures within { result ≤ length para.now }
@@ -360,7 +429,7 @@ fn pass_run<L: Ledger>(para: &[Unit], start: usize, set: PassedSet, steps: &mut 
         || is_removed (slice_index_or para.now result no_unit).class)) ≡ false }
     ensures steps { steps.new + start ≡ steps.old + result }
 {
-    let mut p = pass_most(para, start, set, steps);
+    let mut p = start;
     while p < para.len() && is_passed(set, para[p]) {
         steps.tick();
         p += 1;
@@ -368,37 +437,185 @@ fn pass_run<L: Ledger>(para: &[Unit], start: usize, set: PassedSet, steps: &mut 
     p
 }
 
-/// Returns the position after one to three neutrals from `p` on and the same letter as `top` after them, if neutrals
-/// after `top` depend on what comes after them. Returns `p` if there are none, or if another unit comes after them.
-fn past_neutrals(direction: Class, top: Unit, para: &[Unit], p: usize) -> usize
+/// Passes units from `start` on, as long as they are of these classes and have no bracket, and most of them four at a
+/// time. Returns the position after them.
+// A function of its own, so that its loops have all registers.
+#[inline(never)]
+fn pass_far<L: Ledger>(para: &[Unit], start: usize, set: PassedSet, steps: &mut Steps<L>) -> usize
+    requires { start ≤ length para.now }
+    ensures from_start { start ≤ result }
+    ensures within { result ≤ length para.now }
+    ensures passed { (p : ℕ) → start ≤ p → p < result
+        → has set (slice_index_or para.now p no_unit).class ≡ true }
+    ensures bare { (p : ℕ) → start ≤ p → p < result → (is_bare (slice_index_or para.now p no_unit).bracket
+        || is_removed (slice_index_or para.now p no_unit).class) ≡ true }
+    ensures stopped { result < length para.now → (has set (slice_index_or para.now result no_unit).class
+        && (is_bare (slice_index_or para.now result no_unit).bracket
+        || is_removed (slice_index_or para.now result no_unit).class)) ≡ false }
+    ensures steps { steps.new + start ≡ steps.old + result }
+{
+    let p = pass_fours(para, start, set, steps);
+    pass_singly(para, p, set, steps)
+}
+
+/// Passes units from `start` on, as long as they are of these classes and have no bracket. Returns the position after
+/// them.
+// The first is tested here, because many have no other after them.
+#[inline(always)]
+fn pass_spaced<L: Ledger>(
+    para: &[Unit],
+    start: usize,
+    set: PassedSet,
+    steps: &mut Steps<L>,
+) -> usize
+    requires { start ≤ length para.now }
+    ensures from_start { start ≤ result }
+    ensures within { result ≤ length para.now }
+    ensures passed { (p : ℕ) → start ≤ p → p < result
+        → has set (slice_index_or para.now p no_unit).class ≡ true }
+    ensures bare { (p : ℕ) → start ≤ p → p < result → (is_bare (slice_index_or para.now p no_unit).bracket
+        || is_removed (slice_index_or para.now p no_unit).class) ≡ true }
+    ensures stopped { result < length para.now → (has set (slice_index_or para.now result no_unit).class
+        && (is_bare (slice_index_or para.now result no_unit).bracket
+        || is_removed (slice_index_or para.now result no_unit).class)) ≡ false }
+    ensures steps { steps.new + start ≡ steps.old + result }
+{
+    if start >= para.len() || !is_passed(set, para[start]) {
+        return start;
+    }
+    steps.tick();
+    pass_far(para, start + 1, set, steps)
+}
+
+/// W7: Returns whether the unit at `p` becomes this letter after the letter or after neutrals after it: it is a number,
+/// the letter is L, and what comes next joins no number.
+fn is_number_as(letter: Class, para: &[Unit], p: usize) -> bool
+    requires { p < length para.now }
+    ensures { result ≡ true → BecomesLetter letter para.now p }
+{
+    let next = class_or_l(para, p + 1);
+    matches!((letter, para[p].class), (Class::L, Class::EN))
+        && is_bare(para[p].bracket)
+        && is_apart(next)
+        && !PassedSet::removed().has(next)
+}
+
+/// Returns the position after the number at `p`, if it becomes this letter, the last chosen one. Otherwise returns `p`.
+fn past_number(letter: Class, para: &[Unit], p: usize) -> usize
+    requires { p < length para.now }
+    ensures later { p ≤ result }
+    ensures within { result ≤ length para.now }
+    ensures leads { (direction : BidiClass) (chosen starts : List BidiUnit) (k : ℕ)
+        → is_open_letter direction (slice_index_or chosen k no_unit) ≡ true
+        → letter ≡ (slice_index_or chosen k no_unit).class
+        → IsLaid para.now starts (suc k) p
+        → LeadsOn direction para.now (stack_of para.now chosen starts (suc k) p) p
+        → LeadsOn direction para.now (stack_of para.now chosen starts (suc k) result) result }
+{
+    if is_number_as(letter, para, p) {
+        p + 1
+    } else {
+        p
+    }
+}
+
+/// Returns the position after a terminator at `p` and this letter after it, or after a number at `p` that becomes this
+/// letter. The letter is the last chosen one, and neutrals after it depend on what comes after them. Otherwise returns
+/// `p`.
+fn past_weak(letter: Class, para: &[Unit], p: usize) -> usize
+    requires { p + 1 < length para.now }
+    ensures later { p ≤ result }
+    ensures within { result ≤ length para.now }
+    ensures leads { (direction : BidiClass) (chosen starts : List BidiUnit) (k : ℕ)
+        → is_open_letter direction (slice_index_or chosen k no_unit) ≡ true
+        → letter ≡ (slice_index_or chosen k no_unit).class
+        → IsLaid para.now starts (suc k) p
+        → LeadsOn direction para.now (stack_of para.now chosen starts (suc k) p) p
+        → LeadsOn direction para.now (stack_of para.now chosen starts (suc k) result) result }
+{
+    if is_terminator_unit(para[p]) && is_letter_again(letter, para[p + 1]) {
+        return p + 2;
+    }
+    past_number(letter, para, p)
+}
+
+/// Returns the position after up to three neutrals from `p` on and this letter, or a number that becomes it, after
+/// them. The letter is the last chosen one, and neutrals after it depend on what comes after them. Returns `p` if
+/// another unit comes after them.
+#[inline(always)]
+fn past_neutrals(letter: Class, para: &[Unit], p: usize) -> usize
     requires { p ≤ length para.now }
     ensures later { p ≤ result }
     ensures within { result ≤ length para.now }
-    ensures leads { (chosen starts : List BidiUnit) (k : ℕ) → top ≡ slice_index_or chosen k no_unit
+    ensures leads { (direction : BidiClass) (chosen starts : List BidiUnit) (k : ℕ)
+        → is_open_letter direction (slice_index_or chosen k no_unit) ≡ true
+        → letter ≡ (slice_index_or chosen k no_unit).class
         → IsLaid para.now starts (suc k) p
         → LeadsOn direction para.now (stack_of para.now chosen starts (suc k) p) p
         → LeadsOn direction para.now (stack_of para.now chosen starts (suc k) result) result }
 {
     let remaining = para.len() - p;
-    if remaining < 2 || !is_open_letter(direction, top) || !is_neutral_unit(para[p]) {
+    if remaining < 2 {
         return p;
     }
-    if is_letter_again(top.class, para[p + 1]) {
+    if !is_neutral_unit(para[p]) {
+        return past_weak(letter, para, p);
+    }
+    if is_letter_again(letter, para[p + 1]) || is_number_as(letter, para, p + 1) {
         return p + 2;
     }
     if remaining < 3 || !is_neutral_unit(para[p + 1]) {
         return p;
     }
-    if is_letter_again(top.class, para[p + 2]) {
+    if is_letter_again(letter, para[p + 2]) {
         return p + 3;
     }
-    if remaining < 4 || !is_neutral_unit(para[p + 2]) || !is_letter_again(top.class, para[p + 3]) {
+    if remaining < 4 || !is_neutral_unit(para[p + 2]) || !is_letter_again(letter, para[p + 3]) {
         return p;
     }
     p + 4
 }
 
+/// Passes units from `start` on that have the level of the last chosen one, this letter, if neutrals after it depend on
+/// what comes after them. `set` are the classes that are passed after it. Returns the position after them.
+// A function of its own, so that its loops have all registers.
+#[inline(never)]
+fn pass_words<L: Ledger>(
+    letter: Class,
+    set: PassedSet,
+    para: &[Unit],
+    start: usize,
+    steps: &mut Steps<L>,
+) -> usize
+    requires { start ≤ length para.now }
+    ensures from_start { start ≤ result }
+    ensures within { result ≤ length para.now }
+    ensures leads { (direction : BidiClass) (chosen starts : List BidiUnit) (k : ℕ)
+        → is_open_letter direction (slice_index_or chosen k no_unit) ≡ true
+        → letter ≡ (slice_index_or chosen k no_unit).class
+        → ((next : BidiClass) → has set next ≡ passes_after direction (slice_index_or chosen k no_unit) next)
+        → IsLaid para.now starts (suc k) start
+        → LeadsOn direction para.now (stack_of para.now chosen starts (suc k) start) start
+        → LeadsOn direction para.now (stack_of para.now chosen starts (suc k) result) result }
+    ensures stopped { result < length para.now → (has set (slice_index_or para.now result no_unit).class
+        && (is_bare (slice_index_or para.now result no_unit).bracket
+        || is_removed (slice_index_or para.now result no_unit).class)) ≡ false }
+    ensures steps { steps.new + start ≡ steps.old + result }
+{
+    let mut p = start;
+    let mut next = start;
+    let mut more = true;
+    while more {
+        steps.add(next - p);
+        p = pass_singly(para, next, set, steps);
+        next = past_neutrals(letter, para, p);
+        more = next > p;
+    }
+    p
+}
+
 /// Passes units from `start` on that have the level of the last chosen one, `top`. Returns the position after them.
+#[inline(always)]
 fn pass_on<L: Ledger>(
     direction: Class,
     top: Unit,
@@ -418,14 +635,13 @@ fn pass_on<L: Ledger>(
     ensures steps { steps.new + start ≡ steps.old + result }
 {
     let set = passed_after(direction, top);
-    let mut p = pass_run(para, start, set, steps);
-    let mut next = past_neutrals(direction, top, para, p);
-    while next > p {
-        steps.add(next - p);
-        p = pass_run(para, next, set, steps);
-        next = past_neutrals(direction, top, para, p);
+    if set.has(Class::WS) {
+        return pass_spaced(para, start, set, steps);
     }
-    p
+    if is_bare(top.bracket) && top.class.is_strong() {
+        return pass_words(top.class, set, para, start, steps);
+    }
+    pass_singly(para, start, set, steps)
 }
 
 /// X9: Returns the first position from `start` on that remains, or the end.
@@ -466,6 +682,32 @@ fn most_turns(limit: TurnLimit, p: usize) -> usize
     }
 }
 
+/// Returns how many turns the pass may make from this position on before it asks again, after it has made so many. Not
+/// more than `room` units can be chosen.
+#[inline(never)]
+fn more_turns(limit: TurnLimit, p: usize, turns: usize, room: usize) -> usize
+    requires { p < 2 ^ 32 }
+    ensures { result ≤ room }
+{
+    let most = most_turns(limit, p);
+    if turns > most {
+        return 0;
+    }
+    room.min(most - turns + 1)
+}
+
+/// Returns how many turns the pass may make from this position on: those that remain, or more if none does.
+fn remaining_turns(remaining: usize, limit: TurnLimit, p: usize, turns: usize, room: usize) -> usize
+    requires { p < 2 ^ 32 }
+    ensures { remaining ≤ room → result ≤ room }
+{
+    if remaining > 0 {
+        remaining
+    } else {
+        more_turns(limit, p, turns, room)
+    }
+}
+
 /// Chooses the few units that are to be resolved in place of this paragraph, in a sequence of this direction, and the
 /// position at which each begins. Returns how many these are, or `None` if there is no room for them or if the pass
 /// has made more turns than `limit` says.
@@ -483,21 +725,25 @@ pub fn squeeze<L: Ledger>(
     ensures at_least { steps.old ≤ steps.new }
     ensures at_most { steps.new ≤ steps.old + length para.now }
 {
+    let room = chosen.len().min(starts.len());
     let mut m = 0;
     let mut turns = 0;
+    let mut remaining = 0;
     let mut strong = direction;
     let mut p = next_remaining(para, 0, steps);
     while p < para.len() {
-        if m >= chosen.len() || m >= starts.len() || turns > most_turns(limit, p) {
+        let allowed = remaining_turns(remaining, limit, p, turns, room - m);
+        if allowed == 0 {
             return None;
         }
         steps.tick();
+        remaining = allowed - 1;
         turns += 1;
         let known = Known { direction, strong };
-        let turned = turn(known, chosen, starts, m, para, p, steps);
-        m = turned.m;
-        strong = later(strong, turned.class);
-        p = pass_on(direction, chosen[m - 1], para, turned.end, steps);
+        let now = turn(known, chosen, starts, m, para, p, steps);
+        m = now.m;
+        strong = now.strong;
+        p = pass_on(direction, chosen[m - 1], para, now.end, steps);
     }
     Some(m)
 }

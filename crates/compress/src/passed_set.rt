@@ -22,6 +22,87 @@ const MARKS: u32 = REMOVED | 0b1_0000_0000;
 /// The classes of `MARKS`, S, WS, ON, ES and CS.
 const NEUTRALS: u32 = MARKS | 0b11_1000_1001_0000;
 
+/// The classes that are passed after each class in a sequence of direction L, in the order of the classes.
+const AFTER_IN_L: [u32; 23] = [
+    NEUTRALS | 0b1,
+    MARKS | 0b10,
+    MARKS | 0b100,
+    MARKS | 0b1000,
+    REMOVED,
+    MARKS | 0b10_0000,
+    MARKS | 0b100_0000,
+    REMOVED,
+    REMOVED,
+    REMOVED,
+    REMOVED,
+    NEUTRALS,
+    NEUTRALS,
+    NEUTRALS,
+    REMOVED,
+    REMOVED,
+    REMOVED,
+    REMOVED,
+    REMOVED,
+    REMOVED,
+    REMOVED,
+    REMOVED,
+    REMOVED,
+];
+
+/// The same in a sequence of direction R.
+const AFTER_IN_R: [u32; 23] = [
+    MARKS | 0b1,
+    NEUTRALS | 0b10,
+    NEUTRALS | 0b100,
+    MARKS | 0b1000,
+    REMOVED,
+    MARKS | 0b10_0000,
+    MARKS | 0b100_0000,
+    REMOVED,
+    REMOVED,
+    REMOVED,
+    REMOVED,
+    NEUTRALS,
+    NEUTRALS,
+    NEUTRALS,
+    REMOVED,
+    REMOVED,
+    REMOVED,
+    REMOVED,
+    REMOVED,
+    REMOVED,
+    REMOVED,
+    REMOVED,
+    REMOVED,
+];
+
+/// The same of no direction.
+const AFTER_IN_NONE: [u32; 23] = [
+    MARKS | 0b1,
+    MARKS | 0b10,
+    MARKS | 0b100,
+    MARKS | 0b1000,
+    REMOVED,
+    MARKS | 0b10_0000,
+    MARKS | 0b100_0000,
+    REMOVED,
+    REMOVED,
+    REMOVED,
+    REMOVED,
+    NEUTRALS,
+    NEUTRALS,
+    NEUTRALS,
+    REMOVED,
+    REMOVED,
+    REMOVED,
+    REMOVED,
+    REMOVED,
+    REMOVED,
+    REMOVED,
+    REMOVED,
+    REMOVED,
+];
+
 impl PassedSet {
     /// Returns the classes that X9 removes.
     pub fn removed() -> PassedSet
@@ -34,24 +115,10 @@ impl PassedSet {
     pub fn after(direction: Class, class: Class) -> PassedSet
         ensures { (next : BidiClass) → has result next ≡ passes direction class next }
     {
-        let bits = match class {
-            Class::L => match direction {
-                Class::L => NEUTRALS | 0b1,
-                _ => MARKS | 0b1,
-            },
-            Class::R => match direction {
-                Class::R => NEUTRALS | 0b10,
-                _ => MARKS | 0b10,
-            },
-            Class::AL => match direction {
-                Class::R => NEUTRALS | 0b100,
-                _ => MARKS | 0b100,
-            },
-            Class::S | Class::WS | Class::ON => NEUTRALS,
-            Class::EN => MARKS | 0b1000,
-            Class::ET => MARKS | 0b10_0000,
-            Class::AN => MARKS | 0b100_0000,
-            _ => REMOVED,
+        let bits = match direction {
+            Class::L => AFTER_IN_L[class as usize],
+            Class::R => AFTER_IN_R[class as usize],
+            _ => AFTER_IN_NONE[class as usize],
         };
         PassedSet { bits }
     }

@@ -2,7 +2,7 @@
 ghost use Rattle.std.specs.Prelude.{◌≡◌};
 ghost use Rattle.units.specs.Classes.{is_nonspacing};
 ghost use Rattle.compress.specs.Spread.{may_repeat, is_space, is_quiet, is_firm, is_still, is_apart, is_no_number};
-ghost use Rattle.compress.specs.Squeeze.{is_bare, repeats, is_directed, is_letter_again, is_neutral_unit, is_open_letter, is_one_way, joins, is_between, comma_between, class_for, needs_next, unit_for};
+ghost use Rattle.compress.specs.Squeeze.{is_bare, repeats, is_directed, is_letter_again, is_neutral_unit, is_terminator_unit, is_open_letter, is_one_way, joins, is_between, comma_between, class_for, needs_next, unit_for};
 
 use units::bracket::{Bracket, Unit};
 use units::class::Class;
@@ -92,6 +92,13 @@ pub fn is_neutral_unit(unit: Unit) -> bool
         )
 }
 
+/// Returns whether a unit is a terminator, without a bracket: between letters it is neutral.
+pub(crate) fn is_terminator_unit(unit: Unit) -> bool
+    ensures { result ≡ is_terminator_unit unit }
+{
+    is_bare(unit.bracket) && matches!(unit.class, Class::ET)
+}
+
 /// Returns whether a unit is this letter again, without a bracket.
 pub fn is_letter_again(letter: Class, unit: Unit) -> bool
     ensures { result ≡ is_letter_again letter unit }
@@ -160,7 +167,7 @@ fn is_still(class: Class) -> bool
 }
 
 /// Returns whether this is no mark, separator or terminator.
-fn is_apart(class: Class) -> bool
+pub(crate) fn is_apart(class: Class) -> bool
     ensures { result ≡ is_apart class }
 {
     !matches!(class, Class::NSM | Class::ES | Class::CS | Class::ET)

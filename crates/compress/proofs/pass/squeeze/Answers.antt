@@ -1,4 +1,4 @@
-use Rattle.std.proofs.Common.{arith, ap, sym, subst, refl, ◌∙◌, if◌then◌else◌, ◌≡◌, ◌-◌, ℕ, suc, List, length}
+use Rattle.std.proofs.Common.{arith, ap, sym, subst, refl, ◌∙◌, if◌then◌else◌, ◌≡◌, ◌≤◌, ◌-◌, ℕ, suc, List, length}
 use Rattle.units.specs.Classes.{is_strong}
 use Rattle.units.specs.declared.bracket.Unit.{Unit as BidiUnit}
 use Rattle.units.specs.declared.class.Class.{Class as BidiClass}
@@ -6,7 +6,7 @@ use Rattle.compress.specs.Laid.{stack_of, class_after, IsApart, IsLaid, IsStateA
 use Rattle.compress.specs.Squeeze.{Stack, next_for, known_after}
 use Rattle.compress.specs.declared.pass.Known.{Known}
 use Rattle.compress.proofs.Counting.{at, removed_between}
-use Rattle.compress.proofs.Knowing.{turned_strong}
+use Rattle.compress.proofs.Knowing.{next_alike, turned_strong}
 use Rattle.compress.proofs.Laying.{laid_none}
 use Rattle.compress.proofs.Passing.{leads_turn, leads_past_removed, laid_past_run, known_same, leads_to_end}
 use Rattle.compress.proofs.pass.squeeze.Goals as goal
@@ -23,13 +23,14 @@ loop-p-init g c =
       apart = λ lt. record { remains = first.here lt; stopped = λ k e. absurd (omega arith) };
       fits = omega arith;
       starts_fit = omega arith;
+      turned = omega arith;
       strong = refl;
       counted = omega arith;
       steps = omega arith;
     }
 
-pub returns-then-m-chosen-clause-at_most : goal.returns-then-m-chosen-clause-at_most
-returns-then-m-chosen-clause-at_most g c =
+pub returns-then-allowed-eq0-clause-at_most : goal.returns-then-allowed-eq0-clause-at_most
+returns-then-allowed-eq0-clause-at_most g c =
     omega (arith, c.loop-p.invariant.steps, c.next_remaining-p.ensures.steps, c.loop-p.invariant.laid.end_within)
 
 pub loop-p-preserved : goal.loop-p-preserved
@@ -37,11 +38,11 @@ loop-p-preserved g c =
     let us : List BidiUnit = c.args.para.now in
     let d : BidiClass = c.args.direction in
     let p : ℕ = c.loop-p.p in
-    let end : ℕ = c.turn-turned.result.end in
-    let m : ℕ = c.turn-turned.result.m in
+    let end : ℕ = c.turn-now.result.end in
+    let m : ℕ = c.turn-now.result.m in
     let run : ℕ = c.pass_on-p.result in
-    let chosen : List BidiUnit = c.turn-turned.new.chosen in
-    let starts : List BidiUnit = c.turn-turned.new.starts in
+    let chosen : List BidiUnit = c.turn-now.new.chosen in
+    let starts : List BidiUnit = c.turn-now.new.starts in
     let old : Stack = stack_of us c.loop-p.chosen c.loop-p.starts c.loop-p.m p in
     let known : Known = record { direction = c.args.direction; strong = c.loop-p.strong } in
     let state : IsStateAt known us c.loop-p.chosen c.loop-p.starts c.loop-p.m p = record {
@@ -49,12 +50,14 @@ loop-p-preserved g c =
       strong = c.loop-p.invariant.strong;
       apart = c.loop-p.invariant.apart c.loop-p-test.true;
     } in
-    let after = c.turn-turned.ensures in
+    let after = c.turn-now.ensures in
     let laid : IsLaid us starts m end = after.laid state in
     let way : LeadsOn d us (stack_of us chosen starts m end) end =
     leads_turn d us p end old (stack_of us chosen starts m end) c.loop-p-test.true state.apart.remains (omega (arith, after.later)) after.within after.removed
     (after.stack state) c.loop-p.invariant.leads in
     let passing = c.pass_on-p.ensures in
+    let within : c.remaining_turns-allowed.result ≤ c.min-room.result - c.loop-p.m =
+    c.remaining_turns-allowed.ensures (omega (arith, c.loop-p.invariant.fits, c.loop-p.invariant.starts_fit, c.min-room.ensures)) in
     let last : m ≡ suc (m - 1) = omega (arith, after.some) in
     let laid_last : IsLaid us starts (suc (m - 1)) end = subst (λ n. IsLaid us starts n end) last laid in
     let way_last : LeadsOn d us (stack_of us chosen starts (suc (m - 1)) end) end =
@@ -64,10 +67,11 @@ loop-p-preserved g c =
           (passing.leads chosen starts (m - 1) refl laid_last way_last);
       laid = laid_past_run d us chosen starts m end run after.some passing.from_start passing.within laid;
       apart = λ lt. subst (λ n. IsApart d chosen n (at us run)) (sym last) (passing.apart chosen (m - 1) refl lt);
-      fits = omega (arith, after.more);
-      starts_fit = omega (arith, after.more);
-      strong = c.later-strong.ensures
-          ∙ ap (λ (k : BidiClass). if is_strong k then k else c.loop-p.strong) (after.class state)
+      fits = omega (arith, after.more, within, c.loop-p.invariant.fits, c.min-room.ensures, c.if-allowed-eq0.false);
+      starts_fit = omega (arith, after.more, within, c.loop-p.invariant.starts_fit, c.min-room.ensures, c.if-allowed-eq0.false);
+      turned = omega (arith, c.loop-p.invariant.turned, after.later, passing.from_start);
+      strong = after.strong
+          ∙ sym (next_alike d old (at us p) (class_after us p) c.loop-p.strong c.loop-p.invariant.strong)
           ∙ ap (λ (s : BidiClass). if is_strong (next_for d old (at us p) (class_after us p)).class then (next_for d old (at us p) (class_after us p)).class else s)
           c.loop-p.invariant.strong
           ∙ sym (turned_strong d d old (next_for d old (at us p) (class_after us p)))
@@ -90,6 +94,6 @@ returns-clause-few g c =
       stack = sym (ap (stack_of us c.loop-p.chosen c.loop-p.starts c.loop-p.m) all)
           ∙ leads_to_end c.args.direction us (stack_of us c.loop-p.chosen c.loop-p.starts c.loop-p.m c.loop-p.p) c.loop-p.p (omega (arith, c.loop-p-test.false))
           c.loop-p.invariant.leads;
-      fits = c.loop-p.invariant.fits;
-      starts_fit = c.loop-p.invariant.starts_fit;
+      fits = omega (arith, c.loop-p.invariant.fits);
+      starts_fit = omega (arith, c.loop-p.invariant.starts_fit);
     }

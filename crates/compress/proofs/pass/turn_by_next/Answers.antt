@@ -30,16 +30,3 @@ returns-clause-laid g c = λ state.
     let after = c.next_remaining-end.ensures in
     c.added-m.ensures.laid us c.next_remaining-end.result (c.popped-count.ensures.laid us c.args.starts.now c.args.p state.laid)
     (next_at us c.args.p c.next_remaining-end.result c.requires.here state.apart.remains after.from_start after.within after.removed)
-
-pub returns-clause-class : goal.returns-clause-class
-returns-clause-class g c = λ state.
-    let us : List BidiUnit = c.args.para.now in
-    let d : BidiClass = c.args.known.direction in
-    let old : Stack = stack_of us c.args.chosen.now c.args.starts.now c.args.m c.args.p in
-    let after = c.next_remaining-end.ensures in
-    let tail = (removed_between us (c.args.p + 1) c.next_remaining-end.result after.from_start after.within after.removed).1 in
-    ap (λ (u : BidiUnit). u.class)
-    (c.next_for-unit.ensures d us c.args.starts.now c.args.p state.strong
-    ∙ ap (λ (n : BidiClass). next_for d old (at us c.args.p) n)
-    (c.class_or_l.ensures
-    ∙ ap (λ (u : BidiUnit). u.class) (sym (first_remaining us c.next_remaining-end.result after.within after.here) ∙ ap first_unit tail)))

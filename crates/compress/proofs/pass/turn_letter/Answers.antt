@@ -4,18 +4,18 @@ use Rattle.compress.specs.Laid.{stack_of}
 use Rattle.compress.specs.Squeeze.{Stack, added, joins}
 use Rattle.compress.proofs.Counting.{at}
 use Rattle.compress.proofs.Laying.{adds_chosen, laid_push}
-use Rattle.compress.proofs.Passing.{unjoined}
-use Rattle.compress.proofs.pass.turn_plain.Goals as goal
+use Rattle.compress.proofs.Passing.{strong_unmarked, unjoined}
+use Rattle.compress.proofs.pass.turn_letter.Goals as goal
 
 pub returns-clause-stack : goal.returns-clause-stack
 returns-clause-stack c = λ us end laid next apart.
     let d = c.args.direction in
     let m : ℕ = c.args.m in
-    let u : BidiUnit = c.args.unit in
+    let u : BidiUnit = at c.args.para.now c.args.p in
     let chosen : List BidiUnit = c.args.chosen.now in
     let starts : List BidiUnit = c.args.starts.now in
     let same : c.popped-count.result ≡ m = omega (arith, c.if-count-m.false, c.popped-count.ensures.within) in
-    let unmarked = sym c.is_mark.ensures ∙ c.if-is_mark.false in
+    let unmarked = strong_unmarked u.class c.requires.letter in
     let last : 0 < m → joins d (at chosen (m - 1)) u ≡ false = λ lt.
     let e : m ≡ suc (m - 1) = omega arith in
     unjoined d (at chosen (m - 1)) u apart.remains unmarked (apart.stopped (m - 1) e) in

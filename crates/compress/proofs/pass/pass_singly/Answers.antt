@@ -6,18 +6,7 @@ use Rattle.compress.specs.PassedSets.{has}
 use Rattle.compress.specs.Squeeze.{is_bare}
 use Rattle.compress.proofs.Counting.{at}
 use Rattle.compress.proofs.Sound.{both_parts}
-use Rattle.compress.proofs.pass.pass_run.Goals as goal
-
-pub loop-p-init : goal.loop-p-init
-loop-p-init g c =
-    let most = c.pass_most-p.ensures in
-    record {
-      from_start = most.from_start;
-      within = most.within;
-      passed = most.passed;
-      bare = most.bare;
-      steps = most.steps;
-    }
+use Rattle.compress.proofs.pass.pass_singly.Goals as goal
 
 pub loop-p-preserved : goal.loop-p-preserved
 loop-p-preserved g c =

@@ -1,0 +1,32 @@
+use Rattle.std.proofs.Common.{arith, ap, sym, ◌∙◌, ◌≡◌, ◌-◌, ◌<◌, ℕ, suc, false, List}
+use Rattle.units.specs.declared.bracket.Unit.{Unit as BidiUnit}
+use Rattle.compress.specs.Laid.{stack_of}
+use Rattle.compress.specs.Squeeze.{Stack, added, joins}
+use Rattle.compress.proofs.Counting.{at}
+use Rattle.compress.proofs.Laying.{adds_chosen, laid_push}
+use Rattle.compress.proofs.Passing.{popped_weak, unjoined}
+use Rattle.compress.proofs.pass.turn_other.Goals as goal
+
+pub returns-then-is_mark-clause-stack : goal.returns-then-is_mark-clause-stack
+returns-then-is_mark-clause-stack c = λ us end laid next apart.
+    c.added_at.ensures.stack us end laid next
+    ∙ ap (λ (st : Stack). added c.args.direction st (at c.args.para.now c.args.p))
+    (popped_weak (stack_of us c.args.chosen.now c.args.starts.now c.args.m c.args.p) (at c.args.para.now c.args.p) c.requires.other)
+
+pub returns-clause-stack : goal.returns-clause-stack
+returns-clause-stack c = λ us end laid next apart.
+    let d = c.args.direction in
+    let m : ℕ = c.args.m in
+    let u : BidiUnit = at c.args.para.now c.args.p in
+    let chosen : List BidiUnit = c.args.chosen.now in
+    let starts : List BidiUnit = c.args.starts.now in
+    let unmarked = sym c.is_mark.ensures ∙ c.if-is_mark.false in
+    let last : 0 < m → joins d (at chosen (m - 1)) u ≡ false = λ lt.
+    let e : m ≡ suc (m - 1) = omega arith in
+    unjoined d (at chosen (m - 1)) u apart.remains unmarked (apart.stopped (m - 1) e) in
+    adds_chosen us d chosen starts m c.args.p end u c.stored.result c.requires.chosen c.requires.starts c.stored.ensures next last
+    ∙ ap (λ (st : Stack). added d st u) (popped_weak (stack_of us chosen starts m c.args.p) u c.requires.other)
+
+pub returns-clause-laid : goal.returns-clause-laid
+returns-clause-laid c = λ us end laid next.
+    laid_push us c.args.starts.now c.args.m c.args.p end c.stored.result c.requires.starts c.stored.ensures next.later next.within laid
