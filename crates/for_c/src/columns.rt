@@ -119,15 +119,30 @@ pub fn write_levels(levels: &[Option<Level>], out: &mut [u8]) -> usize
     levels.len()
 }
 
+/// Writes a byte to the first `count` items of `out`. One alone, as in a text of one letter, takes no call that fills
+/// memory.
+#[inline(always)]
+fn fill_front(byte: u8, count: usize, out: &mut [u8])
+    requires { count ≤ length out.old }
+    ensures len { length out.new ≡ length out.old }
+    ensures filled { take count out.new ≡ replicate count byte }
+    ensures following { drop count out.new ≡ drop count out.old }
+{
+    if count == 1 {
+        out[0] = byte;
+    } else {
+        out[..count].fill(byte);
+    }
+}
+
 /// Writes the level of as many positions as a byte each to the front of `out`, if all fit there. Returns how many there
 /// are.
-// Inlined, a call on a text of one letter takes more instructions.
-#[inline(never)]
+#[inline(always)]
 fn write_one_level(level: Level, count: usize, out: &mut [u8]) -> usize
     ensures { WritesWhole (replicate count level) result out.old out.new }
 {
     if count <= out.len() {
-        out[..count].fill(level.get());
+        fill_front(level.get(), count, out);
     }
     count
 }

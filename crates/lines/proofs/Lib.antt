@@ -31,7 +31,6 @@ pub mod RunLinking
 pub mod RunWriting
 pub mod LineAlone
 pub mod ParagraphSearch
-pub mod OneUnit
 pub mod OneParagraph
 pub mod OneLine
 pub mod LevelBlocks

@@ -1,5 +1,5 @@
 //! Stretches of a text with no removed position (X9): their positions, written in order.
-ghost use Rattle.std.specs.Prelude.{◌≡◌, ◌<◌, ◌≤◌, ◌+◌, ◌-◌, ◌^◌, length, reverse};
+ghost use Rattle.std.specs.Prelude.{◌≡◌, ◌<◌, ◌≤◌, ◌+◌, ◌-◌, ◌^◌, Some, length, replicate, reverse, take};
 ghost use Rattle.std.specs.List.{list_all};
 ghost use Rattle.std.specs.Option.{is_some};
 ghost use Rattle.units.specs.Positions.{positions_from};
@@ -19,6 +19,25 @@ pub(crate) fn all_remain<L: Ledger>(levels: &[Option<Level>], steps: &mut Steps<
         removed |= level.is_none();
     }
     !removed
+}
+
+/// Writes this level for the first `count` positions. Takes one step for each.
+#[inline(always)]
+pub(crate) fn write_level<L: Ledger>(
+    level: Level,
+    count: usize,
+    levels: &mut [Option<Level>],
+    steps: &mut Steps<L>,
+)
+    requires { count ≤ length levels.old }
+    ensures len { length levels.new ≡ length levels.old }
+    ensures levels { take count levels.new ≡ replicate count (Some level) }
+    ensures steps { steps.new ≡ steps.old + count }
+{
+    for k in 0..count {
+        steps.tick();
+        levels[k] = Some(level);
+    }
 }
 
 /// Writes the positions from `start` on, rising. Takes one step for each.

@@ -1,15 +1,16 @@
 //! The paragraph levels and the resolved levels of a text (P1 to I2), and the ends of its lines.
-ghost use Rattle.std.specs.Prelude.{◌≡◌, ◌<◌, ◌≤◌, ◌+◌, ◌*◌, ◌^◌, [], ◌∷◌, List, ℕ, false, length, true};
+ghost use Rattle.std.specs.Prelude.{◌≡◌, ◌<◌, ◌≤◌, ◌+◌, ◌*◌, ◌^◌, [], ◌∷◌, IfSome, List, ℕ, false, length, true};
 ghost use Rattle.units.specs.Limits.{LimitsOf};
+ghost use Rattle.units.specs.declared.level.Direction.{Direction};
 ghost use Rattle.lines.specs.Bounds.{bound_at, first_bound};
 ghost use Rattle.lines.specs.Columns.{levels_filled, para_ends_filled, paras_filled, HasTextRoom, KeepsTextRoom};
 ghost use Rattle.std.specs.List.{list_all};
 ghost use Rattle.std.specs.Option.{is_some};
-ghost use Rattle.units.specs.Classes.{classes_of, is_removed};
+ghost use Rattle.units.specs.Classes.{classes_of};
 ghost use Rattle.explicit.specs.FirstParagraph.{first_length};
-ghost use Rattle.paragraph.specs.Contents.{Describes, IsFirstOf, has_none};
-ghost use Rattle.lines.specs.Unchanged.{each_keeps_level, keeps_own_level};
-ghost use Rattle.lines.specs.ResolvedTexts.{IsOneLine, IsResolved, one_line};
+ghost use Rattle.paragraph.specs.Contents.{Describes, IsFirstOf};
+ghost use Rattle.lines.specs.Unchanged.{IsLineAtLevel, IsUnbroken, keeps_own_level};
+ghost use Rattle.lines.specs.ResolvedTexts.{IsResolved, one_line};
 ghost use Rattle.lines.specs.Spaces.{HasNoSegments, has_segments};
 ghost use Rattle.lines.specs.StepBounds.{uniform_text_steps, text_steps};
 
@@ -17,8 +18,8 @@ use crate::bounds::Bound;
 use crate::breaks::Breaks;
 use crate::columns::TextColumns;
 use crate::cutting::{cut_paragraph, start_cut};
+use crate::positions::write_level;
 use paragraph::contents::{Contents, FirstParagraph};
-use paragraph::one_unit::remaining_unit;
 use paragraph::resolver::Resolver;
 use paragraph::uniform::resolve_uniform;
 use std::sync::ledger::Ledger;
@@ -89,34 +90,58 @@ fn write_paragraph(level: ParaLevel, end: usize, columns: &mut TextColumns, boun
     };
 }
 
-/// Does what `resolve_text` does, for a text of one unit that keeps the level of its paragraph. Its paragraph, its
-/// class, its line and its level take one step each. Returns false and does nothing if the unit may leave that level.
+/// Returns whether a text whose first paragraph has this length is this paragraph and one line.
+fn is_one_line(text: &[Unit], length: usize, breaks: &Breaks) -> bool
+    ensures { result ≡ true → IsUnbroken length text.now breaks.now.positions }
+{
+    !text.is_empty() && length == text.len() && breaks.positions().is_empty()
+}
+
+/// P2 to I2: Returns the level of a text with this first paragraph, if the text is this paragraph and one line, X9
+/// removes no position, and each one keeps the level of the paragraph.
 #[inline(always)]
-fn resolve_unit<L: Ledger>(
+pub(crate) fn level_of_line(
     text: &[Unit],
+    first: FirstParagraph,
     direction: Direction,
+    breaks: &Breaks,
+) -> Option<ParaLevel>
+    requires first { IsFirstOf first text.now }
+    ensures { IfSome result (IsLineAtLevel text.now direction breaks.now.positions) }
+{
+    if !is_one_line(text, first.length, breaks) || !first.contents.all_remain() {
+        return None;
+    }
+    first.contents.uniform_level(direction)
+}
+
+/// How many steps a text that is one paragraph and one line takes besides those of its units.
+const PARAGRAPH_AND_LINE: usize = 2;
+
+/// Does what `resolve_text` does, for a text that is one line at this level. Its paragraph and its line take one step
+/// each, and each unit takes one.
+#[inline(always)]
+pub(crate) fn resolve_line<L: Ledger>(
+    text: &[Unit],
+    level: ParaLevel,
     columns: &mut TextColumns,
     bounds: &mut [Bound],
     steps: &mut Steps<L>,
-) -> bool
-    requires one { length text.now ≡ 1 }
-    requires room { HasTextRoom columns.old 1 }
-    requires bounds { 1 < length bounds.old }
-    ensures known { result ≡ each_keeps_level text.now direction }
+)
+    requires some { 0 < length text.now }
+    requires small { length text.now < 2 ^ 32 }
+    requires room { HasTextRoom columns.old (length text.now) }
+    requires bounds { length text.now < length bounds.old }
     ensures room { KeepsTextRoom columns.old columns.new }
-    ensures resolved { result ≡ true → (limits : LimitsOf) (breaks : List ℕ)
+    ensures resolved { (limits : LimitsOf) (direction : Direction) (breaks : List ℕ)
+        → IsLineAtLevel text.now direction breaks level
         → IsResolved limits text.now direction breaks one_line columns.new bounds.new }
-    ensures steps { result ≡ true → steps.new ≡ steps.old + uniform_text_steps }
-    ensures columns { result ≡ false → columns.new ≡ columns.old }
-    ensures no_steps { result ≡ false → steps.new ≡ steps.old }
+    ensures complete { list_all is_some (levels_filled (length text.now) columns.new) ≡ true }
+    ensures steps { steps.new ≡ steps.old + length text.now + 2 }
 {
-    let Some(unchanged) = remaining_unit(text[0], direction) else {
-        return false;
-    };
-    steps.add(4);
-    columns.levels[0] = unchanged.level;
-    write_paragraph(unchanged.para, 1, columns, bounds);
-    true
+    steps.add(PARAGRAPH_AND_LINE);
+    write_level(level.level(), text.len(), &mut columns.levels, steps);
+    write_paragraph(level, text.len(), columns, bounds);
 }
 
 /// Does what `resolve_text` does, for a text that is one paragraph with these contents and one line, if each position
@@ -140,8 +165,6 @@ fn resolve_paragraph<L: Ledger>(
     ensures room { KeepsTextRoom columns.old columns.new }
     ensures resolved { result ≡ true → (limits : LimitsOf)
         → IsResolved limits text.now direction [] one_line columns.new bounds.new }
-    ensures complete { result ≡ true → has_none is_removed (classes_of text.now) ≡ true
-        → list_all is_some (levels_filled (length text.now) columns.new) ≡ true }
     ensures steps { result ≡ true → steps.new ≡ steps.old + length text.now + 2 }
     ensures no_steps { result ≡ false → steps.new ≡ steps.old }
 {
@@ -232,9 +255,11 @@ fn resolve_paragraphs<L: Ledger>(
 
 /// Writes the levels of a text's paragraphs, their ends, and the resolved levels of its positions to the fronts of
 /// their columns, paragraph by paragraph, with these options. Writes the ends of its lines to the front of `bounds`;
-/// each paragraph ends a line.
+/// each paragraph ends a line. Its first paragraph is known. A paragraph that is one line and keeps its level is resolved
+/// at once only if X9 may remove positions: the caller has resolved the others with `resolve_line`.
 pub(crate) fn resolve_text<L: Ledger>(
     text: &[Unit],
+    first: FirstParagraph,
     options: &LayoutOptions<'_>,
     resolver: &mut Resolver,
     columns: &mut TextColumns,
@@ -246,31 +271,23 @@ pub(crate) fn resolve_text<L: Ledger>(
     requires resolver { length text.now ≤ resolver.old }
     requires room { HasTextRoom columns.old (length text.now) }
     requires bounds { length text.now < length bounds.old }
+    requires first { IsFirstOf first text.now }
+    requires within { first.length ≤ length text.now }
+    requires some { 0 < length text.now → 0 < first.length }
     ensures resolver { resolver.new ≡ resolver.old }
     ensures room { KeepsTextRoom columns.old columns.new }
     ensures resolved { IsResolved options.now.limits text.now options.now.direction
         options.now.breaks.now.positions result columns.new bounds.new }
-    ensures complete { result.complete ≡ true
-        → list_all is_some (levels_filled (length text.now) columns.new) ≡ true }
-    ensures if_complete { result.complete ≡ true → IsOneLine result }
+    ensures not_complete { result.complete ≡ false }
     ensures segments { result.segmented ≡ false → HasNoSegments text.now }
-    ensures at_least { steps.old + 2 * length text.now + result.paragraphs + result.lines ≤ steps.new }
-    ensures at_most { steps.new ≤ steps.old + text_steps * length text.now }
-    ensures if_uniform { result.uniform ≡ true → steps.new ≤ steps.old + uniform_text_steps * length text.now }
+    ensures at_least { steps.old + 2 * length text.now + result.paragraphs + result.lines
+        ≤ steps.new + first.length }
+    ensures at_most { steps.new + first.length ≤ steps.old + text_steps * length text.now }
+    ensures if_uniform { result.uniform ≡ true
+        → steps.new + first.length ≤ steps.old + uniform_text_steps * length text.now }
 {
-    if text.len() == 1 && resolve_unit(text, options.direction, columns, bounds, steps) {
-        return ResolvedText {
-            paragraphs: 1,
-            lines: 1,
-            uniform: true,
-            complete: false,
-            segmented: true,
-        };
-    }
-    let first = FirstParagraph::of(text, steps);
-    if !text.is_empty()
-        && first.length == text.len()
-        && options.breaks.positions().is_empty()
+    if !first.contents.all_remain()
+        && is_one_line(text, first.length, options.breaks)
         && resolve_paragraph(
             text,
             first.contents,
@@ -284,7 +301,7 @@ pub(crate) fn resolve_text<L: Ledger>(
             paragraphs: 1,
             lines: 1,
             uniform: true,
-            complete: first.contents.all_remain(),
+            complete: false,
             segmented: true,
         };
     }

@@ -1,15 +1,11 @@
 use Rattle.std.proofs.Common.{rules, ap, subst, sym, ◌∙◌, ◌≡◌, ℕ, List, Option, length, take, true}
 use Rattle.std.specs.Box.{boxed_slice_items, boxed_slice_with_items}
-use Rattle.std.specs.List.{list_all}
-use Rattle.std.specs.Option.{is_some}
 use Rattle.std.proofs.lemmas.List.{with_items_is}
 use Rattle.units.specs.Classes.{classes_of}
-use Rattle.units.specs.Isolates.{level_of_para}
 use Rattle.units.specs.Limits.{standard}
 use Rattle.units.specs.declared.bracket.Unit.{Unit as BidiUnit}
 use Rattle.paragraph.specs.Contents.{keeps_level}
 use Rattle.paragraph.specs.Resolvers.{IsResolved as IsResolvedParagraph}
-use Rattle.paragraph.proofs.FlatLevels.{all_have_level}
 use Rattle.lines.specs.Columns.{levels_filled}
 use Rattle.lines.specs.declared.columns.TextColumns.{TextColumns}
 use Rattle.lines.proofs.OneParagraph.{paragraph_is_resolved}
@@ -25,14 +21,6 @@ pub returns-in-Some-clause-known : goal.returns-in-Some-clause-known
 returns-in-Some-clause-known g c =
     let known = c.in-Some.ensures.resolved standard in
     known.known ∙ ap (λ (n : ℕ). keeps_level n (classes_of c.args.text.now)) known.level
-
-pub returns-in-Some-clause-complete : goal.returns-in-Some-clause-complete
-returns-in-Some-clause-complete g c = λ yes none.
-    let text : List BidiUnit = c.args.text.now in
-    let written = levels_are (length text) c.args.columns.now c.write_paragraph.new.columns c.resolve_uniform.new.levels
-    (search rules) c.write_paragraph.ensures.levels in
-    ap (list_all is_some) (written ∙ c.in-Some.ensures.written) ∙
-    all_have_level text (level_of_para c.in-Some.level) none
 
 pub returns-in-Some-clause-resolved : goal.returns-in-Some-clause-resolved
 returns-in-Some-clause-resolved g c = λ yes.

@@ -1,4 +1,4 @@
-use Rattle.std.proofs.Common.{arith, rules, ap, refl, subst, sym, ◌∙◌, ◌≡◌, ◌<◌, List, ℕ, length, map, take}
+use Rattle.std.proofs.Common.{rules, ap, false, true, refl, subst, sym, ◌∙◌, ◌≡◌, List, ℕ, length, map, take}
 use Rattle.std.specs.Box.{boxed_slice_items}
 use Rattle.std.proofs.lemmas.List.{with_items_is}
 use Rattle.units.specs.Classes.{classes_of}
@@ -7,12 +7,10 @@ use Rattle.units.specs.Paragraphs.{paragraphs_of}
 use Rattle.units.specs.Reordering.{after_resets}
 use Rattle.lines.specs.Columns.{levels_filled, lines_filled, paras_filled}
 use Rattle.lines.specs.LineEnds.{AreAllParagraphEnds}
-use Rattle.lines.specs.Room.{items_in}
 use Rattle.lines.proofs.AtParas.{all_stay, text_at_paras}
-use Rattle.lines.proofs.OneLevel.{all_at_para}
 use Rattle.lines.proofs.ResolvedUnchanged.{resolved_stay}
 use Rattle.lines.proofs.TextLevels.{laid_out}
-use Rattle.lines.proofs.scratch.Scratch.fill.Goals as goal
+use Rattle.lines.proofs.scratch.Scratch.fill_any.Goals as goal
 
 pub returns-clause-layout : goal.returns-clause-layout
 returns-clause-layout g c =
@@ -24,11 +22,11 @@ returns-clause-layout g c =
     let as_levels : length filled.new.levels ≡ column.len = search rules in
     let levels_are = with_items_is column filled.new.levels as_levels in
     let paras : List ℕ = map level_of_para (paras_filled found.result.paragraphs unchanged.new.self) in
-    let reset : take n filled.new.levels ≡ after_resets (classes_of c.args.text.now) c.args.breaks.now.positions paras
+    let reset : take n filled.new.levels ≡ after_resets (classes_of c.args.text.now) c.args.options.now.breaks.now.positions paras
     (levels_filled n unchanged.new.self) =
     rw (← c.deref_mut-2.ensures.value, ← c.deref-2.ensures.value) filled.ensures.levels in
     rw levels_are
-    (laid_out c.args.limits c.args.text.now c.args.direction c.args.breaks.now.positions paras
+    (laid_out c.args.options.now.limits c.args.text.now c.args.options.now.direction c.args.options.now.breaks.now.positions paras
     (levels_filled n unchanged.new.self) (take n filled.new.levels) (take n filled.new.levels)
     (lines_filled filled.result filled.new.columns) refl
     (ap (λ ps. map level_of_para (take found.result.paragraphs (boxed_slice_items ps))) unchanged.ensures.paras ∙
@@ -65,9 +63,9 @@ returns-clause-holds g c =
 
 pub arrange-filled-requires-clause-uniform : goal.arrange-filled-requires-clause-uniform
 arrange-filled-requires-clause-uniform g c = λ known.
-    let limits = c.args.limits in
+    let limits = c.args.options.now.limits in
     let text = c.args.text.now in
-    let direction = c.args.direction in
+    let direction = c.args.options.now.direction in
     let found = c.resolve_text-resolved.ensures.resolved in
     rw (
       c.deref_mut-2.ensures.value,
@@ -92,22 +90,4 @@ arrange-filled-requires-clause-para_ends g c =
 
 pub invariant_of-self-clause-at_level : goal.invariant_of-self-clause-at_level
 invariant_of-self-clause-at_level g c = λ complete.
-    let n : ℕ = length c.args.text.now in
-    let found = c.resolve_text-resolved in
-    let unchanged = c.keep_resolved in
-    let filled = c.arrange-filled in
-    let column = unchanged.new.self.levels.items in
-    let as_levels : length filled.new.levels ≡ column.len = search rules in
-    let levels_are = with_items_is column filled.new.levels as_levels in
-    let one = found.ensures.if_complete complete in
-    let some : 0 < items_in found.new.columns.paras = search rules in
-    let at = all_at_para c.args.limits c.args.text.now c.args.direction c.args.breaks.now.positions found.result
-    found.new.columns found.new.bounds found.ensures.resolved one some (found.ensures.complete complete) in
-    let same : take n filled.new.levels ≡ levels_filled n found.new.columns =
-    filled.ensures.same one.uniform ∙ ap (take n) c.deref_mut-2.ensures.value
-    ∙ ap (λ column. take n (boxed_slice_items column)) unchanged.ensures.levels in
-    record {
-      some = omega (arith, one.paragraphs);
-      uniform = one.uniform;
-      levels = rw (levels_are, same, unchanged.ensures.paras) at;
-    }
+    let z : false ≡ true = sym c.resolve_text-resolved.ensures.not_complete ∙ complete in cc
