@@ -13,3 +13,6 @@ pub mod Indexing
 pub mod Utf16Texts
 pub mod Utf16Blocks
 pub mod BreakIndices
+mod FourUnits
+pub mod AsciiBlocks
+pub mod Gathering

@@ -1,7 +1,8 @@
-pub mod Offsets
-pub mod Encodings
-pub mod LossyTexts
-pub mod Spelling
-pub mod LossyRows
 pub mod Decoded
+pub mod Encodings
+pub mod LossyRows
+pub mod LossyTexts
+pub mod Offsets
+pub mod PlainUnits
+pub mod Spelling
 pub mod Starts

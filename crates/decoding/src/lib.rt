@@ -3,7 +3,9 @@
 
 mod blocks;
 pub mod breaking;
+pub mod decoded;
 pub mod fault;
+pub mod fours;
 pub mod indices;
 pub mod known;
 pub mod lossy;

@@ -1,8 +1,10 @@
 //! The characters of a text in UTF-8: their units, the offsets at which they begin, and the offset of the first fault.
-ghost use Rattle.std.specs.Prelude.{◌≡◌, ◌<◌, ◌≤◌, ◌+◌, ◌^◌, ◌++◌, ◌⊎◌, List, drop, length, map, slice_index, take, leb, IfErr, IfOk, IsTrue, OnOk};
+ghost use Rattle.std.specs.Prelude.{◌≡◌, ◌<◌, ◌≤◌, ◌+◌, ◌^◌, ◌++◌, ◌⊎◌, List, drop, length, map, slice_index, take, leb, IfErr, IfOk, IfSome, IsTrue, OnOk};
 ghost use Rattle.std.specs.Simd.Lanes.{mask_l};
 ghost use Rattle.std.specs.Str.{chars, IsAscii, IsUtf8};
 ghost use Rattle.std.specs.Str.Lossy.{utf8_valid_len};
+ghost use Rattle.units.specs.Classes.{classes_of};
+ghost use Rattle.paragraph.specs.ClassSets.{IsSetOf};
 ghost use Rattle.ucdfiles.specs.Tables.{AreNeutral, AreOfBlock};
 ghost use Rattle.ucdfiles.specs.UnitStages.{unit_by_stages};
 ghost use Rattle.decoding.specs.Decoded.{AreDecoded, IsReadUpTo, IsWritten};
@@ -11,9 +13,12 @@ ghost use Rattle.decoding.specs.Offsets.{Spelled};
 ghost use Rattle.decoding.specs.Spelling.{AreShort};
 
 use crate::blocks::write_offsets;
+use crate::decoded::Decoded;
+use crate::fours::look_up_ascii;
 use crate::known::{ascii_at, index_in_block, known_char_at};
-use crate::reached::Reached;
+use crate::reached::{Passed, Reached};
 use crate::spelling::char_at;
+use paragraph::class_set::ClassSet;
 use std::simd::prelude::*;
 use ucdfiles::tables::{BorrowedUnits, Tables};
 use units::bracket::Unit;
@@ -202,44 +207,67 @@ fn test_utf8(bytes: &[u8]) -> Result<(), usize>
     Ok(())
 }
 
-/// Writes the unit of the ASCII character with the index `k` after those of the characters before it.
+/// Returns four bytes as code points.
 #[inline(always)]
-fn write_next(
+fn widened(four: &[u8]) -> [u32; 4]
+    requires { length four.now ≡ 4 }
+    ensures { result ≡ four.now }
+{
+    [
+        u32::from(four[0]),
+        u32::from(four[1]),
+        u32::from(four[2]),
+        u32::from(four[3]),
+    ]
+}
+
+/// Writes the units of the four ASCII characters from the index `k` on after those of the characters before them.
+/// `before` must be the set of the classes before them. Returns that set with their classes.
+#[inline(always)]
+fn write_four(
     borrowed: &BorrowedUnits<'_>,
-    classes: &[Class],
+    ascii: &[Class],
     block: &[u8],
     k: usize,
+    before: ClassSet,
     units: &mut [Unit],
-)
+) -> ClassSet
     requires neutral { AreNeutral borrowed.now.classes borrowed.now.brackets }
-    requires classes { AreOfBlock borrowed.now.classes 0 classes.now }
-    requires inside { k < length block.now }
+    requires block { AreOfBlock borrowed.now.classes 0 ascii.now }
+    requires inside { k + 4 ≤ length block.now }
     requires ascii { IsAscii block.now }
     requires fits { length block.now ≤ length units.old }
     requires before { take k units.old ≡ map (unit_by_stages borrowed.now) (take k block.now) }
+    requires classes { IsSetOf before (classes_of (take k units.old)) }
     ensures len { length units.new ≡ length units.old }
-    ensures written { take (k + 1) units.new ≡ map (unit_by_stages borrowed.now) (take (k + 1) block.now) }
+    ensures written { take (k + 4) units.new ≡ map (unit_by_stages borrowed.now) (take (k + 4) block.now) }
+    ensures classes { IsSetOf result (classes_of (take (k + 4) units.new)) }
 {
-    borrowed.write_in_block(classes, 0, block[k], &mut units[k]);
+    let four = widened(&block[k..k + 4]);
+    let own = look_up_ascii(borrowed, ascii, &four, &mut units[k..k + 4]);
+    before.joined(own)
 }
 
-/// Writes the units of a block of ASCII.
+/// Writes the units of a block of ASCII, and returns the set of their classes.
 #[inline(always)]
-fn write_ascii(borrowed: &BorrowedUnits<'_>, classes: &[Class], block: &[u8], units: &mut [Unit])
+fn write_ascii(
+    borrowed: &BorrowedUnits<'_>,
+    ascii: &[Class],
+    block: &[u8],
+    units: &mut [Unit],
+) -> ClassSet
     requires neutral { AreNeutral borrowed.now.classes borrowed.now.brackets }
-    requires classes { AreOfBlock borrowed.now.classes 0 classes.now }
+    requires block { AreOfBlock borrowed.now.classes 0 ascii.now }
     requires len { length block.now ≡ 16 }
     requires ascii { IsAscii block.now }
     requires fits { length units.old ≡ 16 }
-    ensures { units.new ≡ map (unit_by_stages borrowed.now) block.now }
+    ensures units { units.new ≡ map (unit_by_stages borrowed.now) block.now }
+    ensures classes { IsSetOf result (classes_of units.new) }
 {
-    for fourth in 0..BLOCK / 4 {
-        let k = fourth * 4;
-        write_next(borrowed, classes, block, k, units);
-        write_next(borrowed, classes, block, k + 1, units);
-        write_next(borrowed, classes, block, k + 2, units);
-        write_next(borrowed, classes, block, k + 3, units);
-    }
+    let four = write_four(borrowed, ascii, block, 0, ClassSet::none(), units);
+    let eight = write_four(borrowed, ascii, block, 4, four, units);
+    let twelve = write_four(borrowed, ascii, block, 8, eight, units);
+    write_four(borrowed, ascii, block, 12, twelve, units)
 }
 
 /// Writes the units and the offsets of a block of ASCII. The class of each bracket must be ON.
@@ -247,36 +275,41 @@ fn write_ascii(borrowed: &BorrowedUnits<'_>, classes: &[Class], block: &[u8], un
 fn decode_ascii(
     bytes: &[u8],
     borrowed: &BorrowedUnits<'_>,
-    classes: &[Class],
-    before: Reached,
+    ascii: &[Class],
+    before: Passed,
     units: &mut [Unit],
     starts: &mut [u32],
-) -> Reached
+) -> Passed
     requires neutral { AreNeutral borrowed.now.classes borrowed.now.brackets }
-    requires classes { AreOfBlock borrowed.now.classes 0 classes.now }
-    requires remaining { before.code_units + 16 ≤ length bytes.now }
-    requires ascii { IsAscii (take 16 (drop before.code_units bytes.now)) }
+    requires block { AreOfBlock borrowed.now.classes 0 ascii.now }
+    requires remaining { before.reached.code_units + 16 ≤ length bytes.now }
+    requires ascii { IsAscii (take 16 (drop before.reached.code_units bytes.now)) }
     requires units { length bytes.now ≤ length units.old }
     requires starts { length bytes.now ≤ length starts.old }
     requires small { length bytes.now < 2 ^ 32 }
-    requires read { IsReadUpTo borrowed.now bytes.now before units.old starts.old }
+    requires read { IsReadUpTo borrowed.now bytes.now before.reached units.old starts.old }
+    requires classes { IsSetOf before.classes (classes_of (take before.reached.characters units.old)) }
     ensures units_len { length units.new ≡ length units.old }
     ensures starts_len { length starts.new ≡ length starts.old }
-    ensures code_units { result.code_units ≡ before.code_units + 16 }
-    ensures read { IsReadUpTo borrowed.now bytes.now result units.new starts.new }
+    ensures code_units { result.reached.code_units ≡ before.reached.code_units + 16 }
+    ensures read { IsReadUpTo borrowed.now bytes.now result.reached units.new starts.new }
+    ensures classes { IsSetOf result.classes (classes_of (take result.reached.characters units.new)) }
 {
-    let count = before.characters;
-    let at = before.code_units;
-    write_ascii(
+    let count = before.reached.characters;
+    let at = before.reached.code_units;
+    let own = write_ascii(
         borrowed,
-        classes,
+        ascii,
         &bytes[at..at + BLOCK],
         &mut units[count..count + BLOCK],
     );
     write_offsets(&mut starts[count..count + BLOCK], at);
-    Reached {
-        characters: count + BLOCK,
-        code_units: at + BLOCK,
+    Passed {
+        reached: Reached {
+            characters: count + BLOCK,
+            code_units: at + BLOCK,
+        },
+        classes: before.classes.joined(own),
     }
 }
 
@@ -299,6 +332,8 @@ fn decode_pair(
     requires read { IsReadUpTo borrowed.now bytes.now before units.old starts.old }
     ensures units_len { length units.new ≡ length units.old }
     ensures starts_len { length starts.new ≡ length starts.old }
+    ensures one { result.characters ≡ before.characters + 1 }
+    ensures unchanged { take before.characters units.new ≡ take before.characters units.old }
     ensures forward { before.code_units < result.code_units }
     ensures read { IsReadUpTo borrowed.now bytes.now result units.new starts.new }
 {
@@ -337,6 +372,8 @@ fn decode_char(
     requires read { IsReadUpTo borrowed.now bytes.now before units.old starts.old }
     ensures units_len { length units.new ≡ length units.old }
     ensures starts_len { length starts.new ≡ length starts.old }
+    ensures one { result.characters ≡ before.characters + 1 }
+    ensures unchanged { take before.characters units.new ≡ take before.characters units.old }
     ensures forward { before.code_units < result.code_units }
     ensures read { IsReadUpTo borrowed.now bytes.now result units.new starts.new }
 {
@@ -367,6 +404,8 @@ fn decode_byte(
     requires read { IsReadUpTo borrowed.now bytes.now before units.old starts.old }
     ensures units_len { length units.new ≡ length units.old }
     ensures starts_len { length starts.new ≡ length starts.old }
+    ensures one { result.characters ≡ before.characters + 1 }
+    ensures unchanged { take before.characters units.new ≡ take before.characters units.old }
     ensures forward { before.code_units < result.code_units }
     ensures read { IsReadUpTo borrowed.now bytes.now result units.new starts.new }
 {
@@ -398,6 +437,8 @@ fn decode_next(
     requires read { IsReadUpTo borrowed.now bytes.now before units.old starts.old }
     ensures units_len { length units.new ≡ length units.old }
     ensures starts_len { length starts.new ≡ length starts.old }
+    ensures one { result.characters ≡ before.characters + 1 }
+    ensures unchanged { take before.characters units.new ≡ take before.characters units.old }
     ensures forward { before.code_units < result.code_units }
     ensures read { IsReadUpTo borrowed.now bytes.now result units.new starts.new }
 {
@@ -411,42 +452,77 @@ fn decode_next(
     }
 }
 
+/// Does what `decode_next` does, and adds the class of the character to those of the characters before it.
+#[inline(always)]
+fn pass_next(
+    bytes: &[u8],
+    borrowed: &BorrowedUnits<'_>,
+    before: Passed,
+    units: &mut [Unit],
+    starts: &mut [u32],
+) -> Passed
+    requires well_formed { IsUtf8 bytes.now }
+    requires neutral { AreNeutral borrowed.now.classes borrowed.now.brackets }
+    requires remaining { before.reached.code_units < length bytes.now }
+    requires units { length bytes.now ≤ length units.old }
+    requires starts { length bytes.now ≤ length starts.old }
+    requires small { length bytes.now < 2 ^ 32 }
+    requires read { IsReadUpTo borrowed.now bytes.now before.reached units.old starts.old }
+    requires classes { IsSetOf before.classes (classes_of (take before.reached.characters units.old)) }
+    ensures units_len { length units.new ≡ length units.old }
+    ensures starts_len { length starts.new ≡ length starts.old }
+    ensures forward { before.reached.code_units < result.reached.code_units }
+    ensures read { IsReadUpTo borrowed.now bytes.now result.reached units.new starts.new }
+    ensures classes { IsSetOf result.classes (classes_of (take result.reached.characters units.new)) }
+{
+    let reached = decode_next(bytes, borrowed, before.reached, units, starts);
+    Passed {
+        reached,
+        classes: before.classes.with(units[before.reached.characters].class),
+    }
+}
+
 /// Writes the units and the offsets of the characters that begin before the offset `end`.
 #[inline(always)]
 fn decode_chars(
     bytes: &[u8],
     end: usize,
     borrowed: &BorrowedUnits<'_>,
-    before: Reached,
+    before: Passed,
     units: &mut [Unit],
     starts: &mut [u32],
-) -> Reached
+) -> Passed
     requires well_formed { IsUtf8 bytes.now }
     requires neutral { AreNeutral borrowed.now.classes borrowed.now.brackets }
     requires end { end ≤ length bytes.now }
     requires units { length bytes.now ≤ length units.old }
     requires starts { length bytes.now ≤ length starts.old }
     requires small { length bytes.now < 2 ^ 32 }
-    requires read { IsReadUpTo borrowed.now bytes.now before units.old starts.old }
+    requires read { IsReadUpTo borrowed.now bytes.now before.reached units.old starts.old }
+    requires classes { IsSetOf before.classes (classes_of (take before.reached.characters units.old)) }
     ensures units_len { length units.new ≡ length units.old }
     ensures starts_len { length starts.new ≡ length starts.old }
-    ensures passed { end ≤ result.code_units }
-    ensures read { IsReadUpTo borrowed.now bytes.now result units.new starts.new }
+    ensures passed { end ≤ result.reached.code_units }
+    ensures read { IsReadUpTo borrowed.now bytes.now result.reached units.new starts.new }
+    ensures classes { IsSetOf result.classes (classes_of (take result.reached.characters units.new)) }
 {
-    let mut reached = before;
-    while reached.code_units < end {
-        reached = decode_next(bytes, borrowed, reached, units, starts);
+    let mut passed = before;
+    while passed.reached.code_units < end {
+        passed = pass_next(bytes, borrowed, passed, units, starts);
     }
-    reached
+    passed
 }
 
-/// Returns whether a block of ASCII begins at an offset.
+/// Returns whether a block of ASCII begins at an offset. In other scripts the test of the first byte is mostly enough.
 #[inline(always)]
 fn begins_ascii(bytes: &[u8], at: usize) -> bool
     requires { at ≤ length bytes.now }
     ensures { IsTrue result → (at + 16 ≤ length bytes.now) × IsAscii (take 16 (drop at bytes.now)) }
 {
-    bytes.len() - at >= BLOCK && is_ascii(u8x16::from_slice(&bytes[at..]))
+    if bytes.len() - at < BLOCK {
+        return false;
+    }
+    bytes[at] < 0x80 && is_ascii(u8x16::from_slice(&bytes[at..]))
 }
 
 /// Writes the units and the offsets of the next characters, up to the end of a block or past it.
@@ -454,27 +530,29 @@ fn begins_ascii(bytes: &[u8], at: usize) -> bool
 fn decode_block(
     bytes: &[u8],
     borrowed: &BorrowedUnits<'_>,
-    classes: &[Class],
-    before: Reached,
+    ascii: &[Class],
+    before: Passed,
     units: &mut [Unit],
     starts: &mut [u32],
-) -> Reached
+) -> Passed
     requires well_formed { IsUtf8 bytes.now }
     requires neutral { AreNeutral borrowed.now.classes borrowed.now.brackets }
-    requires classes { AreOfBlock borrowed.now.classes 0 classes.now }
-    requires remaining { before.code_units < length bytes.now }
+    requires block { AreOfBlock borrowed.now.classes 0 ascii.now }
+    requires remaining { before.reached.code_units < length bytes.now }
     requires units { length bytes.now ≤ length units.old }
     requires starts { length bytes.now ≤ length starts.old }
     requires small { length bytes.now < 2 ^ 32 }
-    requires read { IsReadUpTo borrowed.now bytes.now before units.old starts.old }
+    requires read { IsReadUpTo borrowed.now bytes.now before.reached units.old starts.old }
+    requires classes { IsSetOf before.classes (classes_of (take before.reached.characters units.old)) }
     ensures units_len { length units.new ≡ length units.old }
     ensures starts_len { length starts.new ≡ length starts.old }
-    ensures forward { before.code_units < result.code_units }
-    ensures read { IsReadUpTo borrowed.now bytes.now result units.new starts.new }
+    ensures forward { before.reached.code_units < result.reached.code_units }
+    ensures read { IsReadUpTo borrowed.now bytes.now result.reached units.new starts.new }
+    ensures classes { IsSetOf result.classes (classes_of (take result.reached.characters units.new)) }
 {
-    let at = before.code_units;
+    let at = before.reached.code_units;
     if begins_ascii(bytes, at) {
-        decode_ascii(bytes, borrowed, classes, before, units, starts)
+        decode_ascii(bytes, borrowed, ascii, before, units, starts)
     } else {
         let end = bytes.len().min(at + BLOCK);
         decode_chars(bytes, end, borrowed, before, units, starts)
@@ -488,7 +566,7 @@ fn decode_blocks(
     borrowed: &BorrowedUnits<'_>,
     units: &mut [Unit],
     starts: &mut [u32],
-) -> Reached
+) -> Passed
     requires well_formed { IsUtf8 bytes.now }
     requires neutral { AreNeutral borrowed.now.classes borrowed.now.brackets }
     requires units { length bytes.now ≤ length units.old }
@@ -496,18 +574,22 @@ fn decode_blocks(
     requires small { length bytes.now < 2 ^ 32 }
     ensures units_len { length units.new ≡ length units.old }
     ensures starts_len { length starts.new ≡ length starts.old }
-    ensures whole { length bytes.now ≤ result.code_units }
-    ensures read { IsReadUpTo borrowed.now bytes.now result units.new starts.new }
+    ensures whole { length bytes.now ≤ result.reached.code_units }
+    ensures read { IsReadUpTo borrowed.now bytes.now result.reached units.new starts.new }
+    ensures classes { IsSetOf result.classes (classes_of (take result.reached.characters units.new)) }
 {
-    let classes = borrowed.block_classes(0);
-    let mut reached = Reached {
-        characters: 0,
-        code_units: 0,
+    let ascii = borrowed.block_classes(0);
+    let mut passed = Passed {
+        reached: Reached {
+            characters: 0,
+            code_units: 0,
+        },
+        classes: ClassSet::none(),
     };
-    while reached.code_units < bytes.len() {
-        reached = decode_block(bytes, borrowed, classes, reached, units, starts);
+    while passed.reached.code_units < bytes.len() {
+        passed = decode_block(bytes, borrowed, ascii, passed, units, starts);
     }
-    reached
+    passed
 }
 
 /// Writes the units and the offsets of a well-formed text, and after the offsets the offset of the text's end. Returns
@@ -541,24 +623,96 @@ fn decode_well_formed(
     count
 }
 
-/// Does what `decode_well_formed` does. Takes fewer instructions if there are several characters.
+/// Does what `decode_well_formed` does, and also returns the set of the classes of these units, if the class of each
+/// bracket is known to be ON. Takes fewer instructions if there are several characters.
 #[inline(never)]
-fn decode_long(bytes: &[u8], tables: &Tables, units: &mut [Unit], starts: &mut [u32]) -> usize
+fn decode_long(bytes: &[u8], tables: &Tables, units: &mut [Unit], starts: &mut [u32]) -> Decoded
     requires well_formed { IsUtf8 bytes.now }
     requires units { length bytes.now ≤ length units.old }
     requires starts { length bytes.now < length starts.old }
     requires small { length bytes.now < 2 ^ 32 }
     ensures units_len { length units.new ≡ length units.old }
     ensures starts_len { length starts.new ≡ length starts.old }
-    ensures decoded { AreDecoded tables.now (utf8_text bytes.now) result units.new starts.new }
+    ensures decoded { AreDecoded tables.now (utf8_text bytes.now) result.characters units.new starts.new }
+    ensures classes { IfSome result.classes
+        (λ set. IsSetOf set (classes_of (take result.characters units.new))) }
 {
     let borrowed = tables.units();
     if !borrowed.are_neutral() {
-        return decode_well_formed(bytes, tables, units, starts);
+        return Decoded {
+            characters: decode_well_formed(bytes, tables, units, starts),
+            classes: None,
+        };
     }
-    let reached = decode_blocks(bytes, &borrowed, units, starts);
-    starts[reached.characters] = reached.code_units as u32;
-    reached.characters
+    let passed = decode_blocks(bytes, &borrowed, units, starts);
+    let Reached {
+        characters,
+        code_units,
+    } = passed.reached;
+    starts[characters] = code_units as u32;
+    Decoded {
+        characters,
+        classes: Some(passed.classes),
+    }
+}
+
+/// Does what `look_up_utf8` does, for a text that is known to be well formed.
+#[inline(always)]
+fn decode_known(bytes: &[u8], tables: &Tables, units: &mut [Unit], starts: &mut [u32]) -> Decoded
+    requires well_formed { IsUtf8 bytes.now }
+    requires units { length bytes.now ≤ length units.old }
+    requires starts { length bytes.now < length starts.old }
+    requires small { length bytes.now < 2 ^ 32 }
+    ensures units_len { length units.new ≡ length units.old }
+    ensures starts_len { length starts.new ≡ length starts.old }
+    ensures decoded { AreDecoded tables.now (utf8_text bytes.now) result.characters units.new starts.new }
+    ensures classes { IfSome result.classes
+        (λ set. IsSetOf set (classes_of (take result.characters units.new))) }
+{
+    if bytes.len() < BLOCK {
+        return Decoded {
+            characters: decode_well_formed(bytes, tables, units, starts),
+            classes: None,
+        };
+    }
+    decode_long(bytes, tables, units, starts)
+}
+
+/// Tests a text. Fails with the offset of the first fault if the text is ill-formed.
+#[inline(always)]
+fn test(bytes: &[u8]) -> Result<(), usize>
+    requires small { length bytes.now < 2 ^ 32 }
+    ensures fault { IfErr result (λ at. (IsUtf8 bytes.now → ⊥) × (at ≡ utf8_valid_len bytes.now)) }
+    ensures well_formed { OnOk result (IsUtf8 bytes.now) }
+{
+    if bytes.len() < BLOCK {
+        return test_short(bytes);
+    }
+    test_utf8(bytes)
+}
+
+/// Does what `decode_utf8` does, and also returns the set of the classes of these units if it is known.
+pub fn look_up_utf8(
+    bytes: &[u8],
+    tables: &Tables,
+    units: &mut [Unit],
+    starts: &mut [u32],
+) -> Result<Decoded, usize>
+    requires units { length bytes.now ≤ length units.old }
+    requires starts { length bytes.now < length starts.old }
+    requires small { length bytes.now < 2 ^ 32 }
+    ensures units_len { length units.new ≡ length units.old }
+    ensures starts_len { length starts.new ≡ length starts.old }
+    ensures fault { IfErr result (λ at. (IsUtf8 bytes.now → ⊥) × (at ≡ utf8_valid_len bytes.now)) }
+    ensures unchanged { IfErr result (λ _. (units.new ≡ units.old) × (starts.new ≡ starts.old)) }
+    ensures well_formed { OnOk result (IsUtf8 bytes.now) }
+    ensures decoded { IfOk result (λ decoded.
+        AreDecoded tables.now (utf8_text bytes.now) decoded.characters units.new starts.new) }
+    ensures classes { IfOk result (λ decoded. IfSome decoded.classes
+        (λ set. IsSetOf set (classes_of (take decoded.characters units.new)))) }
+{
+    test(bytes)?;
+    Ok(decode_known(bytes, tables, units, starts))
 }
 
 /// Writes the units and the offsets of a text, and after the offsets the offset of the text's end. Returns how many
@@ -581,10 +735,6 @@ pub fn decode_utf8(
     ensures decoded { IfOk result (λ count.
         AreDecoded tables.now (utf8_text bytes.now) count units.new starts.new) }
 {
-    if bytes.len() < BLOCK {
-        test_short(bytes)?;
-        return Ok(decode_well_formed(bytes, tables, units, starts));
-    }
-    test_utf8(bytes)?;
-    Ok(decode_long(bytes, tables, units, starts))
+    let decoded = look_up_utf8(bytes, tables, units, starts)?;
+    Ok(decoded.characters)
 }

@@ -1,12 +1,15 @@
 //! What a caller asks for.
-ghost use Rattle.std.specs.Prelude.{◌≡◌, ◌≤◌, length, take};
+ghost use Rattle.std.specs.Prelude.{◌≡◌, ◌≤◌, length, take, IfSome};
+ghost use Rattle.units.specs.Classes.{classes_of};
+ghost use Rattle.paragraph.specs.ClassSets.{IsSetOf};
 ghost use Rattle.sources.specs.Seen.{source_seen};
 ghost use Rattle.sources.specs.Sources.{IsEncoded, IsWellFormed, is_encoded, size_of, units_of};
 
 use crate::class_numbers::fill_classes;
-use crate::codes::fill_codes;
+use crate::codes::{fill_codes, look_up_codes};
 use crate::numbered_units::{NumberedUnit, fill_units};
 use decoding::fault::Faults;
+use paragraph::class_set::ClassSet;
 use std::marker::Model;
 use ucdfiles::tables::Tables;
 use units::bracket::Unit;
@@ -70,6 +73,33 @@ impl<'t> Source<'t> {
             Source::Codes(codes) => fill_codes(units, tables, codes),
             Source::Classes(numbers) => fill_classes(units, numbers),
             Source::Units(numbered) => fill_units(units, numbered),
+            Source::Utf8(_, _) | Source::Utf16(_, _) => unreachable!(),
+        }
+    }
+
+    /// Does what `fill` does. Returns the set of the classes of these units, or `None` if it isn't known.
+    // Inlined, a call on a short text takes fewer instructions.
+    #[inline(always)]
+    pub fn look_up(self, units: &mut [Unit], tables: &Tables) -> Option<ClassSet>
+        requires plain { IsEncoded (source_seen self) → ⊥ }
+        requires well_formed { IsWellFormed (source_seen self) }
+        requires fits { size_of (source_seen self) ≤ length units.old }
+        ensures len { length units.new ≡ length units.old }
+        ensures units { take (size_of (source_seen self.entry)) units.new
+            ≡ units_of tables.now (source_seen self.entry) }
+        ensures classes { IfSome result
+            (λ set. IsSetOf set (classes_of (take (size_of (source_seen self.entry)) units.new))) }
+    {
+        match self {
+            Source::Codes(codes) => look_up_codes(units, tables, codes),
+            Source::Classes(numbers) => {
+                fill_classes(units, numbers);
+                None
+            }
+            Source::Units(numbered) => {
+                fill_units(units, numbered);
+                None
+            }
             Source::Utf8(_, _) | Source::Utf16(_, _) => unreachable!(),
         }
     }

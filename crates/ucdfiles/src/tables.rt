@@ -1,7 +1,7 @@
 // The three tables together.
 ghost use Rattle.std.specs.Prelude.{◌≡◌, true, ℕ};
 ghost use Rattle.ucdfiles.specs.Spans.{holds};
-ghost use Rattle.ucdfiles.specs.Tables.{class_by, AreNeutral, AreOfBlock};
+ghost use Rattle.ucdfiles.specs.Tables.{bracket_by, class_by, AreNeutral, AreOfBlock};
 ghost use Rattle.units.specs.declared.class.Class.TheVariants.{ON};
 
 use crate::bracket_table::BracketTable;
@@ -159,6 +159,15 @@ impl<'a> BorrowedUnits<'a> {
         if matches!(class, Class::ON) {
             unit.bracket = self.brackets.block(block)[usize::from(k)];
         }
+    }
+
+    #[tactic(auto, unfolding(crate::specs::Tables::bracket_by))]
+    #[inline(always)]
+    /// Writes the bracket of a character over that of a unit.
+    pub fn write_bracket(&self, c: char, unit: &mut Unit)
+        ensures { unit.new ≡ record { class = unit.old.class; bracket = bracket_by self.now.brackets c } }
+    {
+        unit.bracket = self.brackets.value(c);
     }
 
     /// Writes the class and the bracket of the character with the index `k` after those of the characters before it.

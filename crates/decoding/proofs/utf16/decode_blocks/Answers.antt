@@ -8,8 +8,8 @@ use Rattle.decoding.proofs.BlockReading.{written_from, written_with}
 use Rattle.decoding.proofs.Utf16Blocks.{apart_in_block, at_block}
 use Rattle.decoding.proofs.utf16.decode_blocks.Goals as goal
 
-pub decode_block-requires-clause-scalars : goal.decode_block-requires-clause-scalars
-decode_block-requires-clause-scalars c = (c.begins_block.ensures c.scalars-test.true).1
+pub decode_block-classes-requires-clause-scalars : goal.decode_block-classes-requires-clause-scalars
+decode_block-classes-requires-clause-scalars c = (c.begins_block.ensures c.scalars-test.true).1
 
 pub scalars-preserved : goal.scalars-preserved
 scalars-preserved c =
@@ -24,7 +24,7 @@ scalars-preserved c =
       characters = l.count;
       code_units = l.at;
     }) l.units l.starts l.invariant.written in
-    let after = c.decode_block.ensures.written (take l.count (utf16_text text))
+    let after = c.decode_block-classes.ensures.written (take l.count (utf16_text text))
     (subst (λ (s : UnitStages). IsWritten (tables_with s) (take l.count (utf16_text text)) (record {
       characters = l.count;
       code_units = l.at;
@@ -35,14 +35,15 @@ scalars-preserved c =
       written = subst (λ (xs : List Spelled). IsWritten tables xs (record {
         characters = l.count + 8;
         code_units = l.at + 8;
-      }) c.decode_block.new.units c.decode_block.new.starts) (sym block.read)
+      }) c.decode_block-classes.new.units c.decode_block-classes.new.starts) (sym block.read)
           (written_with tables _ _ _ _ (subst (λ (s : UnitStages). IsWritten (tables_with s)
           (take l.count (utf16_text text) ++ map in_one_unit (take 8 (drop l.at text))) (record {
             characters = l.count + 8;
             code_units = l.at + 8;
-          }) c.decode_block.new.units c.decode_block.new.starts) c.units-borrowed.ensures after));
+          }) c.decode_block-classes.new.units c.decode_block-classes.new.starts) c.units-borrowed.ensures after));
       paired = λ k from to. elim (cases_lt k l.count) [
         | inl below ↦ l.invariant.paired k from below
         | inr later ↦ block.paired k (omega (arith, later)) to
       ];
+      classes = c.decode_block-classes.ensures.classes;
     }

@@ -2,6 +2,7 @@ use Rattle.std.proofs.Common.{◌≡◌, ◌∙◌, ◌<◌, ◌+◌, ℕ, List,
 use Rattle.std.specs.Option.{unwrap_or}
 use Rattle.std.specs.Char.Escape.{encode_utf16}
 use Rattle.std.proofs.lemmas.Bool.{cases_eq}
+use Rattle.units.specs.declared.bracket.Unit.{Unit as BidiUnit}
 use Rattle.ucdfiles.specs.UnitStages.{UnitStages, unit_by_stages}
 use Rattle.decoding.specs.Decoded.{IsWritten}
 use Rattle.decoding.specs.Encodings.{in_utf16, utf16_text, IsPaired}
@@ -21,18 +22,23 @@ loop-at-preserved c =
     let same : d ≡ unwrap_or found.result.0 0xFFFD = c.in-Some.ensures.0 in
     let read : in_utf16 d ≡ get_or (utf16_text text) l.count (in_utf16 d) =
     subst (λ (x : ℕ). in_utf16 x ≡ get_or (utf16_text text) l.count (in_utf16 x)) (sym same) next.read in
-    let is = c.write_unit.ensures ∙ ap (λ (s : UnitStages). unit_by_stages s d) c.units-borrowed.ensures in
+    let unit = unit_by_stages c.units-borrowed.result d in
+    let is = ap (λ (s : UnitStages). unit_by_stages s d) c.units-borrowed.ensures in
     let following : found.result.1 ≡ l.at + length (encode_utf16 d) = found.ensures.following ∙
     ap (λ (x : ℕ). l.at + length (encode_utf16 x)) (sym same) in
     let below : l.count < length text = omega (arith, l.invariant.reached.few, c.loop-at-test.true) in
     record {
       reached = next.later;
-      written = subst (λ (x : ℕ). IsWritten c.args.tables.now (take (l.count + 1) (utf16_text text))
-          (record { characters = l.count + 1; code_units = x }) (set l.units l.count c.write_unit.new.unit)
+      written = subst (λ (us : List BidiUnit). IsWritten c.args.tables.now (take (l.count + 1) (utf16_text text))
+          (record { characters = l.count + 1; code_units = found.result.1 }) us (set l.starts l.count l.at))
+          (sym c.write_char-classes.ensures.units)
+          (subst (λ (x : ℕ). IsWritten c.args.tables.now (take (l.count + 1) (utf16_text text))
+          (record { characters = l.count + 1; code_units = x }) (set l.units l.count unit)
           (set l.starts l.count l.at)) (sym following)
           (written_next c.args.tables.now [] (utf16_text text) l.count (in_utf16 d) l.count l.at l.units l.starts
-          c.write_unit.new.unit next.within read (omega (arith, below, l.auto.units, c.requires.units))
-          (omega (arith, below, l.auto.starts, c.requires.starts)) is l.invariant.written);
+          unit next.within read (omega (arith, below, l.auto.units, c.requires.units))
+          (omega (arith, below, l.auto.starts, c.requires.starts)) is l.invariant.written));
+      classes = c.write_char-classes.ensures.classes;
       paired = λ rejected k lt. elim (cases_eq k l.count) [
         | inl e ↦ subst (IsPaired text) (sym e) (λ none. is_some d (sym (c.in-Some.ensures.1 rejected) ∙
             sym next.spelled ∙ none))

@@ -1,4 +1,6 @@
 use Rattle.std.proofs.Common.{◌≡◌, ◌<◌, ◌+◌, ◌*◌, ◌-◌, ℕ, length, take}
+use Rattle.units.specs.Classes.{classes_of}
+use Rattle.paragraph.specs.ClassSets.{IsSetOf}
 use Rattle.decoding.specs.Decoded.{IsWritten}
 use Rattle.decoding.specs.Encodings.{utf16_text, IsAt, IsPaired}
 use Rattle.decoding.specs.declared.fault.Faults.TheVariants.{Rejected}
@@ -14,6 +16,7 @@ invariant-loop-at l =
             l.at;
       }) l.units l.starts;
       paired : l.fn.faults ≡ Rejected → (k : ℕ) → k < l.count → IsPaired l.text k;
+      classes : IsSetOf l.classes (classes_of (take l.count l.units));
     }
 
 -- fewer code units are left, or the next test is later

@@ -1,8 +1,8 @@
 use Rattle.std.proofs.Common.{arith}
 use Rattle.decoding.proofs.utf8.begins_ascii.Goals as goal
 
-pub returns-then-bytes-at-ge-BLOCK : goal.returns-then-bytes-at-ge-BLOCK
-returns-then-bytes-at-ge-BLOCK c = λ ascii. (
-  omega (arith, c.if-bytes-at-ge-BLOCK.true, c.requires),
+pub returns-then-bytes-at-lt128 : goal.returns-then-bytes-at-lt128
+returns-then-bytes-at-lt128 c = λ ascii. (
+  omega arith,
   c.is_ascii.ensures ascii,
 )

@@ -11,12 +11,12 @@ pub returns-clause-decoded : goal.returns-clause-decoded
 returns-clause-decoded c =
     let bytes = c.args.bytes.now in
     let tables = c.args.tables.now in
-    let reached = c.decode_blocks-reached in
-    let r = subst (λ (s : UnitStages). IsReadUpTo s bytes reached.result reached.new.units reached.new.starts)
+    let reached = c.decode_blocks-passed in
+    let r = subst (λ (s : UnitStages). IsReadUpTo s bytes reached.result.reached reached.new.units reached.new.starts)
     c.units-borrowed.ensures reached.ensures.read in
-    decoded_whole tables (utf8_text bytes) reached.result reached.new.units reached.new.starts
+    decoded_whole tables (utf8_text bytes) reached.result.reached reached.new.units reached.new.starts
     (omega (arith, r.few, r.inside, reached.ensures.starts_len, c.requires.starts))
-    (subst (λ (bs : List ℕ). IsWritten tables (utf8_text bs) reached.result reached.new.units reached.new.starts)
-    (take_all reached.result.code_units bytes reached.ensures.whole)
-    (written_with tables (utf8_text (take reached.result.code_units bytes)) reached.result reached.new.units
+    (subst (λ (bs : List ℕ). IsWritten tables (utf8_text bs) reached.result.reached reached.new.units reached.new.starts)
+    (take_all reached.result.reached.code_units bytes reached.ensures.whole)
+    (written_with tables (utf8_text (take reached.result.reached.code_units bytes)) reached.result.reached reached.new.units
     reached.new.starts r.written))
