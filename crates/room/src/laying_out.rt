@@ -1,8 +1,10 @@
 //! Lays out units in a scratch that has capacity for them.
-ghost use Rattle.std.specs.Prelude.{◌≡◌, ◌<◌, ◌≤◌, [], length};
+ghost use Rattle.std.specs.Prelude.{◌≡◌, ◌<◌, ◌≤◌, [], length, IfSome};
+ghost use Rattle.units.specs.Classes.{classes_of};
 ghost use Rattle.units.specs.Layout.{layout_of};
 ghost use Rattle.units.specs.Limits.{standard};
 ghost use Rattle.units.specs.declared.level.Direction.TheVariants.{Auto};
+ghost use Rattle.paragraph.specs.ClassSets.{IsSetOf};
 ghost use Rattle.lines.specs.Scratches.{room_of, layout_in, HoldsSomeLayoutOf, HoldsText, HasSetLines, IsFilled};
 ghost use Rattle.lines.specs.Scratches.{StillHoldsText};
 ghost use Rattle.room.specs.OrderedLines.{LinesHaveOrder};
@@ -10,6 +12,7 @@ ghost use Rattle.room.specs.OrderedLines.{LinesHaveOrder};
 use lines::breaks::Breaks;
 use lines::lay_out::set_lines_into;
 use lines::scratch::Scratch;
+use paragraph::class_set::ClassSet;
 use std::marker::Brand;
 use std::sync::ledger::{Blank, Ledger};
 use units::bracket::Unit;
@@ -17,15 +20,18 @@ use units::level::Direction;
 use units::limits::Limits;
 use units::steps::Steps;
 
-/// Lays out a text with these limits, and counts steps only during the call.
+/// Lays out a text with these limits, and counts steps only during the call. The set of the classes of the text is
+/// given if it is known.
 pub(crate) fn lay_out_units<L: Ledger>(
     scratch: &mut Scratch,
     text: &[Unit],
+    classes: Option<ClassSet>,
     direction: Direction,
     breaks: &Breaks,
     limits: Limits,
     blank: Blank,
 )
+    requires classes { IfSome classes (λ set. IsSetOf set (classes_of text.now)) }
     requires len { breaks.now.len ≡ length text.now }
     requires fits { length text.now ≤ room_of scratch.old }
     requires name { blank.name ≡ L.name }
@@ -38,7 +44,7 @@ pub(crate) fn lay_out_units<L: Ledger>(
     ensures in_order { LinesHaveOrder (layout_in scratch.new) }
 {
     let mut steps = Steps::<L>::new(blank);
-    scratch.fill(text, direction, breaks, limits, &mut steps);
+    scratch.fill_known(text, classes, direction, breaks, limits, &mut steps);
 }
 
 /// Breaks the text of the scratch into lines again.
@@ -67,6 +73,7 @@ pub(crate) fn lay_out_empty(scratch: &mut Scratch)
         lay_out_units::<Brand>(
             scratch,
             &[],
+            None,
             Direction::Auto,
             &breaks,
             limits,

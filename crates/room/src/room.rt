@@ -176,17 +176,26 @@ impl Room {
         if self.scratch.room() < source.size() {
             return Err(LayoutFault::TooLong);
         }
-        let count = match decode(source, tables, &mut self.spare_units, &mut self.spare) {
-            Ok(count) => count,
+        let decoded = match decode(source, tables, &mut self.spare_units, &mut self.spare) {
+            Ok(decoded) => decoded,
             Err(at) => return Err(LayoutFault::IllFormed(at)),
         };
+        let count = decoded.characters;
         if let Err(fault) = find_indices(&self.spare[..count + 1], breaks, &mut self.indices) {
             return Err(fault);
         }
         let found = breaks_at(&self.indices[..breaks.len()], count);
         let text = &self.spare_units[..count];
         let blank = Blank::new(1);
-        lay_out_units::<Brand>(&mut self.scratch, text, direction, &found, limits, blank);
+        lay_out_units::<Brand>(
+            &mut self.scratch,
+            text,
+            decoded.classes,
+            direction,
+            &found,
+            limits,
+            blank,
+        );
         swap(&mut self.starts, &mut self.spare);
         swap(&mut self.units, &mut self.spare_units);
         self.spelled = true;
@@ -221,12 +230,13 @@ impl Room {
         if let Err(at) = source.check() {
             return Err(LayoutFault::IllFormed(at));
         }
-        source.fill(&mut self.units, tables);
+        let classes = source.look_up(&mut self.units, tables);
         let text = &self.units[..len];
         let blank = Blank::new(1);
         lay_out_units::<Brand>(
             &mut self.scratch,
             text,
+            classes,
             ask.direction,
             &breaks,
             ask.limits,

@@ -14,6 +14,6 @@ pub returns-in-Rejected-clause-whole : goal.returns-in-Rejected-clause-whole
 returns-in-Rejected-clause-whole c =
     let bytes = c.in-Utf8.bytes in
     let is : c.args.source ≡ Utf8 bytes Rejected = c.in-Utf8.is ∙ ap (Utf8 bytes) c.in-Rejected.is in
-    subst (λ (s : Source). OnOk c.decode_utf8.result (code_units (text_in (source_seen s)) ≡ size_of (source_seen s)))
+    subst (λ (s : Source). OnOk c.look_up_utf8.result (code_units (text_in (source_seen s)) ≡ size_of (source_seen s)))
     (sym is)
-    (on_ok c.decode_utf8.result (λ well_formed. units_of_text bytes.now well_formed) c.decode_utf8.ensures.well_formed)
+    (on_ok c.look_up_utf8.result (λ well_formed. units_of_text bytes.now well_formed) c.look_up_utf8.ensures.well_formed)

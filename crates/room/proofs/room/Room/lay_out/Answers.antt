@@ -1,7 +1,9 @@
-use Rattle.std.proofs.Common.{rules, Ok, ◌≡◌, ◌∙◌, ℕ, List, ap, arith, length, refl, subst, take, false}
+use Rattle.std.proofs.Common.{rules, Ok, ◌≡◌, ◌∙◌, ℕ, List, ap, arith, length, refl, subst, sym, take, false, IfSome}
 use Rattle.std.specs.Box.{boxed_slice_items, boxed_slice_with_items}
+use Rattle.units.specs.Classes.{classes_of}
 use Rattle.units.specs.Layout.{layout_of}
 use Rattle.units.specs.declared.bracket.Unit.{Unit as BidiUnit}
+use Rattle.paragraph.specs.ClassSets.{IsSetOf}
 use Rattle.lines.specs.LineBreaks.{AreBreaks, BreaksView}
 use Rattle.lines.specs.Scratches.{layout_in}
 use Rattle.sources.specs.Asks.{AskOf}
@@ -15,6 +17,20 @@ use Rattle.room.proofs.Refilled.{refilled}
 use Rattle.room.proofs.Showing.{shows_plain}
 use Rattle.room.proofs.room.Room.lay_out.Goals as goal
 
+pub lay_out_units-requires-clause-classes : goal.lay_out_units-requires-clause-classes
+lay_out_units-requires-clause-classes c =
+    let source = source_seen c.ask.inside.source in
+    let self = c.self.inside in
+    let new = c.look_up-classes.new.units in
+    let column = boxed_slice_with_items self.units new in
+    let same : boxed_slice_items column ≡ new
+    = refilled self.units new (c.look_up-classes.ensures.len ∙ ap length c.deref_mut.ensures.value) in
+    let text : take c.size-len.result c.deref.result.now ≡ take (size_of source) new =
+    ap (take c.size-len.result) c.deref.ensures.value ∙
+    ap (λ (n : ℕ). take n (boxed_slice_items column)) c.size-len.ensures ∙ ap (take (size_of source)) same in
+    subst (λ (us : List BidiUnit). IfSome c.look_up-classes.result (λ set. IsSetOf set (classes_of us))) (sym text)
+    c.look_up-classes.ensures.classes
+
 pub returns : goal.returns
 returns c =
     let ask = c.ask.inside in
@@ -26,10 +42,10 @@ returns c =
     let us : List BidiUnit = units_of c.args.tables.now source in
     let size = size_of source in
     let len : length us ≡ size = length_plain c.args.tables.now source plain in
-    let column = boxed_slice_with_items self.units c.fill.new.units in
-    let same : boxed_slice_items column ≡ c.fill.new.units
-    = refilled self.units c.fill.new.units (c.fill.ensures.len ∙ ap length c.deref_mut.ensures.value) in
-    let front : take size (boxed_slice_items column) ≡ us = ap (take size) same ∙ c.fill.ensures.units in
+    let column = boxed_slice_with_items self.units c.look_up-classes.new.units in
+    let same : boxed_slice_items column ≡ c.look_up-classes.new.units
+    = refilled self.units c.look_up-classes.new.units (c.look_up-classes.ensures.len ∙ ap length c.deref_mut.ensures.value) in
+    let front : take size (boxed_slice_items column) ≡ us = ap (take size) same ∙ c.look_up-classes.ensures.units in
     let text : take c.size-len.result c.deref.result.now ≡ us =
     ap (take c.size-len.result) c.deref.ensures.value ∙
     ap (λ (n : ℕ). take n (boxed_slice_items column)) c.size-len.ensures ∙ front in

@@ -1,6 +1,8 @@
-use Rattle.std.proofs.Common.{rules, ◌≡◌, ◌∙◌, ◌+◌, ◌-◌, ℕ, List, ap, arith, length, refl, subst, sym, take, true}
+use Rattle.std.proofs.Common.{rules, ◌≡◌, ◌∙◌, ◌+◌, ◌-◌, ℕ, List, ap, arith, length, refl, subst, sym, take, true, IfSome}
 use Rattle.std.specs.Prelude.{slice_index}
 use Rattle.std.specs.Box.{boxed_slice_items, boxed_slice_with_items}
+use Rattle.units.specs.Classes.{classes_of}
+use Rattle.paragraph.specs.ClassSets.{IsSetOf}
 use Rattle.units.specs.Layout.{TextLayout, layout_of}
 use Rattle.units.specs.declared.bracket.Unit.{Unit as BidiUnit}
 use Rattle.lines.proofs.Lengths.{length-levels}
@@ -27,7 +29,7 @@ find_indices-requires-clause-some c =
     let columns = c.self.invariant.columns encodes in
     let units_len = c.decode.ensures.units_len ∙ ap length c.deref_mut.ensures.value in
     let starts_len = c.decode.ensures.starts_len ∙ ap length c.deref_mut-2.ensures.value in
-    let f = fronts_of c.args.tables.now (source_seen c.args.source) c.in-Ok.count
+    let f = fronts_of c.args.tables.now (source_seen c.args.source) c.in-Ok.decoded.characters
     (room_of self.scratch) c.decode.new.units c.decode.new.starts
     c.requires c.in-Ok.ensures.decoded c.in-Ok.ensures.whole (omega (
       arith,
@@ -46,7 +48,7 @@ find_indices-requires-clause-starts c =
     let columns = c.self.invariant.columns encodes in
     let units_len = c.decode.ensures.units_len ∙ ap length c.deref_mut.ensures.value in
     let starts_len = c.decode.ensures.starts_len ∙ ap length c.deref_mut-2.ensures.value in
-    let f = fronts_of c.args.tables.now (source_seen c.args.source) c.in-Ok.count
+    let f = fronts_of c.args.tables.now (source_seen c.args.source) c.in-Ok.decoded.characters
     (room_of self.scratch) c.decode.new.units c.decode.new.starts
     c.requires c.in-Ok.ensures.decoded c.in-Ok.ensures.whole (omega (
       arith,
@@ -56,8 +58,8 @@ find_indices-requires-clause-starts c =
     )) (units_len ∙ columns.for_spare_units) (starts_len ∙ columns.for_spare)
     c.decode.new.units c.deref.result.now refl (c.deref.ensures.value ∙
     refilled self.spare c.decode.new.starts starts_len) in
-    let starts = take (c.in-Ok.count + 1) c.deref.result.now in
-    subst (λ (k : ℕ). AreOffsets k starts) {x = length (take c.in-Ok.count c.decode.new.units)} {y =
+    let starts = take (c.in-Ok.decoded.characters + 1) c.deref.result.now in
+    subst (λ (k : ℕ). AreOffsets k starts) {x = length (take c.in-Ok.decoded.characters c.decode.new.units)} {y =
     length starts - 1} (omega (arith, f.len_starts, f.len_units)) f.front
 
 pub find_indices-requires-clause-fits : goal.find_indices-requires-clause-fits
@@ -67,7 +69,7 @@ find_indices-requires-clause-fits c =
     let columns = c.self.invariant.columns encodes in
     let units_len = c.decode.ensures.units_len ∙ ap length c.deref_mut.ensures.value in
     let starts_len = c.decode.ensures.starts_len ∙ ap length c.deref_mut-2.ensures.value in
-    let f = fronts_of c.args.tables.now (source_seen c.args.source) c.in-Ok.count
+    let f = fronts_of c.args.tables.now (source_seen c.args.source) c.in-Ok.decoded.characters
     (room_of self.scratch) c.decode.new.units c.decode.new.starts
     c.requires c.in-Ok.ensures.decoded c.in-Ok.ensures.whole (omega (
       arith,
@@ -77,10 +79,10 @@ find_indices-requires-clause-fits c =
     )) (units_len ∙ columns.for_spare_units) (starts_len ∙ columns.for_spare)
     c.decode.new.units c.deref.result.now refl (c.deref.ensures.value ∙
     refilled self.spare c.decode.new.starts starts_len) in
-    let starts = take (c.in-Ok.count + 1) c.deref.result.now in
+    let starts = take (c.in-Ok.decoded.characters + 1) c.deref.result.now in
     let last : slice_index starts (length starts - 1) ≡ size_of (source_seen c.args.source) =
     ap (slice_index starts) {x = length starts - 1} {y =
-    length (take c.in-Ok.count c.decode.new.units)} (omega (arith, f.len_starts, f.len_units)) ∙ f.front_last in
+    length (take c.in-Ok.decoded.characters c.decode.new.units)} (omega (arith, f.len_starts, f.len_units)) ∙ f.front_last in
     omega (
       arith,
       last,
@@ -116,7 +118,7 @@ returns-in-Err-find_indices c =
     let columns = c.self.invariant.columns encodes in
     let units_len = c.decode.ensures.units_len ∙ ap length c.deref_mut.ensures.value in
     let starts_len = c.decode.ensures.starts_len ∙ ap length c.deref_mut-2.ensures.value in
-    let f = fronts_of c.args.tables.now (source_seen c.args.source) c.in-Ok.count
+    let f = fronts_of c.args.tables.now (source_seen c.args.source) c.in-Ok.decoded.characters
     (room_of self.scratch) c.decode.new.units c.decode.new.starts
     c.requires c.in-Ok.ensures.decoded c.in-Ok.ensures.whole (omega (
       arith,
@@ -128,7 +130,7 @@ returns-in-Err-find_indices c =
     refilled self.spare c.decode.new.starts starts_len) in
     let source = source_seen c.args.source in
     let breaks = c.args.breaks.now in
-    let n = c.in-Ok.count in
+    let n = c.in-Ok.decoded.characters in
     let fault = c.in-Err-find_indices.fault in
     let capacity = ap (λ (r : RoomOf). r.capacity) c.self.view_is in
     let fits : Fits source c.args.self.now = record {
@@ -168,7 +170,7 @@ breaks_at-found-requires c =
     let columns = c.self.invariant.columns encodes in
     let units_len = c.decode.ensures.units_len ∙ ap length c.deref_mut.ensures.value in
     let starts_len = c.decode.ensures.starts_len ∙ ap length c.deref_mut-2.ensures.value in
-    let f = fronts_of c.args.tables.now (source_seen c.args.source) c.in-Ok.count
+    let f = fronts_of c.args.tables.now (source_seen c.args.source) c.in-Ok.decoded.characters
     (room_of self.scratch) c.decode.new.units c.decode.new.starts
     c.requires c.in-Ok.ensures.decoded c.in-Ok.ensures.whole (omega (
       arith,
@@ -178,12 +180,20 @@ breaks_at-found-requires c =
     )) (units_len ∙ columns.for_spare_units) (starts_len ∙ columns.for_spare)
     c.decode.new.units c.deref.result.now refl (c.deref.ensures.value ∙
     refilled self.spare c.decode.new.starts starts_len) in
-    let starts = take (c.in-Ok.count + 1) c.deref.result.now in
+    let starts = take (c.in-Ok.decoded.characters + 1) c.deref.result.now in
     let indices_len = c.find_indices.ensures.len ∙ ap length c.deref_mut-3.ensures.value in
     let found = c.deref-2.ensures.value ∙ refilled self.indices c.find_indices.new.indices indices_len in
-    subst (λ (xs : List ℕ). AreBreaks (take (length c.args.breaks.now) xs) c.in-Ok.count) (sym found)
+    subst (λ (xs : List ℕ). AreBreaks (take (length c.args.breaks.now) xs) c.in-Ok.decoded.characters) (sym found)
     (subst (AreBreaks (take (length c.args.breaks.now) c.find_indices.new.indices)) {x = length starts - 1} {y =
-    c.in-Ok.count} (omega (arith, f.len_starts)) c.in_default.ensures.characters)
+    c.in-Ok.decoded.characters} (omega (arith, f.len_starts)) c.in_default.ensures.characters)
+
+pub lay_out_units-requires-clause-classes : goal.lay_out_units-requires-clause-classes
+lay_out_units-requires-clause-classes c =
+    let self = c.self.inside in
+    let units_len = c.decode.ensures.units_len ∙ ap length c.deref_mut.ensures.value in
+    let text = c.deref-3.ensures.value ∙ refilled self.spare_units c.decode.new.units units_len in
+    subst (λ (us : List BidiUnit). IfSome c.in-Ok.decoded.classes
+    (λ set. IsSetOf set (classes_of (take c.in-Ok.decoded.characters us)))) (sym text) c.in-Ok.ensures.classes
 
 pub lay_out_units-requires-clause-len : goal.lay_out_units-requires-clause-len
 lay_out_units-requires-clause-len c =
@@ -192,7 +202,7 @@ lay_out_units-requires-clause-len c =
     let columns = c.self.invariant.columns encodes in
     let units_len = c.decode.ensures.units_len ∙ ap length c.deref_mut.ensures.value in
     let starts_len = c.decode.ensures.starts_len ∙ ap length c.deref_mut-2.ensures.value in
-    let f = fronts_of c.args.tables.now (source_seen c.args.source) c.in-Ok.count
+    let f = fronts_of c.args.tables.now (source_seen c.args.source) c.in-Ok.decoded.characters
     (room_of self.scratch) c.decode.new.units c.decode.new.starts
     c.requires c.in-Ok.ensures.decoded c.in-Ok.ensures.whole (omega (
       arith,
@@ -212,7 +222,7 @@ lay_out_units-requires-clause-fits c =
     let columns = c.self.invariant.columns encodes in
     let units_len = c.decode.ensures.units_len ∙ ap length c.deref_mut.ensures.value in
     let starts_len = c.decode.ensures.starts_len ∙ ap length c.deref_mut-2.ensures.value in
-    let f = fronts_of c.args.tables.now (source_seen c.args.source) c.in-Ok.count
+    let f = fronts_of c.args.tables.now (source_seen c.args.source) c.in-Ok.decoded.characters
     (room_of self.scratch) c.decode.new.units c.decode.new.starts
     c.requires c.in-Ok.ensures.decoded c.in-Ok.ensures.whole (omega (
       arith,
@@ -229,7 +239,7 @@ pub invariant_of-self-2 : goal.invariant_of-self-2
 invariant_of-self-2 c =
     let self = c.self.inside in
     let source = source_seen c.args.source in
-    let n = c.in-Ok.count in
+    let n = c.in-Ok.decoded.characters in
     let encodes : self.encodes ≡ true = search rules in
     let columns = c.self.invariant.columns encodes in
     let units_len = c.decode.ensures.units_len ∙ ap length c.deref_mut.ensures.value in
@@ -291,7 +301,7 @@ pub returns : goal.returns
 returns c =
     let self = c.self.inside in
     let source = source_seen c.args.source in
-    let n = c.in-Ok.count in
+    let n = c.in-Ok.decoded.characters in
     let encodes : self.encodes ≡ true = search rules in
     let columns = c.self.invariant.columns encodes in
     let units_len = c.decode.ensures.units_len ∙ ap length c.deref_mut.ensures.value in
