@@ -1,11 +1,7 @@
 -- A list that is filled with the items of a field.
-use Rattle.std.proofs.Common.{◌≡◌, ℕ, ◌+◌, ◌*◌, ◌<◌, ◌≤◌, Option, None, Some, List, ◌++◌, length}
+use Rattle.std.proofs.Common.{◌≡◌, ℕ, ◌+◌, ◌*◌, ◌<◌, ◌≤◌, Option, List, length}
 use Rattle.units.specs.Text.{items_of, each_read}
-
--- these items, and then what is read
-abbrev pub read_after : {A : Type 0} → List A → Option (List A) → Option (List A)
-read_after xs None = None
-read_after xs (Some ys) = Some (xs ++ ys)
+use Rattle.bidtests.specs.ShortItems.{read_after}
 
 module _ {A : Type 0} (reading : List ℕ → Option A) where
   -- these items were read, and this is the rest of the field

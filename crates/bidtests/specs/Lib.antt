@@ -15,3 +15,5 @@ pub mod JudgedSoFar
 pub mod WorkedClassesFiles
 pub mod WorkedCharactersFiles
 pub mod VerdictText
+pub mod PlainRows
+pub mod ShortItems

@@ -5,7 +5,8 @@ ghost use Rattle.bidtests.specs.CharactersFile.{direction_field, para_field, cha
 ghost use Rattle.ucdfiles.specs.Tables.{unit_by};
 ghost use Rattle.bidtests.specs.Readings.{expected_read, fields_in};
 
-use crate::item::{CharacterItems, LevelItems, OrderItems, read_items};
+use crate::item::{CharacterItems, LevelItems, OrderItems};
+use crate::short_items::read_list;
 use crate::verdict::Cause;
 use ucdfiles::tables::Tables;
 use units::bracket::Unit;
@@ -91,7 +92,7 @@ pub fn read_characters_row(
     let Some(fields) = fields(content) else {
         return Err(Cause::FieldCount);
     };
-    if !read_items(&CharacterItems { tables }, fields.characters, text) {
+    if !read_list(&CharacterItems { tables }, fields.characters, text) {
         return Err(Cause::CodePoint);
     }
     if text.is_empty() {
@@ -99,10 +100,10 @@ pub fn read_characters_row(
     }
     let direction = direction(fields.direction).ok_or(Cause::DirectionField)?;
     let para_level = para_level(fields.para_level).ok_or(Cause::ParaField)?;
-    if !read_items(&LevelItems, fields.levels, levels) {
+    if !read_list(&LevelItems, fields.levels, levels) {
         return Err(Cause::LevelItem);
     }
-    if !read_items(&OrderItems, fields.order, order) {
+    if !read_list(&OrderItems, fields.order, order) {
         return Err(Cause::OrderItem);
     }
     Ok((direction, para_level))

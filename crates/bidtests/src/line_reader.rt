@@ -12,6 +12,8 @@ use crate::directions::alone;
 use crate::expected::Expected;
 use crate::item::{LevelItems, OrderItems, read_items};
 use crate::kind::Kind;
+use crate::names::first_name;
+use crate::plain_row::read_plain_row;
 use crate::verdict::Cause;
 use std::alloc::Global;
 use std::marker::Model;
@@ -74,6 +76,8 @@ fn list<T: Copy>(alloc: Global) -> Result<Vec<T>, Memory>
 impl LineReader {
     ghost use Rattle.bidtests.specs.LineReadings.{LineReading, expected_in, finding_by, finding_read};
     ghost use Rattle.bidtests.specs.LineReadings.{finding_after, HasListed, HasNoList, IsAfterOneLine};
+    ghost use Rattle.bidtests.specs.LineReadings.{levels_in, order_in};
+    ghost use Rattle.bidtests.specs.ClassesFile.{row_under};
     ghost use Rattle.bidtests.specs.Readings.{expected_of};
 
     /// Creates a reader before the first line.
@@ -140,6 +144,22 @@ impl LineReader {
         }
     }
 
+    /// Returns what a row of classes asks for, of which the text was read. It expects the lists in force.
+    fn asked(&self, directions: &'static [Direction]) -> Result<Option<Asked>, Cause>
+        requires { length directions.now ≤ 4 }
+        ensures found { finding_read result self.now
+            ≡ row_under self.now.text directions.now (levels_in self.now) (order_in self.now) }
+        ensures few { IfOk result (λ row. IfSome row HasFewDirections) }
+    {
+        if !self.has_levels || !self.has_order {
+            return Err(Cause::NoExpectation);
+        }
+        Ok(Some(Asked {
+            directions,
+            para_level: None,
+        }))
+    }
+
     /// Reads a row of classes, which expects the lists in force.
     fn read_classes(&mut self, content: &[u8]) -> Result<Option<Asked>, Cause>
         requires { length content.now ≤ longest_line }
@@ -150,13 +170,25 @@ impl LineReader {
         ensures few { IfOk result (λ row. IfSome row HasFewDirections) }
     {
         let directions = read_classes_row(content, &mut self.text)?;
-        if !self.has_levels || !self.has_order {
-            return Err(Cause::NoExpectation);
-        }
-        Ok(Some(Asked {
-            directions,
-            para_level: None,
-        }))
+        self.asked(directions)
+    }
+
+    /// Reads a line that is a row of classes in its usual form, and does what `read_classes_line` does for it. Returns
+    /// `None` for every other line.
+    fn read_plain(&mut self, line: &[u8]) -> Option<Result<Option<Asked>, Cause>>
+        requires { length line.now ≤ longest_line }
+        ensures found { IfSome result (λ read. finding_read read self.new
+            ≡ finding_by self.old (classes_line line.now)) }
+        ensures lists { IfSome result (λ read. OnOk read (HasListed (classes_line line.now) self.old self.new)) }
+        ensures fits { IfSome result (λ read. OnOk read (length self.new.text ≤ MOST_UNITS)) }
+        ensures few { IfSome result (λ read. IfOk read (λ row. IfSome row HasFewDirections)) }
+        ensures levels { levels_in self.new ≡ levels_in self.old }
+        ensures order { order_in self.new ≡ order_in self.old }
+    {
+        // A line that begins otherwise leaves the text of the row before.
+        first_name(line)?;
+        let directions = read_plain_row(line, &mut self.text)?;
+        Some(self.asked(directions))
     }
 
     /// Reads a row of characters, which has its own lists.
@@ -189,6 +221,9 @@ impl LineReader {
         ensures fits { IfOk result (λ row. IsSome row → length self.new.text ≤ MOST_UNITS) }
         ensures few { IfOk result (λ row. IfSome row HasFewDirections) }
     {
+        if let Some(read) = self.read_plain(line) {
+            return read;
+        }
         let content = content(line);
         if content.is_empty() {
             Ok(None)

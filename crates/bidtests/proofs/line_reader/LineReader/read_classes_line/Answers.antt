@@ -2,6 +2,7 @@ use Rattle.std.proofs.Common.{◌≡◌, ◌<◌, length, rules, refl}
 use Rattle.bidtests.specs.ClassesFile.{Nothing, classes_line, directive, classes_row}
 use Rattle.units.specs.Text.{fields_of}
 use Rattle.bidtests.proofs.LineSays.{not_empty, says-nothing, says-directive, says-row}
+use Rattle.bidtests.proofs.LineReads.{listed-as}
 use Rattle.bidtests.proofs.line_reader.LineReader.read_classes_line.Goals as goal
 
 pub returns-then-is_empty-clause-found : goal.returns-then-is_empty-clause-found
@@ -16,7 +17,7 @@ returns-then-is_empty-clause-lists c =
     let none : length c.content-content.result.now ≡ 0 = search rules in
     let e : classes_line c.args.line.now ≡ Nothing =
     says-nothing c.args.line.now _ c.content-content.ensures.content c.requires none in
-    rw e (record { levels = refl; order = refl })
+    rw e (record { levels = c.read_plain.ensures.levels; order = c.read_plain.ensures.order })
 
 pub returns-then-content-eq64-clause-found : goal.returns-then-content-eq64-clause-found
 returns-then-content-eq64-clause-found c =
@@ -24,7 +25,7 @@ returns-then-content-eq64-clause-found c =
     not_empty c.content-content.result.now _ c.is_empty.ensures c.if-is_empty.false in
     let e : classes_line c.args.line.now ≡ directive c.content-content.result.now =
     says-directive c.args.line.now _ c.content-content.ensures.content c.requires some c.if-content-eq64.true in
-    rw e c.read_directive.ensures.found
+    rw (e, ← c.read_plain.ensures.levels, ← c.read_plain.ensures.order) c.read_directive.ensures.found
 
 pub returns-then-content-eq64-clause-lists : goal.returns-then-content-eq64-clause-lists
 returns-then-content-eq64-clause-lists c =
@@ -32,7 +33,8 @@ returns-then-content-eq64-clause-lists c =
     not_empty c.content-content.result.now _ c.is_empty.ensures c.if-is_empty.false in
     let e : classes_line c.args.line.now ≡ directive c.content-content.result.now =
     says-directive c.args.line.now _ c.content-content.ensures.content c.requires some c.if-content-eq64.true in
-    rw e c.read_directive.ensures.lists
+    rw e (listed-as c.read_directive.result _ _ _ _ c.read_plain.ensures.levels c.read_plain.ensures.order
+    c.read_directive.ensures.lists)
 
 pub returns-else-content-eq64-clause-found : goal.returns-else-content-eq64-clause-found
 returns-else-content-eq64-clause-found c =
@@ -40,7 +42,7 @@ returns-else-content-eq64-clause-found c =
     not_empty c.content-content.result.now _ c.is_empty.ensures c.if-is_empty.false in
     let e : classes_line c.args.line.now ≡ classes_row (fields_of c.content-content.result.now) =
     says-row c.args.line.now _ c.content-content.ensures.content c.requires some c.if-content-eq64.false in
-    rw e c.read_classes.ensures.found
+    rw (e, ← c.read_plain.ensures.levels, ← c.read_plain.ensures.order) c.read_classes.ensures.found
 
 pub returns-else-content-eq64-clause-lists : goal.returns-else-content-eq64-clause-lists
 returns-else-content-eq64-clause-lists c =
@@ -48,4 +50,5 @@ returns-else-content-eq64-clause-lists c =
     not_empty c.content-content.result.now _ c.is_empty.ensures c.if-is_empty.false in
     let e : classes_line c.args.line.now ≡ classes_row (fields_of c.content-content.result.now) =
     says-row c.args.line.now _ c.content-content.ensures.content c.requires some c.if-content-eq64.false in
-    rw e c.read_classes.ensures.lists
+    rw e (listed-as c.read_classes.result _ _ _ _ c.read_plain.ensures.levels c.read_plain.ensures.order
+    c.read_classes.ensures.lists)
