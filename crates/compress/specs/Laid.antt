@@ -72,8 +72,8 @@ LeadsOn direction us stack p =
 abbrev pub class_after : List BidiUnit → ℕ → Class
 class_after us p = (first_unit (remaining_units (drop (p + 1) us))).class
 
--- W7: the unit at this position is a number without a bracket, and becomes this letter, L, after L or neutrals after it:
--- what comes next is of a class that joins no number
+-- W7: the unit at this position is a number without a bracket, and becomes this letter, L, after L or neutrals after
+-- it: what comes next is of a class that joins no number
 pub record BecomesLetter (letter : Class) (us : List BidiUnit) (p : ℕ) : Type 0 where
   pub is_l : letter ≡ L
   pub number : (slice_index_or us p no_unit).class ≡ EN
@@ -106,8 +106,8 @@ pub record AreFew (direction : Class) (us chosen starts : List BidiUnit) (m : �
   pub fits : m ≤ length chosen
   pub starts_fit : m ≤ length starts
 
--- the level of the unit at p, by the levels of the first m chosen ones: that of the last one that begins before or at p;
--- none if X9 removes the unit, or before all of them
+-- the level of the unit at p, by the levels of the first m chosen ones: that of the last one that begins before or at
+-- p; none if X9 removes the unit, or before all of them
 abbrev pub level_by : List BidiUnit → List BidiUnit → List (Option ℕ) → ℕ → ℕ → Option ℕ
 level_by us starts few zero p = None
 level_by us starts few (suc m) p =

@@ -107,7 +107,7 @@ fn write_back<L: Ledger>(
 }
 
 /// Writes this level from `start` up to `end`, and perhaps at positions before these, but at none before `lowest`.
-fn write_mostly_back<L: Ledger>(
+fn write_run<L: Ledger>(
     lowest: usize,
     start: usize,
     end: usize,
@@ -157,10 +157,10 @@ fn spread_all<L: Ledger>(
     for k in (0..m).rev() {
         let start = start_of(starts[k]);
         let level = levels[k];
-        write_mostly_back(k, start, end, &level, levels, steps);
+        write_run(k, start, end, &level, levels, steps);
         end = start;
     }
-    write_mostly_back(0, 0, end, &None, levels, steps);
+    write_run(0, 0, end, &None, levels, steps);
 }
 
 /// X9: Writes the levels of any paragraph, as `spread` does.

@@ -259,7 +259,7 @@ fn turn_other(
 /// What is known after a turn: how many units are chosen, the last strong class, and the position from which on the
 /// next unit is.
 #[derive(Clone, Copy)]
-struct Now {
+struct AfterTurn {
     m: usize,
     strong: Class,
     end: usize,
@@ -274,7 +274,7 @@ fn turn<L: Ledger>(
     para: &[Unit],
     p: usize,
     steps: &mut Steps<L>,
-) -> Now
+) -> AfterTurn
     requires chosen { m < length chosen.old }
     requires starts { m < length starts.old }
     requires here { p < length para.now }
@@ -299,7 +299,7 @@ fn turn<L: Ledger>(
     let class = para[p].class;
     if class.is_strong() {
         let m = turn_letter(known.direction, chosen, starts, m, para, p);
-        return Now {
+        return AfterTurn {
             m,
             strong: class,
             end: p + 1,
@@ -307,14 +307,14 @@ fn turn<L: Ledger>(
     }
     if needs_next(known.strong, class) {
         let turned = turn_by_next(known, chosen, starts, m, para, p, steps);
-        return Now {
+        return AfterTurn {
             m: turned.m,
             strong: known.strong,
             end: turned.end,
         };
     }
     let m = turn_other(known.direction, chosen, starts, m, para, p);
-    Now {
+    AfterTurn {
         m,
         strong: known.strong,
         end: p + 1,
@@ -441,7 +441,12 @@ fn pass_singly<L: Ledger>(
 /// time. Returns the position after them.
 // A function of its own, so that its loops have all registers.
 #[inline(never)]
-fn pass_far<L: Ledger>(para: &[Unit], start: usize, set: PassedSet, steps: &mut Steps<L>) -> usize
+fn pass_by_fours<L: Ledger>(
+    para: &[Unit],
+    start: usize,
+    set: PassedSet,
+    steps: &mut Steps<L>,
+) -> usize
     requires { start ≤ length para.now }
     ensures from_start { start ≤ result }
     ensures within { result ≤ length para.now }
@@ -462,12 +467,7 @@ fn pass_far<L: Ledger>(para: &[Unit], start: usize, set: PassedSet, steps: &mut 
 /// them.
 // The first is tested here, because many have no other after them.
 #[inline(always)]
-fn pass_spaced<L: Ledger>(
-    para: &[Unit],
-    start: usize,
-    set: PassedSet,
-    steps: &mut Steps<L>,
-) -> usize
+fn pass_first<L: Ledger>(para: &[Unit], start: usize, set: PassedSet, steps: &mut Steps<L>) -> usize
     requires { start ≤ length para.now }
     ensures from_start { start ≤ result }
     ensures within { result ≤ length para.now }
@@ -484,7 +484,7 @@ fn pass_spaced<L: Ledger>(
         return start;
     }
     steps.tick();
-    pass_far(para, start + 1, set, steps)
+    pass_by_fours(para, start + 1, set, steps)
 }
 
 /// W7: Returns whether the unit at `p` becomes this letter after the letter or after neutrals after it: it is a number,
@@ -636,7 +636,7 @@ fn pass_on<L: Ledger>(
 {
     let set = passed_after(direction, top);
     if set.has(Class::WS) {
-        return pass_spaced(para, start, set, steps);
+        return pass_first(para, start, set, steps);
     }
     if is_bare(top.bracket) && top.class.is_strong() {
         return pass_words(top.class, set, para, start, steps);

@@ -9,18 +9,18 @@ loop-k-init g c = record {
   steps = omega arith;
 }
 
-pub write_mostly_back-requires-clause-lowest : goal.write_mostly_back-requires-clause-lowest
-write_mostly_back-requires-clause-lowest g c =
+pub write_run-requires-clause-lowest : goal.write_run-requires-clause-lowest
+write_run-requires-clause-lowest g c =
     let low = starts_above c.args.para.now c.args.starts.now c.args.m c.args.levels.now c.loop-k.levels c.loop-k.end c.loop-k.k c.loop-k-test.true
     c.loop-k.invariant.spread in
     omega (arith, low, c.start_of-start.ensures)
 
 pub loop-k-preserved : goal.loop-k-preserved
 loop-k-preserved g c =
-    let w = c.write_mostly_back.ensures in
+    let w = c.write_run.ensures in
     let run = w.run c.args.para.now c.requires.all_remain (omega (arith, c.requires.levels, c.loop-k.auto.levels)) in
     record {
-      spread = spread_one c.args.para.now c.args.starts.now c.args.m c.args.levels.now c.loop-k.levels c.write_mostly_back.new.levels c.loop-k.end
+      spread = spread_one c.args.para.now c.args.starts.now c.args.m c.args.levels.now c.loop-k.levels c.write_run.new.levels c.loop-k.end
           c.start_of-start.result c.loop-k.k c.index-levels-k.result c.loop-k-test.true c.loop-k.invariant.spread c.start_of-start.ensures
           (c.index-levels-k.is
           ∙ get_or_default c.loop-k.levels (c.loop-k.k - 1) c.index-levels-k.result None
@@ -31,11 +31,11 @@ loop-k-preserved g c =
 
 pub returns-clause-resolved : goal.returns-clause-resolved
 returns-clause-resolved g c =
-    let w = c.write_mostly_back-2.ensures in
+    let w = c.write_run-2.ensures in
     let run = w.run c.args.para.now c.requires.all_remain (omega (arith, c.requires.levels, c.loop-k.auto.levels)) in
     let none : c.loop-k.k ≡ 0 = omega (arith, c.loop-k-test.false) in
     let s = subst (λ k. IsSpread c.args.para.now c.args.starts.now c.args.m c.args.levels.now c.loop-k.levels c.loop-k.end k) none
     c.loop-k.invariant.spread in
-    spread_resolves c.args.para.now c.args.starts.now c.args.m c.args.levels.now c.write_mostly_back-2.new.levels
-    (omega (arith, c.requires.laid.within, c.requires.levels)) (omega (arith, c.write_mostly_back-2.auto.levels, c.loop-k.auto.levels, c.requires.levels))
-    (spread_all c.args.para.now c.args.starts.now c.args.m c.args.levels.now c.loop-k.levels c.write_mostly_back-2.new.levels c.loop-k.end s run.inside run.above)
+    spread_resolves c.args.para.now c.args.starts.now c.args.m c.args.levels.now c.write_run-2.new.levels
+    (omega (arith, c.requires.laid.within, c.requires.levels)) (omega (arith, c.write_run-2.auto.levels, c.loop-k.auto.levels, c.requires.levels))
+    (spread_all c.args.para.now c.args.starts.now c.args.m c.args.levels.now c.loop-k.levels c.write_run-2.new.levels c.loop-k.end s run.inside run.above)

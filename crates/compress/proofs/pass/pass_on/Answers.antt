@@ -9,14 +9,14 @@ use Rattle.compress.proofs.pass.pass_on.Goals as goal
 
 pub returns-then-has-clause-leads : goal.returns-then-has-clause-leads
 returns-then-has-clause-leads g c = λ chosen starts k e laid way.
-    let run = c.pass_spaced.ensures in
-    run_leads c.args.direction c.args.para.now chosen starts k c.args.start c.pass_spaced.result c.args.top (has c.passed_after-set.result) e
+    let run = c.pass_first.ensures in
+    run_leads c.args.direction c.args.para.now chosen starts k c.args.start c.pass_first.result c.args.top (has c.passed_after-set.result) e
     c.passed_after-set.ensures run.from_start run.within run.passed run.bare laid way
 
 pub returns-then-has-clause-apart : goal.returns-then-has-clause-apart
 returns-then-has-clause-apart g c = λ chosen k e lt.
-    stop_apart c.args.direction chosen k c.args.top (at c.args.para.now c.pass_spaced.result) (has c.passed_after-set.result) e
-    c.passed_after-set.ensures (c.pass_spaced.ensures.stopped lt)
+    stop_apart c.args.direction chosen k c.args.top (at c.args.para.now c.pass_first.result) (has c.passed_after-set.result) e
+    c.passed_after-set.ensures (c.pass_first.ensures.stopped lt)
 
 pub returns-then-is_strong-clause-leads : goal.returns-then-is_strong-clause-leads
 returns-then-is_strong-clause-leads g c = λ chosen starts k e laid way.

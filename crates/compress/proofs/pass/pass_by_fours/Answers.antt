@@ -1,6 +1,6 @@
 use Rattle.std.proofs.Common.{inl, inr}
 use Rattle.std.proofs.lemmas.Bool.{cases_lt}
-use Rattle.compress.proofs.pass.pass_far.Goals as goal
+use Rattle.compress.proofs.pass.pass_by_fours.Goals as goal
 
 pub returns-clause-passed : goal.returns-clause-passed
 returns-clause-passed g c = λ q a b.
