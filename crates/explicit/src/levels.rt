@@ -307,6 +307,8 @@ fn find_explicit<L: Ledger>(
 /// X9, BD2). `out` has capacity for the paragraph, and `map` was filled from it. The levels of an earlier paragraph are
 /// overwritten. Each position is a step. So is each stretch of successive ordinary classes, and each entry of the stack
 /// (X1) that a PDI or the paragraph's end drops.
+// Never inlined, so that its loops have all registers.
+#[inline(never)]
 pub fn explicit_levels<L: Ledger>(
     para: &[Unit],
     map: &IsolateMap,

@@ -154,8 +154,8 @@ fn write_levels<L: Ledger>(
 }
 
 /// Writes the explicit levels of a paragraph of level 0 without R and AL, up to the depth of the limits (X1 to X9,
-/// BD2). `room` is unchanged. Each position is a step. So is each stretch of successive ordinary classes, and each entry
-/// of the stack (X1) that a PDI or the paragraph's end drops.
+/// BD2). `room` is unchanged. Each position is a step. So is each stretch of successive ordinary classes, and each
+/// entry of the stack (X1) that a PDI or the paragraph's end drops.
 pub fn explicit_levels_alone<L: Ledger>(
     para: &[Unit],
     limits: Limits,
