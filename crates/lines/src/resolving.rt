@@ -255,8 +255,8 @@ fn resolve_paragraphs<L: Ledger>(
 
 /// Writes the levels of a text's paragraphs, their ends, and the resolved levels of its positions to the fronts of
 /// their columns, paragraph by paragraph, with these options. Writes the ends of its lines to the front of `bounds`;
-/// each paragraph ends a line. Its first paragraph is known. A paragraph that is one line and keeps its level is resolved
-/// at once only if X9 may remove positions: the caller has resolved the others with `resolve_line`.
+/// each paragraph ends a line. Its first paragraph is known. A paragraph that is one line and keeps its level is
+/// resolved at once only if X9 may remove positions: the caller has resolved the others with `resolve_line`.
 pub(crate) fn resolve_text<L: Ledger>(
     text: &[Unit],
     first: FirstParagraph,

@@ -464,9 +464,9 @@ impl FirstParagraph {
         }
     }
 
-    /// P1: Returns what `of` returns, for a caller that may know the set of the classes of the text. If the set is given
-    /// and has no separator, the text is its own first paragraph, and the set shows its contents. Each unit counts as a
-    /// step, because it was passed when the set was found.
+    /// P1: Returns what `of` returns, for a caller that may know the set of the classes of the text. If the set is
+    /// given and has no separator, the text is its own first paragraph, and the set shows its contents. Each unit
+    /// counts as a step, because it was passed when the set was found.
     // Inlined, a short paragraph takes fewer instructions.
     #[inline(always)]
     pub fn of_known<L: Ledger>(

@@ -1,4 +1,4 @@
 use Rattle.lines.proofs.scratch.Scratch.fill_known.Goals as goal
 
 pub returns-in-Some-clause-holds : goal.returns-in-Some-clause-holds
-returns-in-Some-clause-holds g c = c.fill_line.ensures.holds c.args.limits
+returns-in-Some-clause-holds g c = c.fill_one_line.ensures.holds c.args.limits

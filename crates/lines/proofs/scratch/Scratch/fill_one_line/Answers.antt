@@ -11,7 +11,7 @@ use Rattle.lines.specs.Room.{items_in}
 use Rattle.lines.proofs.AtParas.{all_stay, text_at_paras}
 use Rattle.lines.proofs.OneLevel.{all_at_para}
 use Rattle.lines.proofs.TextLevels.{laid_out, para_level}
-use Rattle.lines.proofs.scratch.Scratch.fill_line.Goals as goal
+use Rattle.lines.proofs.scratch.Scratch.fill_one_line.Goals as goal
 
 pub arrange-filled-requires-clause-paras : goal.arrange-filled-requires-clause-paras
 arrange-filled-requires-clause-paras g c =
