@@ -71,6 +71,8 @@ impl IsolateMap {
     }
 
     /// Finds the isolates of a paragraph within the capacity. The isolates of an earlier paragraph are overwritten.
+    // Never inlined, so that its loops have all registers.
+    #[inline(never)]
     pub fn fill<L: Ledger>(&mut self, para: &[Unit], steps: &mut Steps<L>)
         requires { length para.now ≤ room self.old }
         ensures same_room { room self.new ≡ room self.old }

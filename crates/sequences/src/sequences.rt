@@ -147,6 +147,8 @@ impl Sequences {
     /// Finds the sequences of a paragraph of this level, from its isolates (BD9) and its explicit levels (X1 to X9),
     /// which can be up to any depth. The paragraph must fit into the capacity. The sequences of an earlier paragraph
     /// are overwritten.
+    // Never inlined, so that its loops have all registers.
+    #[inline(never)]
     pub fn fill<L: Ledger>(
         &mut self,
         para: &[Unit],
