@@ -227,9 +227,6 @@ fn write_rest(
     classes
 }
 
-/// From how many code points on they are looked up in blocks. Fewer take fewer instructions one by one.
-const SEVERAL: usize = 8;
-
 /// Does what `look_up_codes` does. Takes fewer instructions than its loop if there are several code points.
 #[inline(never)]
 fn look_up_long(units: &mut [Unit], tables: &Tables, codes: &[u32]) -> ClassSet
@@ -283,7 +280,7 @@ pub fn look_up_codes(units: &mut [Unit], tables: &Tables, codes: &[u32]) -> Opti
     ensures units { take (length codes.now) units.new ≡ units_by tables.now codes.now }
     ensures classes { IfSome result (λ set. IsSetOf set (classes_of (take (length codes.now) units.new))) }
 {
-    if codes.len() >= SEVERAL {
+    if codes.len() >= BLOCK {
         return Some(look_up_long(units, tables, codes));
     }
     fill_short(units, tables, codes);
