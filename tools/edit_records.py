@@ -1,12 +1,15 @@
-"""Records that all wrong bodies of a crate were rejected, with sums that show whether a record still holds.
+"""Records which wrong bodies were rejected, with sums that show whether a record still holds.
 
-Whether the prover rejects an edit depends on the crate's own files, on the contracts and definitions of the crates
-below it, on what each of them names in crates.txt, and on the kit. The sum covers just these. It leaves out what no
-check of the crate can see of those below: the bodies of functions, proofs, edits, comments and the files that programs
-run on.
+Two sums are stored for each wrong body. One is over what it is: its own text, and the right code of the functions that
+it changes. The other is over all else that decides whether the prover rejects it: the kit, and of its crate and of
+those below what crates.txt says of them, all of specs/, and the signatures, contracts, types and constants of the
+sources. Bodies of other functions, proofs, comments and the files that programs run on aren't in it.
 
-tools/try_edits.py writes and reads records. A record is the file RECORD in the crate's folder.
+tools/try_edits.py writes and reads records. The file RECORD in a crate's folder has those of the crate, one on each
+line: the wrong body and its two sums.
 """
+import dataclasses
+import functools
 import glob
 import hashlib
 import math
@@ -15,11 +18,19 @@ import re
 import subprocess
 
 RECORD = "edits.rejected"
-OWN = ("src/**/*.rt", "specs/**/*.antt", "proofs/**/*.antt", "wrong/*.edit", "must-fail/*.edit")
-SEEN_ABOVE = ("src/**/*.rt", "specs/**/*.antt")
+HEAD = "# wrong body, sum of what it is, sum of what else decides whether it is rejected (tools/edit_records.py)\n"
+DIGITS = 16
 DRAWN_OF = 10
 FUNCTION = re.compile(r"( *)(?:pub(?:\([a-z]+\))? )?(?:unsafe )?(?:extern \"C\" )?fn \w")
 COMMENT = re.compile(r"\s*(?://|--)")
+
+
+@dataclasses.dataclass(frozen=True)
+class Sums:
+    """The sum of what a wrong body is, and the sum of what else decides whether it is rejected."""
+
+    own: str
+    others: str
 
 
 def body_begins(line, indent, is_first):
@@ -50,49 +61,68 @@ def without_comments(text):
     return "\n".join(it for it in text.split("\n") if it.strip() and not COMMENT.match(it))
 
 
-def files_at(folder, patterns):
-    """Returns the paths of the files below a folder that one of these patterns matches, in order."""
-    return sorted({it for pattern in patterns for it in glob.glob(pattern, root_dir=folder, recursive=True)})
-
-
-def sum_of(name, deps, below, crates="crates"):
-    """Returns the sum of a crate. `deps` has the crates that each one names, and `below` all below this one."""
+def digits_of(*texts):
+    """Returns the first digits of a sum over these texts."""
     total = hashlib.sha256()
+    for text in texts:
+        total.update(f"{len(text)}\0{text}\0".encode())
+    return total.hexdigest()[:DIGITS]
 
-    def add(label, text):
-        total.update(f"{label}\0{len(text)}\0{text}\0".encode())
 
-    add("kit", subprocess.run(["rt", "version"], capture_output=True, text=True, check=True).stdout.strip())
-    for crate in sorted({name, *below}):
-        add(f"line {crate}", " ".join(deps[crate]))
-        for path in files_at(f"{crates}/{crate}", OWN if crate == name else SEEN_ABOVE):
-            with open(f"{crates}/{crate}/{path}", encoding="utf-8") as it:
+def seen_of(folder):
+    """Returns the sum of what a check of the crate in this folder, or of one above it, sees of it, besides bodies of
+    functions and proofs."""
+    texts = []
+    for pattern in ("src/**/*.rt", "specs/**/*.antt"):
+        for path in sorted(glob.glob(pattern, root_dir=folder, recursive=True)):
+            with open(f"{folder}/{path}", encoding="utf-8") as it:
                 text = it.read()
-            if crate != name:
-                text = without_comments(without_bodies(text) if path.endswith(".rt") else text)
-            add(f"{crate}/{path}", text)
-    return total.hexdigest()
+            texts += [path, without_comments(without_bodies(text) if path.endswith(".rt") else text)]
+    return digits_of(*texts)
 
 
-def recorded(folder):
-    """Returns the sum that a crate's record names, and none if it has no record."""
+@functools.lru_cache(maxsize=None)
+def kit():
+    """Returns the kit's line."""
+    return subprocess.run(["rt", "version"], capture_output=True, text=True, check=True).stdout.strip()
+
+
+def others_of(crates):
+    """Returns for each of these crates, by name, the sum of what else decides whether its wrong bodies are rejected."""
+    seen = {name: digits_of(name, " ".join(it.deps), seen_of(it.folder)) for name, it in crates.items()}
+    return {name: digits_of(kit(), *(seen[it] for it in sorted({name, *crate.below})))
+            for name, crate in crates.items()}
+
+
+def sums_of(edit, others):
+    """Returns the sums of an edit, whose crate has this sum of all else."""
+    codes = ["::".join(path) + without_comments(edit.functions[path]) for path in sorted(edit.functions)]
+    return Sums(digits_of(edit.text, *codes), others)
+
+
+def recorded(crate):
+    """Returns the sums that a crate's record names, by edit."""
     try:
-        with open(f"{folder}/{RECORD}", encoding="utf-8") as it:
-            return it.read().split()[-1]
-    except (FileNotFoundError, IndexError):
-        return None
+        lines = crate.text(RECORD).splitlines()
+    except FileNotFoundError:
+        return {}
+    rows = (it.split() for it in lines if not it.startswith("#"))
+    return {row[0]: Sums(row[1], row[2]) for row in rows if len(row) == 3}
 
 
-def record(folder, count, found):
-    """Writes the record: so many edits of the crate, with this sum, were all rejected."""
-    with open(f"{folder}/{RECORD}", "w", encoding="utf-8") as it:
-        it.write(f"{count} edits rejected, of {found}\n")
+def record(crate, sums):
+    """Writes the record of a crate: the sums of its edits that were rejected, by edit."""
+    crate.put(RECORD, HEAD + "".join(f"{name} {sums[name].own} {sums[name].others}\n" for name in sorted(sums)))
 
 
 def drawn(labels, commit):
-    """Returns a tenth of these edits, rounded up, as the hash of a commit draws them."""
-    order = sorted(labels, key=lambda it: hashlib.sha256(f"{commit} {it}".encode()).digest())
-    return set(order[: math.ceil(len(order) / DRAWN_OF)])
+    """Returns a tenth of these labels, rounded up, as the hash of a commit draws them."""
+    return set(in_drawn_order(labels, commit)[: math.ceil(len(labels) / DRAWN_OF)])
+
+
+def in_drawn_order(labels, commit):
+    """Returns these labels in the order in which the hash of a commit draws them."""
+    return sorted(labels, key=lambda it: hashlib.sha256(f"{commit} {it}".encode()).digest())
 
 
 def commit_here():

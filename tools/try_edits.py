@@ -1,28 +1,33 @@
 #!/usr/bin/env python3
 """Checks that the prover rejects wrong bodies, many in one check.
 
-usage: tools/try_edits.py [--all] [--read] [CRATE | CRATE/EDIT ..]      (at the top; with no name: every crate)
-       tools/try_edits.py --record [--here] [CRATE ..]
-       tools/try_edits.py [--changed] [--minutes=N] --here [CRATE ..]
+usage: tools/try_edits.py [--all] [--record] [--here] [--minutes=N] [CRATE | CRATE/EDIT ..]
+       tools/try_edits.py --changed [--record] [--here] [--minutes=N] [CRATE ..]
+       tools/try_edits.py --read [--all] [CRATE | CRATE/EDIT ..]
+                                                    (at the top of the repository; with no name: every crate)
 
 An edit is a file that describes a wrong body (docs/CHANGING.md). The tool takes the edits in crates/CRATE/wrong/ and,
 with --all, those in must-fail/ too. A named edit may be in either folder. With --read it checks nothing and lists the
 edits that can't be applied to the files as they are, or that don't parse then. It prints a line for each edit, and the
-last line is 'N passed, M failed'. The status is 1 if any failed.
+last line is 'N passed, M failed, K stale'. The status is 1 if any failed. An edit that was asked for and not tried has
+failed.
 
-With --record it tries all edits of both folders. If all of a crate's were rejected, it writes that to a record in the
-crate (edit_records.py), with a sum over all that it depends on. With --changed it tries all edits in wrong/ of each
-crate whose sum differs from that of its record, or that has none. Besides, it tries a tenth of all edits in wrong/,
-which the hash of the commit draws. So a record that isn't true makes a run fail sooner or later. It tries the drawn
-edits of a crate first.
+With --record the tool records each edit of wrong/ that was rejected, as soon as it is (edit_records.py): in the crate's
+folder, with the sum of what the edit is (its text and the functions that it changes) and the sum of what else decides
+whether it is rejected. With --changed the tool tries these edits of wrong/, in this order:
 
-With --minutes=N it starts no check after N minutes. It names the crates with edits that it didn't come to, and counts
-these. They are neither passed nor failed, and a crate that has some gets no record, so the next run tries them.
+1. a tenth of all, drawn by the hash of the commit, so that a record that isn't true makes a run fail sooner or later;
+2. those with no record, and those that are something else than what was recorded: these two kinds fail if the time ends
+   before they are tried;
+3. those for which only something else changed since they were recorded, in a drawn order of crates. Those that the time
+   doesn't suffice for are stale. The last line counts them, and they don't change the status.
+
+With --minutes=N it starts no check after N minutes.
 
 The tool works in copies of crates/, crates.txt and HANDLES outside the checkout, and uses the commands of the kit
 alone. So the checkout may change meanwhile. A check in a copy proves all crates below its own there. With --here the
 tool works in the checkout itself, over what `rt check` and `rt lib` stored there, and puts back each file that it
-changed. It starts only if all files of crates/ are committed.
+changed. It starts only if all files of crates/ but records are committed.
 
 Callers depend on contracts alone, so a wrong body hides no other. The tool applies the edits of a crate that change
 different functions together, and runs one `rt check` over these functions and their callees. An edit passes there only
@@ -43,14 +48,12 @@ and over the same libraries. Otherwise all edits of the crate fail.
 
 The tool works on as many crates at once as processors and memory allow, or RT_JOBS says. Each crate gets one job. A
 check reads all crates below its own, so each job has its own copy. It takes next the crate that needs the fewest new
-libraries there. With --here it goes from the highest crates down: it begins a crate once it has come to the end of all
-that depend on it, so that no wrong body is ever below a crate that is checked. Then each check gets as many jobs.
+libraries there. With --here it works on two crates at once, of which none depends on the other, so that no wrong body
+is ever below a crate that is checked. Then each check gets as many jobs. It begins with the highest crates.
 """
 import concurrent.futures as futures
 import contextlib
 import dataclasses
-import glob
-import graphlib
 import os
 import re
 import shutil
@@ -62,12 +65,10 @@ import threading
 import time
 
 import edit_records
+from edit_files import Crate, applied, crates_here, files_of, function_at, names_in, read_edit, strays, unknown
 
-FOLDERS = ("wrong", "must-fail")
 BYTES_OF_A_CHECK = 5 << 30
 CRATES_AT_ONCE = 2
-FUNCTION = re.compile(r"( *)(?:pub(?:\([a-z]+\))? )?(?:const )?(?:unsafe )?(?:extern \"C\" )?fn (\w+)")
-OWNER = re.compile(r"(?:unsafe )?impl\b[^{;]*|(?:pub(?:\([a-z]+\))? )?trait \w+")
 OPEN = r"^fn {}::(\S+): (?:not proved|no proof)[^\n]*?did not prove (`[^`]*`)"
 IN_PROOF = re.compile(
     r"^(?:\./)?proofs/(\S+)/(?:Answers|Invariants|Proof|Send)\.antt:\d+:\d+: error: ([^\n]*)", re.M)
@@ -85,49 +86,43 @@ choosing = threading.Lock()
 running = set()
 is_ending = threading.Event()
 ends_at = float("inf")
-untried = {}
 
 
 @dataclasses.dataclass
-class Crate:
-    """A crate of crates.txt, in a folder that is the top of the repository or of a copy of it."""
+class Job:
+    """Edits of one crate that are tried one after another, and what becomes of each: whether it was rejected. One that
+    was not tried isn't there. `turn` says which jobs come first, and `must` that each of its edits has to be tried."""
 
-    name: str
-    deps: list
-    below: set
-    top: str = "."
-    jobs: int = 1
-
-    @property
-    def folder(self):
-        return f"{self.top}/crates/{self.name}"
-
-    def text(self, path):
-        """Returns the text of a file of the crate."""
-        with open(f"{self.folder}/{path}", encoding="utf-8") as it:
-            return it.read()
-
-    def put(self, path, text):
-        """Writes a file of the crate."""
-        os.makedirs(os.path.dirname(f"{self.folder}/{path}"), exist_ok=True)
-        with open(f"{self.folder}/{path}", "w", encoding="utf-8") as it:
-            it.write(text)
-
-    def check(self, words):
-        """Runs `rt check` over it. Returns the status and what was said."""
-        return command(["check", "--jobs", str(self.jobs), *words], self.folder)
+    turn: int
+    crate: Crate
+    files: list
+    must: bool = True
+    results: dict = dataclasses.field(default_factory=dict)
+    faults: int = 0
 
 
-@dataclasses.dataclass
-class Edit:
-    """A wrong body: its pairs of texts, the functions that it changes, and all that it changes, which no other may."""
+class Records:
+    """The records of the crates, in the checkout, for what is rejected from now on."""
 
-    label: str
-    text: str
-    pairs: list
-    functions: set
-    touched: set
-    fault: str
+    def __init__(self, crates):
+        self.crates = crates
+        self.others = edit_records.others_of(crates)
+        self.known = {name: edit_records.recorded(it) for name, it in crates.items()}
+
+    def sums(self, edit):
+        """Returns the sums of an edit."""
+        return edit_records.sums_of(edit, self.others[edit.label.partition("/")[0]])
+
+    def note(self, edit, is_well):
+        """Records that an edit of wrong/ was rejected, or removes its record if it wasn't."""
+        crate, _, name = edit.label.partition("/")
+        if not edit.file.startswith("wrong/"):
+            return
+        with choosing:
+            self.known[crate].pop(name, None)
+            if is_well:
+                self.known[crate][name] = self.sums(edit)
+            edit_records.record(self.crates[crate], self.known[crate])
 
 
 def command(words, folder):
@@ -142,132 +137,9 @@ def command(words, folder):
     return ran.returncode, output
 
 
-def crates_here():
-    """Returns the crates of the repository at whose top the tool runs, by name."""
-    if not os.path.isfile("crates.txt"):
-        sys.exit("no crates.txt: this runs at the top of the repository")
-    named = {}
-    with open("crates.txt", encoding="utf-8") as lines:
-        for line in lines:
-            words, _, below = line.partition("#")[0].partition(":")
-            if words.strip():
-                named[words.split()[0]] = below.split()
-    return {name: Crate(name, named[name], all_below(name, named)) for name in named}
-
-
-def all_below(name, named):
-    """Returns the crates of the repository that a crate depends on, directly or not."""
-    found, left = set(), list(named[name])
-    while left:
-        dep = left.pop()
-        if dep in named and dep not in found:
-            found.add(dep)
-            left += named[dep]
-    return found
-
-
-def parameters_of(header):
-    """Returns the type parameters of an impl, and the text after them."""
-    if not header.startswith("<"):
-        return set(), header
-    depth = 0
-    for at, sign in enumerate(header):
-        depth += (sign == "<") - (sign == ">")
-        if not depth:
-            break
-    return set(re.findall(r"[<,]\s*(?:const )?(\w+)", re.sub(r"'\w+", "", header[: at + 1]))), header[at + 1 :]
-
-
-def owner_of(header):
-    """Returns how the check names what has a method, which is a type followed by the trait or a trait, and that type if
-    it has the method by itself."""
-    header = re.sub(r"\bwhere\b.*", "", header, flags=re.S)
-    if found := re.match(r"(?:pub(?:\(\w+\))? )?trait (\w+)", header):
-        return found[1], ""
-    parameters, header = parameters_of(header.removeprefix("unsafe ").removeprefix("impl"))
-    trait, _, of_type = header.rpartition(" for ")
-    words = re.findall(r"(?:\w+::)*(\w+)", re.sub(r"'\w+", "", f"{of_type} {trait}"))
-    words = [it for it in words if it not in parameters]
-    return "".join(it[0].upper() + it[1:] for it in words), "" if trait else words[0]
-
-
-def home_of(crate, name, path):
-    """Returns the file that defines a type: by it the check names the methods that the type has by itself."""
-    sources = sorted(glob.glob("src/**/*.rt", root_dir=crate.folder, recursive=True))
-    defines = re.compile(rf"^(?:pub(?:\(\w+\))? )?(?:struct|enum|union) {name}\b", re.M)
-    return next((it for it in [path, *sources] if defines.search(crate.text(it))), path)
-
-
-def function_at(crate, path, text, row):
-    """Returns the path, as the check names it, of the function whose lines have this row; None if none does."""
-    lines, owner, own_type = text.split("\n"), "", ""
-    found, end = None, ""
-    for at, line in enumerate(lines[: row + 1]):
-        if header := OWNER.match("\n".join(lines[at : at + 4])):
-            owner, own_type = owner_of(header[0])
-        if it := FUNCTION.match(line):
-            found, end = (owner if it[1] else "", it[2]), f"{it[1]}}}"
-        elif line == end and at < row:
-            found = None
-    if not found:
-        return None
-    file = home_of(crate, own_type, path) if found[0] and own_type else path
-    module = file.removeprefix("src/").removesuffix(".rt").split("/")
-    return tuple(it for it in [*module, *found] if it not in ("", "lib", "main", "mod"))
-
-
-def pairs_of(text):
-    """Returns the pairs of an edit: the file, the old text and the new one."""
-    path, old, pairs = "", "", []
-    for line in text.split("\n"):
-        if line.startswith("file: "):
-            path = line.removeprefix("file: ").strip()
-        elif line.startswith("old: "):
-            old = line.removeprefix("old: ")
-        elif line.startswith("new:"):
-            pairs.append((path, old, line.removeprefix("new:").removeprefix(" ")))
-    return pairs
-
-
-def stray_line(text):
-    """Returns what is wrong with an edit that has a line of another kind: each text of an edit is one line."""
-    known = ("file: ", "old: ", "new:")
-    stray = next((it for it in text.split("\n") if it and not it.startswith(known)), None)
-    return "" if stray is None else f"a line is no 'file:', 'old:' or 'new:': {stray.strip()!r}"
-
-
-def applied(crate, pairs, texts):
-    """Returns texts of files with these pairs put in, and what keeps one from it."""
-    texts = dict(texts)
-    for path, old, new in pairs:
-        if not os.path.isfile(f"{crate.folder}/{path}"):
-            return texts, f"there is no file {path!r}"
-        text = texts.get(path) or crate.text(path)
-        if not old or text.count(old) != 1:
-            return texts, f"an 'old:' text is in {path} {text.count(old) if old else 0} times, and not once"
-        texts[path] = text.replace(old, new)
-    is_changed = any(text != crate.text(path) for path, text in texts.items())
-    return texts, "" if is_changed else "it changes nothing"
-
-
-def read_edit(crate, file):
-    """Reads an edit and finds what it changes in the crate's files."""
-    label = f"{crate.name}/{os.path.basename(file).removesuffix('.edit')}"
-    with open(file, encoding="utf-8") as it:
-        content = it.read()
-    pairs = pairs_of(content)
-    functions, touched, texts = set(), set(), {}
-    for at, (path, old, _) in enumerate(pairs):
-        if applied(crate, pairs[: at + 1], {})[1] not in ("", "it changes nothing"):
-            break
-        text = texts.get(path) or crate.text(path)
-        row = text[: text.index(old)].count("\n")
-        function = function_at(crate, path, text, row)
-        functions |= {function} - {None}
-        touched.add(function or (path, row))
-        texts, _ = applied(crate, [pairs[at]], texts)
-    fault = applied(crate, pairs, {})[1] or stray_line(content)
-    return Edit(label, content, pairs, functions, touched, fault)
+def check(crate, jobs, words):
+    """Runs `rt check` over a crate. Returns the status and what was said."""
+    return command(["check", "--jobs", str(jobs), *words], crate.folder)
 
 
 def round_of(crate, edits):
@@ -304,7 +176,7 @@ def goals_of(crate, texts, output):
         elif not OF_PROOF.match(stuck[1]):
             goals.setdefault(parts_of(folder.split("/")), stuck[1])
     for path, row, goal in NOTED.findall(output):
-        function = function_at(crate, path, texts.get(path) or crate.text(path), int(row) - 1)
+        function, _ = function_at(crate, path, texts.get(path) or crate.text(path), int(row) - 1)
         if function and not OF_PROOF.match(goal):
             goals.setdefault(function, goal)
     return goals, lost
@@ -356,35 +228,10 @@ def own_goal(edit, goals, lost):
 
 def unread(crate, edits, texts, output):
     """Returns those of the edits for which a check did not come to the prover."""
-    at = {function_at(crate, path, texts.get(path) or crate.text(path), int(row) - 1)
+    at = {function_at(crate, path, texts.get(path) or crate.text(path), int(row) - 1)[0]
           for path, row in MISREAD.findall(output)}
     at |= {tuple(path.split("::")) for path in NO_FUNCTION.findall(output)}
-    return [it for it in edits if at & it.functions]
-
-
-def try_round(crate, edits, report):
-    """Checks once what these edits change, all of them together, and says which are rejected. Returns the others."""
-    texts, _ = applied(crate, [pair for it in edits for pair in it.pairs], {})
-    with put_in(crate, texts):
-        status, output = crate.check(words_of(edits))
-    if not re.search(REACHED.format(crate.name), output, re.M):
-        bad = unread(crate, edits, texts, output)
-        rest = [it for it in edits if it not in bad]
-        return bad + try_round(crate, rest, report) if bad and rest else edits
-    if status != 1:
-        return edits
-    goals, lost = goals_of(crate, texts, output)
-    changed = set().union(*(it.functions for it in edits))
-    for path in sorted({*goals, *lost}):
-        if not is_part(path, changed):
-            report(False, f"{crate.name}: {'::'.join(path)} IS REFUSED, and no edit of its round changes it")
-    missed = []
-    for it in edits:
-        if goal := own_goal(it, goals, lost):
-            report(True, f"{it.label}: refused (joint): {goal}")
-        else:
-            missed.append(it)
-    return missed
+    return [it for it in edits if not at.isdisjoint(it.functions)]
 
 
 def is_over():
@@ -392,13 +239,38 @@ def is_over():
     return time.monotonic() >= ends_at
 
 
-def in_rounds(crate, edits, report):
+def try_round(crate, jobs, edits, report):
+    """Checks once what these edits change, all of them together, and says which are rejected. Returns the others."""
+    texts, _ = applied(crate, [pair for it in edits for pair in it.pairs], {})
+    with put_in(crate, texts):
+        status, output = check(crate, jobs, words_of(edits))
+    if not re.search(REACHED.format(crate.name), output, re.M):
+        bad = unread(crate, edits, texts, output)
+        rest = [it for it in edits if it not in bad]
+        return bad + try_round(crate, jobs, rest, report) if bad and rest else edits
+    if status != 1:
+        return edits
+    goals, lost = goals_of(crate, texts, output)
+    changed = set().union(*(it.functions for it in edits))
+    for path in sorted({*goals, *lost}):
+        if not is_part(path, changed):
+            report(None, False, f"{crate.name}: {'::'.join(path)} IS REFUSED, and no edit of its round changes it")
+    missed = []
+    for it in edits:
+        if goal := own_goal(it, goals, lost):
+            report(it, True, f"refused (joint): {goal}")
+        else:
+            missed.append(it)
+    return missed
+
+
+def in_rounds(crate, jobs, edits, report):
     """Tries each of these edits once, together with others, while there is time. Returns those that were not
     rejected."""
     missed, left = [], edits
     while left and not is_over():
         chosen = round_of(crate, left)
-        missed += try_round(crate, chosen, report)
+        missed += try_round(crate, jobs, chosen, report)
         left = [it for it in left if it not in chosen]
     return missed + left
 
@@ -419,90 +291,58 @@ def try_alone(crate, edit):
     return False, f"FAILED (singly): {found[0]}"
 
 
-def try_edits(crate, files):
-    """Tries a crate's edits, prints a line for each, and returns how many passed and how many failed."""
-    counts = [0, 0]
+def try_edits(job, jobs, noted):
+    """Tries the edits of a job, prints a line for each, and stores what became of it there."""
+    crate = job.crate
 
-    def report(is_well, text):
-        counts[not is_well] += 1
+    def report(edit, is_well, text):
+        if edit:
+            job.results[edit.label] = is_well
+            noted(edit, is_well)
+        else:
+            job.faults += 1
         with printing:
-            print(text, flush=True)
+            print(f"{edit.label}: {text}" if edit else text, flush=True)
 
-    edits = [read_edit(crate, f"{crate.folder}/{it}") for it in files]
+    edits = [read_edit(crate, it) for it in job.files]
     for it in edits:
         if it.fault:
-            report(False, f"{it.label}: BAD EDIT: {it.fault}")
+            report(it, False, f"BAD EDIT: {it.fault}")
     tried = [it for it in edits if not it.fault]
-    if is_over():
-        untried[crate.name] = len(tried)
-        return counts
-    if tried and (output := unproved(crate, tried)):
-        report(False, f"{crate.name}: NOT JUDGED, since its right code is not proved here: {output.strip()[-500:]}")
-        return [counts[0], counts[1] + len(tried)]
+    if not tried or is_over():
+        return
+    if output := unproved(crate, jobs, tried):
+        for it in tried:
+            report(it, False, "NOT JUDGED")
+        report(None, False, f"{crate.name}: its right code is not proved here: {output.strip()[-500:]}")
+        return
     joined = [it for it in tried if it.functions]
-    missed = in_rounds(crate, joined, report)
+    missed = in_rounds(crate, jobs, joined, report)
     if len(missed) < len(joined):
-        missed = in_rounds(crate, missed, report)
+        missed = in_rounds(crate, jobs, missed, report)
     with without(crate, "must-fail"):
-        singly = [*missed, *(it for it in tried if not it.functions)]
-        while singly and not is_over():
-            it = singly.pop(0)
-            is_well, text = try_alone(crate, it)
-            report(is_well, f"{it.label}: {text}")
-    if singly:
-        untried[crate.name] = len(singly)
-    return counts
+        for it in [*missed, *(it for it in tried if not it.functions)]:
+            if is_over():
+                break
+            report(it, *try_alone(crate, it))
 
 
-def unproved(crate, edits):
+def unproved(crate, jobs, edits):
     """Returns what a check says of the right code of a function that one of these edits changes, or of the whole crate
     if they change none; nothing if that is proved."""
-    status, output = crate.check(words_of([it for it in edits if it.functions][:1]))
+    status, output = check(crate, jobs, words_of([it for it in edits if it.functions][:1]))
     return output if status else ""
 
 
-def names_in(folder):
-    return sorted(it for it in os.listdir(folder) if it.endswith(".edit")) if os.path.isdir(folder) else []
-
-
-def strays(crates):
-    """Returns the files below a folder of wrong bodies that are none of a crate's edits."""
-    found = []
-    for folder in sorted(glob.glob("crates/*/wrong")):
-        for at, _, names in os.walk(folder):
-            is_read = at == folder and folder.split("/")[1] in crates
-            found += [f"{at}/{it}" for it in sorted(names) if not is_read or not it.endswith(".edit")]
-    return found
-
-
-def files_of(crate, is_all, names):
-    """Returns the files of the crate's edits that were asked for, from its folder on."""
-    chosen = {it.partition("/")[2] for it in names if it.partition("/")[0] == crate.name}
-    files = []
-    for part in FOLDERS:
-        for name in names_in(f"{crate.folder}/{part}"):
-            is_asked = (not names or "" in chosen) and (is_all or part == "wrong")
-            if is_asked or name.removesuffix(".edit") in chosen:
-                files.append(f"{part}/{name}")
-    return files
-
-
-def unknown(crates, names):
-    """Returns the names that name no crate and no edit of one."""
-    known = set(crates)
-    for crate in crates.values():
-        known |= {f"{crate.name}/{it[:-5]}" for part in FOLDERS for it in names_in(f"{crate.folder}/{part}")}
-    return [it for it in names if it not in known]
-
-
-def put_unparsed(crate, edits):
-    """Writes into each of these edits of a crate whether the formatter can't parse what it makes of a file."""
+def put_unparsed(crates, edits):
+    """Writes into each of these edits whether the formatter can't parse what it makes of a file."""
     with tempfile.TemporaryDirectory() as top:
-        copy = Crate(crate.name, [], set(), top)
-        copy.put("../../crates.txt", f"{crate.name}:\n")
+        copy = Crate("edited", [], set(), top)
+        copy.put("../../crates.txt", "edited:\n")
         copy.put("../../HANDLES", "Handles allowed: none.\n")
         by_file = {}
         for number, edit in enumerate(edits):
+            crate = crates[edit.label.partition("/")[0]]
             for path, text in applied(crate, edit.pairs, {})[0].items():
                 if path.endswith(".rt"):
                     file = f"{number}_{path.removeprefix('src/').replace('/', '_')}"
@@ -511,18 +351,15 @@ def put_unparsed(crate, edits):
         status, output = command(["fmt"], copy.folder)
     unparsed = re.findall(r"^\S*/(\d+_\S+\.rt): it does not parse: ([^\n]*)", output, re.M)
     if status and not unparsed:
-        sys.exit(f"rt fmt over the wrong bodies of {crate.name} failed:\n{output}")
+        sys.exit(f"rt fmt over the wrong bodies failed:\n{output}")
     for file, reason in unparsed:
         by_file[file].fault = f"it does not parse: {reason}"
 
 
 def read_all(crates, asked):
     """Says which edits can't be applied or don't parse, and returns the status."""
-    edits = []
-    for name, files in asked.items():
-        of_crate = [read_edit(crates[name], f"{crates[name].folder}/{it}") for it in files]
-        put_unparsed(crates[name], [it for it in of_crate if not it.fault])
-        edits += of_crate
+    edits = [read_edit(crates[name], it) for name, files in asked.items() for it in files]
+    put_unparsed(crates, [it for it in edits if not it.fault])
     faults = [it for it in edits if it.fault]
     for it in faults:
         print(f"{it.label}: BAD EDIT: {it.fault}")
@@ -530,42 +367,39 @@ def read_all(crates, asked):
     return 1 if faults else 0
 
 
-def sums_of(crates, names):
-    """Returns the sum of each of these crates, by name."""
-    deps = {it.name: it.deps for it in crates.values()}
-    return {name: edit_records.sum_of(name, deps, crates[name].below) for name in names}
+def from_above(crates):
+    """Returns the names of the crates, each after all that depend on it."""
+    return sorted(crates, key=lambda it: (-len(crates[it].below), it))
 
 
-def changed(crates, names):
-    """Returns the edits of these crates (without names: of all) to try with --changed, by crate, and says why: those of
-    crates whose record doesn't fit, and those that the commit draws of all crates' edits."""
-    all_files = {name: files for name, it in crates.items() if (files := files_of(it, False, []))}
-    labels = [f"{name}/{it}" for name, files in all_files.items() for it in files]
-    chosen = edit_records.drawn(labels, edit_records.commit_here())
-    asked = {}
-    for name, found in sums_of(crates, [it for it in all_files if not names or it in names]).items():
-        files, noted = all_files[name], edit_records.recorded(crates[name].folder)
-        if noted == found:
-            files = [it for it in files if f"{name}/{it}" in chosen]
-            print(f"{name}: its record fits; drawn: {len(files)} of {len(all_files[name])}")
-        else:
-            files = sorted(files, key=lambda it: f"{name}/{it}" not in chosen)
-            print(f"{name}: {'its record is of other files' if noted else 'no record'}; all {len(files)}")
-        if files:
-            asked[name] = files
-    sys.stdout.flush()
-    return asked
+def turn_of(edit, chosen, records):
+    """Returns the turn in which --changed tries an edit; none if its record fits."""
+    crate, _, name = edit.label.partition("/")
+    known, sums = records.known[crate].get(name), records.sums(edit)
+    if edit.label in chosen:
+        return 0
+    if edit.fault or known is None or known.own != sums.own:
+        return 1
+    return None if known == sums else 2
 
 
-def record_all(crates, asked, try_these):
-    """Tries all of these edits, and records each crate when all of its edits were rejected. Returns the status."""
-    before = sums_of(crates, asked)
-
-    def record(name, counts):
-        if counts == [len(asked[name]), 0] and sums_of(crates, [name]) == {name: before[name]}:
-            edit_records.record(crates[name].folder, len(asked[name]), before[name])
-
-    return status_of(try_these(crates, asked, record), asked)
+def changed(crates, names, records):
+    """Returns the jobs of --changed for these crates (without names: for all), and prints how many edits each has."""
+    commit = edit_records.commit_here()
+    edits = {name: [read_edit(crate, it) for it in files_of(crate, False, [])]
+             for name, crate in crates.items()}
+    chosen = edit_records.drawn([it.label for of_crate in edits.values() for it in of_crate], commit)
+    jobs = []
+    for name in (it for it in from_above(crates) if edits[it] and (not names or it in names)):
+        by_turn = {turn: [] for turn in (0, 1, 2, None)}
+        for it in edits[name]:
+            by_turn[turn_of(it, chosen, records)].append(it.file)
+        jobs += [Job(turn, crates[name], by_turn[turn], turn < 2) for turn in (0, 1, 2) if by_turn[turn]]
+        counts = [len(by_turn[turn]) for turn in (0, 1, 2)]
+        print(f"{name}: of {len(edits[name])} {counts[0]} drawn, {counts[1]} changed, {counts[2]} stale", flush=True)
+    order = edit_records.in_drawn_order(list(crates), commit)
+    stale = sorted((it for it in jobs if it.turn == 2), key=lambda it: order.index(it.crate.name))
+    return [*(it for turn in (0, 1) for it in jobs if it.turn == turn), *stale]
 
 
 def lanes(count):
@@ -584,53 +418,57 @@ def copied(top):
             shutil.copy(name, top)
 
 
-def work_through(crates, left, top, counts, ended):
-    """Tries in a copy the edits of one crate after another, as long as some are left. Says of each that it ended."""
+def work_through(left, top, noted):
+    """Tries in a copy the edits of one job after another, as long as some are left."""
     built = set()
     while True:
         with choosing:
             if not left:
                 return
-            name = min(left, key=lambda it: (len(crates[it].below - built), -len(left[it])))
-            files = left.pop(name)
-        built |= crates[name].below
-        counts[name] = try_edits(dataclasses.replace(crates[name], top=top), files)
-        ended(name, counts[name])
+            job = min(left, key=lambda it: (it.turn, len(it.crate.below - built), -len(it.files)))
+            left.remove(job)
+        built |= job.crate.below
+        job.crate = dataclasses.replace(job.crate, top=top)
+        try_edits(job, 1, noted)
 
 
-def try_all(crates, asked, ended):
-    """Tries the edits of all these crates in copies, and says of each crate that it ended. Returns how many of each
-    passed and failed; what it didn't come to the end of is missing there."""
-    counts, left = {}, dict(asked)
+def try_all(jobs, noted):
+    """Tries the edits of all these jobs in copies."""
+    left = list(jobs)
     with tempfile.TemporaryDirectory(prefix="try-edits-") as room:
-        tops = [f"{room}/{number}" for number in range(lanes(len(asked)))]
+        tops = [f"{room}/{number}" for number in range(lanes(len(jobs)))]
         for it in tops:
             copied(it)
         with futures.ThreadPoolExecutor() as workers, ending_all():
-            list(workers.map(lambda top: work_through(crates, left, top, counts, ended), tops))
-    return counts
+            list(workers.map(lambda top: work_through(left, top, noted), tops))
 
 
-def try_here(crates, asked, ended):
-    """Tries the edits of all these crates in the checkout, each crate after those that depend on it. Says and returns
-    the same."""
+def are_related(crate, other):
+    """Returns whether two crates are the same, or one of them depends on the other."""
+    return crate.name == other.name or crate.name in other.below or other.name in crate.below
+
+
+def startable(left, busy):
+    """Returns the jobs that may start: those whose crate is related to that of no earlier job that hasn't ended."""
+    return [job for at, job in enumerate(left)
+            if not any(are_related(job.crate, it.crate) for it in [*busy, *left[:at]])]
+
+
+def try_here(jobs, noted):
+    """Tries the edits of all these jobs in the checkout."""
     run = subprocess.run(["git", "status", "--porcelain", "crates"], capture_output=True, text=True, check=False)
-    if run.returncode or run.stdout:
+    strange = [it for it in run.stdout.splitlines() if not it.endswith(f"/{edit_records.RECORD}")]
+    if run.returncode or strange:
         sys.exit(f"--here needs a checkout in which git knows all files of crates/ as they are\n{run.stdout}")
-    counts, tried = {}, {}
-    order = graphlib.TopologicalSorter({name: {it for it in asked if name in crates[it].below} for name in asked})
-    order.prepare()
+    left, busy = list(jobs), {}
     with futures.ThreadPoolExecutor(lanes(CRATES_AT_ONCE)) as workers, ending_all():
-        while order.is_active():
-            for name in order.get_ready():
-                crate = dataclasses.replace(crates[name], jobs=lanes(sys.maxsize))
-                tried[workers.submit(try_edits, crate, asked[name])] = name
-            for it in futures.wait(tried, return_when=futures.FIRST_COMPLETED).done:
-                name = tried.pop(it)
-                counts[name] = it.result()
-                ended(name, counts[name])
-                order.done(name)
-    return counts
+        while left or busy:
+            for job in startable(left, busy.values()):
+                left.remove(job)
+                busy[workers.submit(try_edits, job, lanes(sys.maxsize), noted)] = job
+            for it in futures.wait(busy, return_when=futures.FIRST_COMPLETED).done:
+                del busy[it]
+                it.result()
 
 
 @contextlib.contextmanager
@@ -645,14 +483,21 @@ def ending_all():
             it.terminate()
 
 
-def status_of(counts, asked):
-    """Prints how many edits passed and failed, and returns the status. What has no count has failed."""
-    for name, count in sorted(untried.items()):
-        print(f"{name}: {count} not tried in time")
-    passed = sum(counts[name][0] for name in counts)
-    failed = sum(counts[name][1] if name in counts else len(asked[name]) for name in asked)
-    print(f"{passed} passed, {failed} failed")
-    return 1 if failed else 0
+def status_of(jobs):
+    """Prints how many edits passed, failed and are stale, and returns the status."""
+    counts = {True: 0, False: sum(it.faults for it in jobs)}
+    stale = 0
+    for job in jobs:
+        for is_well in job.results.values():
+            counts[is_well] += 1
+        if (untried := len(job.files) - len(job.results)) and job.must:
+            counts[False] += untried
+            print(f"{job.crate.name}: {untried} NOT TRIED in time, of those that must be")
+        elif untried:
+            stale += untried
+            print(f"{job.crate.name}: {untried} stale")
+    print(f"{counts[True]} passed, {counts[False]} failed, {stale} stale")
+    return 1 if counts[False] else 0
 
 
 def main(words):
@@ -663,26 +508,23 @@ def main(words):
         options.remove(minutes)
         ends_at = time.monotonic() + 60 * int(minutes.partition("=")[2])
     crates = crates_here()
-    known = {"--all", "--read", "--record", "--changed", "--here"}
-    if wrong := [*(options - known), *unknown(crates, names)]:
+    if wrong := [*(options - {"--all", "--read", "--record", "--changed", "--here"}), *unknown(crates, names)]:
         sys.exit(f"no option, no crate and no edit: {' '.join(wrong)}\n\n{__doc__}")
-    if "--record" in options and (options - {"--record", "--here"} or any(it not in crates for it in names)):
-        sys.exit(f"--record takes crates, and no other option but --here\n\n{__doc__}")
-    if "--changed" in options and options - {"--changed", "--here"}:
-        sys.exit(f"--changed takes no other option but --here\n\n{__doc__}")
-    if "--changed" in options and any(it not in crates for it in names):
-        sys.exit(f"--changed takes crates\n\n{__doc__}")
+    if "--changed" in options and (options & {"--all", "--read"} or any(it not in crates for it in names)):
+        sys.exit(f"--changed takes crates, and neither --all nor --read\n\n{__doc__}")
     if lost := strays(crates):
         sys.exit(f"no edits of a crate, so nothing tries them: {' '.join(lost)}")
-    is_all = bool(options & {"--all", "--record"})
-    asked = {name: files for name, it in crates.items() if (files := files_of(it, is_all, names))}
+    asked = {it: files for it in from_above(crates) if (files := files_of(crates[it], "--all" in options, names))}
     if "--read" in options:
         return read_all(crates, asked)
-    try_these = try_here if "--here" in options else try_all
-    if "--record" in options:
-        return record_all(crates, asked, try_these)
-    asked = changed(crates, names) if "--changed" in options else asked
-    return status_of(try_these(crates, asked, lambda *_: None), asked)
+    jobs = [Job(0, crates[name], files) for name, files in asked.items()]
+    noted = lambda *_: None
+    if options & {"--changed", "--record"}:
+        records = Records(crates)
+        jobs = changed(crates, names, records) if "--changed" in options else jobs
+        noted = records.note if "--record" in options else noted
+    (try_here if "--here" in options else try_all)(jobs, noted)
+    return status_of(jobs)
 
 
 if __name__ == "__main__":

@@ -1,13 +1,17 @@
 #!/usr/bin/env python3
 """Tests tools/try_edits.py in a small repository that it makes.
 
-usage: tools/try_edits_test.py      (its status is 0 if all is as expected; it takes about four processor minutes)
+usage: tools/try_edits_test.py      (its status is 0 if all is as expected; it takes some ten processor minutes)
 
 Edits that break a contract must pass. Each edit that shows nothing must fail, and its run must end with 1: one that
 changes nothing, one that can't be applied, one with a text of two lines, one that doesn't compile, one that means the
-same as the right code, and one that is rejected only because a proof file cites a name that it removed. No such run
-writes a record. A record of rejected edits serves until what they depend on changes, and the edits that a commit draws
-show that a false one is false. With --here the checkout is unchanged afterwards, except for records.
+same as the right code, and one that is rejected only because a proof file cites a name that it removed. None of these
+gets a record.
+
+An edit with a record is tried again if its function changed. If its function changed, or if it was drawn, and no time
+is left, the run ends with 1. If only a proof changed, nothing but the draw is tried. If only a contract changed, the
+edit is stale as long as no time is left for it, and the run says so. The draw shows that a false record is false. With
+--here the checkout is unchanged afterwards, except for records.
 """
 import os
 import pathlib
@@ -16,6 +20,7 @@ import sys
 import tempfile
 
 import edit_records
+from edit_files import Crate, read_edit
 
 TOOL = pathlib.Path(__file__).resolve().parent / "try_edits.py"
 CODE = """//! Numbers.
@@ -64,9 +69,32 @@ SAME_AGAIN = """use Rattle.small.proofs.same_again.Goals as goal
 pub returns : goal.returns
 returns c = c.same.ensures
 """
+PAIR = """//! Pairs.
+#![tactic(auto)]
+
+ghost use Rattle.std.specs.Prelude.{◌≤◌};
+
+use small::smaller;
+
+/// Returns a number that is not above the first one.
+pub fn lower(x: usize, y: usize) -> usize
+    ensures { result ≤ x }
+{
+    smaller(x, y)
+}
+"""
+MORE = """
+/// Returns no number in particular.
+pub fn some() -> usize
+{
+    7
+}
+"""
 FILES = {
-    "crates.txt": "small:\n",
+    "crates.txt": "small:\npair: small\n",
     "HANDLES": "Handles allowed: none.\n",
+    "crates/pair/src/lib.rt": PAIR,
+    "crates/pair/wrong/other.edit": "file: src/lib.rt\nold:     smaller(x, y)\nnew:     y\n",
     "crates/small/src/lib.rt": CODE,
     "crates/small/specs/Lib.antt": "pub mod Same\n",
     "crates/small/specs/Same.antt": SPEC,
@@ -115,29 +143,55 @@ def put_edits(top, edits):
 
 def records(top):
     """Tries records. Returns whether each run is as expected."""
-    crate = top / "crates/small"
-    file = crate / edit_records.RECORD
+    small, pair = crates_at(top)
     status, lines = ran_with(top, ["--record"])
-    well = [is_as_expected("no record of bad edits", lines, status == 1 and not file.exists())]
+    known = edit_records.recorded(small)
+    well = [is_as_expected("no record of bad edits", lines, status == 1 and set(known) == set(GOOD))]
     put_edits(top, GOOD)
     status, lines = ran_with(top, ["--record"])
-    well.append(is_as_expected("a record of good edits", lines, status == 0 and file.exists()))
-    status, lines = ran_with(top, ["--changed"])
-    is_well = lines[0] == "small: its record fits; drawn: 1 of 3" and lines[-1] == "1 passed, 0 failed"
-    well.append(is_as_expected("a record that fits", lines, status == 0 and is_well))
-    put(crate / "src/lib.rt", CODE + "// More.\n")
-    status, lines = ran_with(top, ["--changed"])
-    is_well = lines[0] == "small: its record is of other files; all 3" and lines[-1] == "3 passed, 0 failed"
-    well.append(is_as_expected("a record of other files", lines, status == 0 and is_well))
+    is_well = status == 0 and len(edit_records.recorded(small)) == 3 and len(edit_records.recorded(pair)) == 1
+    well.append(is_as_expected("records of good edits", lines, is_well and lines[-1] == "4 passed, 0 failed, 0 stale"))
+    well.append(changed(top, "records that fit", "1 passed, 0 failed, 0 stale", 0))
+    well.append(changed(top, "a draw for which no time is left", "0 passed, 1 failed, 0 stale", 1, ["--minutes=0"]))
+    put(top / "crates/small/proofs/same/Answers.antt", SAME + "-- More.\n")
+    well.append(changed(top, "a change of a proof", "1 passed, 0 failed, 0 stale", 0))
+    put(top / "crates/small/src/lib.rt", CODE + MORE)
+    undrawn = "pair" if drawn(small) else "small"
+    count = 1 if undrawn == "pair" else 3
+    stale, tried = f"0 passed, 0 failed, {count} stale", f"{count} passed, 0 failed, 0 stale"
+    well.append(changed(top, "a change of a contract", stale, 0, ["--minutes=0", undrawn]))
+    well.append(changed(top, "a change of a contract, with time", tried, 0, [undrawn]))
+    put(top / "crates/small/src/lib.rt", CODE.replace(SMALLER, f"    let x = x;\n{SMALLER}"))
+    count = len({"first", "larger"} | drawn(small))
+    untried, tried = f"0 passed, {count} failed, 0 stale", f"{count} passed, 0 failed, 0 stale"
+    well.append(changed(top, "a changed function, no time", untried, 1, ["--minutes=0", "small"]))
+    well.append(changed(top, "a changed function", tried, 0, ["--record", "small"]))
+    put(top / "crates/small/src/lib.rt", CODE)
     put_edits(top, {"as_before": BAD["as_before"]})
-    before = os.getcwd()
-    os.chdir(top)
-    edit_records.record(crate, 1, edit_records.sum_of("small", {"small": []}, set()))
-    os.chdir(before)
-    status, lines = ran_with(top, ["--changed"])
-    is_well = lines[0] == "small: its record fits; drawn: 1 of 1" and lines[-1] == "0 passed, 1 failed"
-    well.append(is_as_expected("a false record", lines, status == 1 and is_well))
+    (top / "crates/pair/wrong/other.edit").unlink()
+    others = edit_records.others_of({"small": small})["small"]
+    sums = edit_records.sums_of(read_edit(small, "wrong/as_before.edit"), others)
+    edit_records.record(small, {"as_before": sums})
+    well.append(changed(top, "a false record", "0 passed, 1 failed, 0 stale", 1))
     return well
+
+
+def crates_at(top):
+    """Returns the two crates."""
+    return Crate("small", [], set(), str(top)), Crate("pair", ["small"], {"small"}, str(top))
+
+
+def drawn(crate):
+    """Returns the names of those edits of a crate that are drawn outside of a repository of git."""
+    labels = [f"small/{it}" for it in GOOD] + ["pair/other"]
+    chosen = (it.partition("/") for it in edit_records.drawn(labels, None))
+    return {name for of, _, name in chosen if of == crate.name}
+
+
+def changed(top, what, last, expected, words=()):
+    """Runs the tool with --changed. Returns whether its status and its last line are as expected."""
+    status, lines = ran_with(top, ["--changed", *words])
+    return is_as_expected(what, lines, status == expected and lines[-1] == last)
 
 
 def is_as_expected(what, found, expected):
@@ -155,6 +209,7 @@ def git(top, *words):
 def here(top):
     """Tries edits in the checkout itself. Returns whether each run is as expected."""
     put_edits(top, {**GOOD, "as_before": BAD["as_before"]})
+    put(top / "crates/pair/wrong/other.edit", FILES["crates/pair/wrong/other.edit"])
     put(top / "crates/small/must-fail/first.edit", f"file: src/lib.rt\nold: {SMALLER}\nnew: {GOOD['first'][1]}\n")
     put(top / ".gitignore", "out/\n")
     git(top, "init", "-q")
@@ -163,7 +218,7 @@ def here(top):
     git(top, "add", "-A")
     git(top, "commit", "-q", "-m", "Small")
     status, lines = ran_with(top, ["--here"])
-    is_well = status == 1 and lines[-1] == "3 passed, 1 failed" and git(top, "status", "--porcelain") == ""
+    is_well = status == 1 and lines[-1] == "4 passed, 1 failed, 0 stale" and git(top, "status", "--porcelain") == ""
     well.append(is_as_expected("edits in the checkout", lines, is_well))
     put_edits(top, GOOD)
     (top / "crates/small/must-fail/first.edit").unlink()
@@ -183,13 +238,14 @@ def main():
         put_edits(top, {**GOOD, **BAD})
         status, lines = tried(top, GOOD)
         joint = sum(": refused (joint): " in it for it in lines)
-        well = [is_as_expected("good edits", lines, status == 0 and joint == 3 and lines[-1] == "3 passed, 0 failed")]
+        is_well = status == 0 and joint == 3 and lines[-1] == "3 passed, 0 failed, 0 stale"
+        well = [is_as_expected("good edits", lines, is_well)]
         for name, (_, _, output) in BAD.items():
             status, lines = tried(top, [name])
-            is_well = lines[0].startswith(f"small/{name}: {output}") and lines[-1] == "0 passed, 1 failed"
+            is_well = lines[0].startswith(f"small/{name}: {output}") and lines[-1] == "0 passed, 1 failed, 0 stale"
             well.append(is_as_expected(name, lines, status == 1 and is_well))
         status, lines = tried(top, ["other", "misread", "larger"])
-        is_well = status == 1 and lines[-1] == "2 passed, 1 failed"
+        is_well = status == 1 and lines[-1] == "2 passed, 1 failed, 0 stale"
         well.append(is_as_expected("a round with one that doesn't compile", lines, is_well))
         well += records(top)
         well += here(top)
