@@ -99,7 +99,7 @@ EXCEPTIONS = (
     Stays("answer", "^(crates/for_c|python|rust|tools/c)/", "^[aA]nswer$", "`bidi_verdict`, and its class in Python"),
     Stays("claim", "^(README|docs|python|rust|tools)", "claimed|claims", CLAIMED),
     Stays("claim", "^crates/", "^claimed$", CLAIMED),
-    Stays("edit", r"^(\.ci/|tools/(try_edits|edit_records))", "", WRONG_BODY),
+    Stays("edit", r"^(\.ci/|tools/(try_edits|edit_records|edit_files))", "", WRONG_BODY),
     Stays("edit", "", r"\.edit\b|edits\.rejected|must-fail", WRONG_BODY),
     Stays("found", "", "^found$", "a usual name of a local variable"),
     Stays("gate", r"^(\.ci/|tools/|CONTRIBUTING|docs/(CHANGING|DECISIONS|ARCHITECTURE))", "", "the gate is .ci/run"),
