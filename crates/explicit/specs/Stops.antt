@@ -16,11 +16,11 @@ is_passed wanted c = not (is_isolate_formatting c || (wanted && is_strong c))
 abbrev pub ArePassed : Bool → List Class → ℕ → ℕ → Type 0
 ArePassed wanted cs from end = (p : ℕ) → from ≤ p → p < end → is_passed wanted (class_at cs p) ≡ true
 
--- p is the first position from this one on that the pass doesn't skip
+-- p is the first position from this one on that the pass doesn't skip, or the end if it skips all
 pub record IsNextStop (wanted : Bool) (cs : List Class) (from p : ℕ) : Type 0 where
   pub later : from ≤ p
-  pub within : p < length cs
-  pub stops : is_passed wanted (class_at cs p) ≡ false
+  pub within : p ≤ length cs
+  pub stops : p < length cs → is_passed wanted (class_at cs p) ≡ false
   pub first : ArePassed wanted cs from p
 
 -- the partners, with those of the positions from this one on, before the end, removed

@@ -1,11 +1,11 @@
 //! The isolates of a paragraph (BD9), and the side of each isolate's first strong class (P2, P3).
-ghost use Rattle.std.specs.Prelude.{◌≡◌, ◌+◌, ◌-◌, ◌<◌, ◌≤◌, ℕ, true, false, length, List, Option, None, IfOk, IfSome, IsNone, slice_index_or};
+ghost use Rattle.std.specs.Prelude.{◌≡◌, ◌+◌, ◌-◌, ◌<◌, ◌≤◌, ℕ, true, false, length, List, Option, None, IfOk, slice_index_or};
 ghost use Rattle.units.specs.Classes.{class_at, classes_of, is_isolate_initiator, is_isolate_formatting};
 ghost use Rattle.units.specs.Isolates.{partner_of, first_strong};
 ghost use Rattle.units.specs.declared.class.Class.{Class};
 ghost use Rattle.explicit.specs.IsolateMaps.{room, HasPartners, IsFilledFrom, IsSideInside};
 ghost use Rattle.explicit.specs.Sides.{HasSides, side_at, noted, noted_at};
-ghost use Rattle.explicit.specs.Stops.{HasNoFormatting, ArePassed, IsNextStop, is_passed, without_partners};
+ghost use Rattle.explicit.specs.Stops.{HasNoFormatting, IsNextStop, is_passed, without_partners};
 
 use crate::side::Side;
 use std::alloc::Global;
@@ -225,8 +225,8 @@ fn pass_four<L: Ledger>(
     p + 4
 }
 
-// Skips positions from `p` on as `pass_four` does, and if it skips four, four more. Returns the position after those
-// that it skips. Each is a step.
+// Skips four positions from `p` on, at which no isolate begins or ends, and removes their partners. Then it skips four
+// more as `pass_four` does. Returns the position after those that it skips. Each is a step.
 fn pass_eight<L: Ledger>(
     para: &[Unit],
     p: usize,
@@ -234,23 +234,22 @@ fn pass_eight<L: Ledger>(
     steps: &mut Steps<L>,
 ) -> usize
     requires inside { p + 8 ≤ length para.now }
+    requires passed { HasNoFormatting (classes_of para.now) p (p + 4) }
     requires room { length para.now ≤ length partners.old }
-    ensures later { p ≤ result }
+    ensures later { p + 4 ≤ result }
     ensures within { result ≤ p + 8 }
     ensures passed { HasNoFormatting (classes_of para.now) p result }
     ensures partners { partners.new ≡ without_partners p result partners.old }
     ensures steps { steps.new + p ≡ steps.old + result }
 {
-    let middle = pass_four(para, p, partners, steps);
-    if middle != p + 4 {
-        return middle;
-    }
-    pass_four(para, middle, partners, steps)
+    clear_four(partners, p, steps);
+    pass_four(para, p + 4, partners, steps)
 }
 
 // If the pass looks for no strong class, skips positions from `from` on at which no isolate begins or ends, four at a
 // time, and removes their partners. Returns the position after them. Each skipped position is a step. Each turn skips
-// twice, which takes fewer instructions than a turn for each four.
+// twice, which takes fewer instructions than a turn for each four. It begins only where it can skip, so each turn takes
+// four steps or more.
 fn pass_fours<L: Ledger>(
     para: &[Unit],
     from: usize,
@@ -268,7 +267,7 @@ fn pass_fours<L: Ledger>(
     ensures steps { steps.new + from ≡ steps.old + result }
 {
     let mut p = from;
-    while !wanted && para.len() - p >= 8 {
+    while !wanted && para.len() - p >= 8 && !is_formatting_in_four(para, p) {
         let end = pass_eight(para, p, partners, steps);
         if end != p + 8 {
             return end;
@@ -279,37 +278,34 @@ fn pass_fours<L: Ledger>(
 }
 
 // Returns the next position, from `from` on, at which an isolate begins or ends, or at which there is a strong class if
-// `wanted` is true. Removes the partners of this position and of those before it. Each of these positions is a step.
+// `wanted` is true. If there is none, returns the paragraph's end. Removes the partners of the positions before it.
+// Each of these is a step.
 fn next_stop<L: Ledger>(
     para: &[Unit],
     from: usize,
     wanted: bool,
     partners: &mut [OptionalPosition],
     steps: &mut Steps<L>,
-) -> Option<usize>
+) -> usize
     requires from { from ≤ length para.now }
     requires room { length para.now ≤ length partners.old }
-    ensures found { IfSome result (λ p. IsNextStop wanted (classes_of para.now) from p) }
-    ensures none { IsNone result → ArePassed wanted (classes_of para.now) from (length para.now) }
-    ensures partners { IfSome result (λ p. partners.new ≡ without_partners from (p + 1) partners.old) }
-    ensures all_partners { IsNone result → partners.new ≡ without_partners from (length para.now) partners.old }
-    ensures steps { IfSome result (λ p. steps.new + from ≡ steps.old + (p + 1)) }
-    ensures all_steps { IsNone result → steps.new + from ≡ steps.old + length para.now }
+    ensures stop { IsNextStop wanted (classes_of para.now) from result }
+    ensures partners { partners.new ≡ without_partners from result partners.old }
+    ensures steps { steps.new + from ≡ steps.old + result }
 {
-    let start = pass_fours(para, from, wanted, partners, steps);
-    for p in start..para.len() {
+    let mut p = pass_fours(para, from, wanted, partners, steps);
+    while p < para.len() && is_passed(para[p].class, wanted) {
         steps.tick();
         partners[p] = OptionalPosition::none();
-        if !is_passed(para[p].class, wanted) {
-            return Some(p);
-        }
+        p += 1;
     }
-    None
+    p
 }
 
 // BD9, P2, P3: matches each PDI with the last open initiator, and notes the first strong class of each isolate. Writes
 // the partners of all positions and the sides of all initiators, and returns the side outside of all isolates. After
-// each isolate initiator and each PDI the pass looks for a strong class again.
+// each isolate initiator and each PDI the pass looks for a strong class again. Each turn counts the position at which
+// the pass stopped.
 fn match_partners<L: Ledger>(
     para: &[Unit],
     partners: &mut [OptionalPosition],
@@ -328,13 +324,12 @@ fn match_partners<L: Ledger>(
 {
     let mut outside = Side::Unknown;
     let mut depth = 0;
-    let mut from = 0;
-    let mut wanted = true;
-    while let Some(p) = next_stop(para, from, wanted, partners, steps) {
+    let mut p = next_stop(para, 0, true, partners, steps);
+    while p < para.len() {
+        steps.tick();
+        partners[p] = OptionalPosition::none();
         let class = para[p].class;
         let is_strong = class.is_strong();
-        from = p + 1;
-        wanted = !is_strong;
         if class.is_isolate_initiator() {
             openers[depth] = p as u32;
             depth += 1;
@@ -347,6 +342,7 @@ fn match_partners<L: Ledger>(
         } else if is_strong {
             outside = note_strong(class, openers, depth, sides, outside);
         }
+        p = next_stop(para, p + 1, !is_strong, partners, steps);
     }
     outside
 }

@@ -206,8 +206,9 @@ fn level_rest<L: Ledger>(
     p
 }
 
-// The same. Each turn writes eight positions, which takes fewer instructions than a turn for each position. Inlined, so
-// that the compiler makes one loop for a status that overrides, and one for a status that doesn't.
+// The same. Each turn writes eight positions, which takes fewer instructions than a turn for each position. It begins
+// only at an ordinary class, so each turn takes a step. Inlined, so that the compiler makes one loop for a status that
+// overrides, and one for a status that doesn't.
 #[inline(always)]
 fn level_eights<L: Ledger>(
     para: &[Unit],
@@ -223,12 +224,16 @@ fn level_eights<L: Ledger>(
     ensures steps { steps.new + from ≡ steps.old + result }
 {
     let mut p = from;
-    while para.len() - p >= 8 {
+    while para.len() - p >= 8 && is_ordinary(para[p].class) {
         let end = level_eight(para, p, status, explicit, steps);
         if end != p + 8 {
             return end;
         }
         p = end;
+    }
+    // If eight positions are left, the class of the first is not ordinary.
+    if para.len() - p >= 8 {
+        return p;
     }
     level_rest(para, p, status, explicit, steps)
 }

@@ -11,13 +11,14 @@ use Rattle.explicit.proofs.isolates.next_stop.Goals as goal
 
 pub loop-p-init : goal.loop-p-init
 loop-p-init g c = record {
-  later = omega (arith, c.pass_fours-start.ensures.later);
-  passed = passed_by_fours c.args.wanted (classes_of c.args.para.now) c.args.from c.pass_fours-start.result
-      c.pass_fours-start.ensures.passed c.pass_fours-start.ensures.seeks;
-  room = ap length c.pass_fours-start.ensures.partners ∙
-      cleared_length c.args.from c.pass_fours-start.result c.args.partners.now;
-  cleared = c.pass_fours-start.ensures.partners;
-  taken = omega (arith, c.pass_fours-start.ensures.steps);
+  later = omega (arith, c.pass_fours-p.ensures.later);
+  within = c.pass_fours-p.ensures.within;
+  passed = passed_by_fours c.args.wanted (classes_of c.args.para.now) c.args.from c.pass_fours-p.result
+      c.pass_fours-p.ensures.passed c.pass_fours-p.ensures.seeks;
+  room = ap length c.pass_fours-p.ensures.partners ∙
+      cleared_length c.args.from c.pass_fours-p.result c.args.partners.now;
+  cleared = c.pass_fours-p.ensures.partners;
+  taken = omega (arith, c.pass_fours-p.ensures.steps);
 }
 
 pub loop-p-preserved : goal.loop-p-preserved
@@ -28,9 +29,10 @@ loop-p-preserved g c =
     let inside : l.p < length c.args.para.now = omega arith in
     let here : is_passed c.args.wanted (class_at cs l.p) ≡ true =
     ap (is_passed c.args.wanted) (class_read c.args.para.now l.p _ inside) ∙ sym c.is_passed.ensures ∙
-    c.if-not-is_passed.false in
+    c.if-is_passed.true in
     record {
       later = omega arith;
+      within = omega arith;
       passed = λ k from to. elim (cases_eq k l.p) [
         | inl e ↦ subst (λ (q : ℕ). is_passed c.args.wanted (class_at cs q) ≡ true) (sym e) here
         | inr ne ↦ l.invariant.passed k from (omega arith)
@@ -40,10 +42,3 @@ loop-p-preserved g c =
           cleared_next c.args.from l.p c.args.partners.now low);
       taken = omega (arith, c.tick.ensures, l.invariant.taken);
     }
-
-pub returns-then-not-is_passed-clause-partners : goal.returns-then-not-is_passed-clause-partners
-returns-then-not-is_passed-clause-partners g c =
-    let l = c.loop-p in
-    let low : c.args.from ≤ l.p = l.invariant.later in
-    rw c.none.ensures (ap (λ (xs : List (Option ℕ)). set xs l.p None) l.invariant.cleared ∙
-    cleared_next c.args.from l.p c.args.partners.now low)

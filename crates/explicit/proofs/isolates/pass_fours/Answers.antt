@@ -19,8 +19,9 @@ pub returns-then-end-p-clause-partners : goal.returns-then-end-p-clause-partners
 returns-then-end-p-clause-partners g c =
     let l = c.loop-partners in
     let end = c.pass_eight-end in
+    let high = end.ensures.later in
     cleared_joined c.args.from l.p end.result c.args.partners.now l.partners end.new.partners l.invariant.later
-    end.ensures.later l.invariant.cleared end.ensures.partners
+    (omega (arith, high)) l.invariant.cleared end.ensures.partners
 
 pub loop-partners-preserved : goal.loop-partners-preserved
 loop-partners-preserved g c =
@@ -36,7 +37,7 @@ loop-partners-preserved g c =
           end.ensures.passed;
       seeks = λ e. absurd (true≢false (sym e ∙ c.loop-partners-test.true));
       room = ap length end.ensures.partners ∙ cleared_length l.p end.result l.partners ∙ l.invariant.room;
-      cleared = cleared_joined c.args.from l.p end.result c.args.partners.now l.partners end.new.partners low high
-          l.invariant.cleared end.ensures.partners;
+      cleared = cleared_joined c.args.from l.p end.result c.args.partners.now l.partners end.new.partners low
+          (omega (arith, high)) l.invariant.cleared end.ensures.partners;
       taken = omega (arith, end.ensures.steps, l.invariant.taken);
     }
