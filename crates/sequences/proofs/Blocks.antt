@@ -1,9 +1,8 @@
 -- Successive positions that a pass handles eight at a time.
-use Rattle.std.specs.Prelude.{ℕ, ◌+◌, ◌<◌, ◌≤◌, ◌≡◌, Bool, true, false, not, ◌&&◌, ◌||◌, List, length, refl}
-use Rattle.std.proofs.Common.{arith, sym, ◌∙◌, subst, set, inl, inr}
+use Rattle.std.specs.Prelude.{ℕ, ◌+◌, ◌<◌, ◌≤◌, ◌≡◌, Bool, true, false, not, ◌&&◌, ◌||◌, List, refl}
+use Rattle.std.proofs.Common.{arith, sym, ◌∙◌, subst, inl, inr}
 use Rattle.std.proofs.lemmas.Bool.{cases_eq, cases_lt, and_parts, or_parts, not-true, false≢true}
-use Rattle.std.proofs.lemmas.List.{get_or-set_other, get_or-set_same}
-use Rattle.sequences.specs.Blocks.{AreJoined, IsWritten}
+use Rattle.sequences.specs.Blocks.{AreJoined}
 use Rattle.sequences.specs.Links.{is_joined}
 
 -- what holds of eight successive positions, holds of each
@@ -92,23 +91,3 @@ joined_more joined from p before here q low high = elim (cases_eq q p) [
   | inl same ↦ rw same here
   | inr other ↦ before q low (omega arith)
 ]
-
--- before the first write nothing has changed
-pub written_none : {X : Type 0} (default : X) (value : ℕ → X) (from : ℕ) (xs : List X) →
-    IsWritten default value from from xs xs
-written_none default value from xs = record {
-  written = λ p low high. absurd (omega arith);
-  unchanged = λ p past. refl;
-}
-
--- one item more is written
-pub written_more : {X : Type 0} (default : X) (value : ℕ → X) (from end : ℕ) (old new : List X) →
-    IsWritten default value from end old new → end < length new → (v : X) → v ≡ value end →
-    IsWritten default value from (end + 1) old (set new end v)
-written_more default value from end old new w room v e = record {
-  written = λ p low high. elim (cases_eq p end) [
-    | inl same ↦ rw same (get_or-set_same new end v default room ∙ e)
-    | inr other ↦ get_or-set_other new end p v default other ∙ w.written p low (omega arith)
-  ];
-  unchanged = λ p past. get_or-set_other new end p v default (omega arith) ∙ w.unchanged p (omega arith);
-}

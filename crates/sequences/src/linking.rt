@@ -156,36 +156,52 @@ fn are_eight_at(t: &Leveled, first: usize, level: Level) -> bool
         & t.is_at(first + 7, level)
 }
 
-/// Links each of the eight positions from `first` on to the one right after it.
+/// Writes the links of eight successive positions, the first of which is given: each is linked to the one right after
+/// it. Written one by one without a loop, the eight take few instructions.
 fn write_links(first: usize, links: &mut [OptionalPosition])
     requires small { first + 8 < u32.MAX }
-    requires room { first + 8 ≤ length links.old }
-    ensures { IsWritten None (λ p. Some (p + 1)) first (first + 8) links.old links.new }
+    requires eight { length links.old ≡ 8 }
+    ensures { IsWritten None (λ k. Some (first + k + 1)) 0 8 links.old links.new }
 {
     let next = (first + 1) as u32;
-    for k in 0..8u32 {
-        links[first + k as usize] = OptionalPosition::some((next + k) as usize);
-    }
+    links[0] = OptionalPosition::some(next as usize);
+    links[1] = OptionalPosition::some((next + 1) as usize);
+    links[2] = OptionalPosition::some((next + 2) as usize);
+    links[3] = OptionalPosition::some((next + 3) as usize);
+    links[4] = OptionalPosition::some((next + 4) as usize);
+    links[5] = OptionalPosition::some((next + 5) as usize);
+    links[6] = OptionalPosition::some((next + 6) as usize);
+    links[7] = OptionalPosition::some((next + 7) as usize);
 }
 
-/// Writes the eos of the sequence at each of the eight positions from `first` on.
-fn write_ends(first: usize, end: Class, ends: &mut [Class])
-    requires { first + 8 ≤ length ends.old }
-    ensures { IsWritten L (λ p. end) first (first + 8) ends.old ends.new }
+/// Writes the eos of the sequence of eight positions, at each of them.
+fn write_ends(end: Class, ends: &mut [Class])
+    requires { length ends.old ≡ 8 }
+    ensures { IsWritten L (λ k. end) 0 8 ends.old ends.new }
 {
-    for k in 0..8 {
-        ends[first + k] = end;
-    }
+    ends[0] = end;
+    ends[1] = end;
+    ends[2] = end;
+    ends[3] = end;
+    ends[4] = end;
+    ends[5] = end;
+    ends[6] = end;
+    ends[7] = end;
 }
 
-/// Marks the eight positions from `first` on.
-fn write_marks(first: usize, joined: &mut [bool])
-    requires { first + 8 ≤ length joined.old }
-    ensures { IsWritten false (λ p. true) first (first + 8) joined.old joined.new }
+/// Marks each of eight positions.
+fn write_marks(joined: &mut [bool])
+    requires { length joined.old ≡ 8 }
+    ensures { IsWritten false (λ k. true) 0 8 joined.old joined.new }
 {
-    for k in 0..8 {
-        joined[first + k] = true;
-    }
+    joined[0] = true;
+    joined[1] = true;
+    joined[2] = true;
+    joined[3] = true;
+    joined[4] = true;
+    joined[5] = true;
+    joined[6] = true;
+    joined[7] = true;
 }
 
 /// Links the eight positions from `first` on, whose sequence has this eos, each to the one right after it. The mark of
@@ -208,9 +224,9 @@ fn link_eight<L: Ledger>(
     ensures steps { steps.new ≡ steps.old + 8 }
 {
     steps.add(8);
-    write_links(first, links);
-    write_ends(first, end, ends);
-    write_marks(first + 1, joined);
+    write_links(first, &mut links[first..first + 8]);
+    write_ends(end, &mut ends[first..first + 8]);
+    write_marks(&mut joined[first + 1..first + 9]);
 }
 
 /// Links positions before `from` as `link_level` does, eight at a time. Returns the first of these positions, or `from`
