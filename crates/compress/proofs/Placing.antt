@@ -95,6 +95,11 @@ pub starts_above : (us starts : List BidiUnit) (m : ℕ) (old levels : List (Opt
     k - 1 ≤ start_at starts (k - 1)
 starts_above us starts m old levels end k lt s = not_before starts k end (k - 1) s.rising (omega arith)
 
+-- and before the end
+pub starts_below : (us starts : List BidiUnit) (m : ℕ) (old levels : List (Option ℕ)) (end k : ℕ) → 0 < k → IsSpread us starts m old levels end k →
+    start_at starts (k - 1) < end
+starts_below us starts m old levels end k lt s = s.rising.low (k - 1) (omega arith)
+
 pub spread_none : (us starts : List BidiUnit) (m : ℕ) (old : List (Option ℕ)) → IsLaid us starts m (length us) → IsSpread us starts m old old (length us) m
 spread_none us starts m old laid = record {
   few = omega arith;

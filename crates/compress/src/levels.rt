@@ -66,20 +66,66 @@ fn write_all<L: Ledger>(
 /// How many levels are written together.
 const BLOCK: usize = 8;
 
-/// Writes this level at the eight positions from `p` on.
-fn write_eight(p: usize, level: &Option<Level>, levels: &mut [Option<Level>])
-    requires { p + 8 ≤ length levels.old }
-    ensures { (us : List BidiUnit) → RemainAll us → length levels.old ≡ length us
-        → IsRun us p (p + 8) level.now levels.old levels.new }
+/// Writes this level at the eight positions before `end`. Returns the first of them. Each of them from `start` on is a
+/// step, so at least one is.
+// Eight levels are one store, so the few before `start` cost nothing. There is no loop: its turns would be steps.
+fn write_eight<L: Ledger>(
+    start: usize,
+    end: usize,
+    level: &Option<Level>,
+    levels: &mut [Option<Level>],
+    steps: &mut Steps<L>,
+) -> usize
+    requires eight { 8 ≤ end }
+    requires some { start < end }
+    requires within { end ≤ length levels.old }
+    ensures first { result + 8 ≡ end }
+    ensures run { (us : List BidiUnit) → RemainAll us → length levels.old ≡ length us
+        → IsRun us result end level.now levels.old levels.new }
+    ensures steps { steps.new + max start result ≡ steps.old + end }
 {
-    for i in 0..BLOCK {
-        levels[p + i] = *level;
+    steps.add((end - start).min(BLOCK));
+    let p = end - BLOCK;
+    levels[p] = *level;
+    levels[p + 1] = *level;
+    levels[p + 2] = *level;
+    levels[p + 3] = *level;
+    levels[p + 4] = *level;
+    levels[p + 5] = *level;
+    levels[p + 6] = *level;
+    levels[p + 7] = *level;
+    p
+}
+
+/// Writes this level at the eight positions before `end`, or at the last one alone if there are no eight from `lowest`
+/// on. Returns from which position on it is written. Each position from `start` on is a step.
+fn write_last<L: Ledger>(
+    lowest: usize,
+    start: usize,
+    end: usize,
+    level: &Option<Level>,
+    levels: &mut [Option<Level>],
+    steps: &mut Steps<L>,
+) -> usize
+    requires lowest { lowest ≤ start }
+    requires some { start < end }
+    requires within { end ≤ length levels.old }
+    ensures lowest { lowest ≤ result }
+    ensures before { result < end }
+    ensures run { (us : List BidiUnit) → RemainAll us → length levels.old ≡ length us
+        → IsRun us result end level.now levels.old levels.new }
+    ensures steps { steps.new + max start result ≡ steps.old + end }
+{
+    if end - lowest >= BLOCK {
+        return write_eight(start, end, level, levels, steps);
     }
+    steps.tick();
+    levels[end - 1] = *level;
+    end - 1
 }
 
 /// Writes this level before `end`, eight at a time, down to `start` or a few positions before it, but nothing before
 /// `lowest`. Returns from which position on it is written. Each position from `start` on is a step.
-// Eight levels are one store, so the few before `start` cost nothing.
 fn write_back<L: Ledger>(
     lowest: usize,
     start: usize,
@@ -89,24 +135,22 @@ fn write_back<L: Ledger>(
     steps: &mut Steps<L>,
 ) -> usize
     requires lowest { lowest ≤ end }
-    requires order { start ≤ end }
     requires within { end ≤ length levels.old }
     ensures lowest { lowest ≤ result }
     ensures within { result ≤ end }
     ensures run { (us : List BidiUnit) → RemainAll us → length levels.old ≡ length us
         → IsRun us result end level.now levels.old levels.new }
-    ensures steps { steps.new + max start result ≡ steps.old + end }
+    ensures steps { steps.new + max start result ≡ steps.old + max start end }
 {
     let mut p = end;
     while p > start && p - lowest >= BLOCK {
-        steps.add((p - start).min(BLOCK));
-        p -= BLOCK;
-        write_eight(p, level, levels);
+        p = write_eight(start, p, level, levels, steps);
     }
     p
 }
 
-/// Writes this level from `start` up to `end`, and perhaps at positions before these, but at none before `lowest`.
+/// Writes this level from `start` up to `end`, and perhaps at positions before these, but at none before `lowest`. The
+/// last positions are written without a loop, so that a caller's turn that writes a run is counted with them.
 fn write_run<L: Ledger>(
     lowest: usize,
     start: usize,
@@ -116,16 +160,39 @@ fn write_run<L: Ledger>(
     steps: &mut Steps<L>,
 )
     requires lowest { lowest ≤ start }
-    requires order { start ≤ end }
+    requires some { start < end }
     requires within { end ≤ length levels.old }
     ensures run { (us : List BidiUnit) → RemainAll us → length levels.old ≡ length us
         → IsRunAfter us lowest start end level.now levels.old levels.new }
     ensures steps { steps.new + start ≡ steps.old + end }
 {
-    let p = write_back(lowest, start, end, level, levels, steps);
+    let last = write_last(lowest, start, end, level, levels, steps);
+    let p = write_back(lowest, start, last, level, levels, steps);
     if p > start {
         write_all(start, p, level, levels, steps);
     }
+}
+
+/// X9: Does what `write_remaining` does, for at least one position. The last one is written without a loop, so that a
+/// caller's turn that writes a run is counted with it.
+fn write_run_remaining<L: Ledger>(
+    para: &[Unit],
+    start: usize,
+    end: usize,
+    level: &Option<Level>,
+    levels: &mut [Option<Level>],
+    steps: &mut Steps<L>,
+)
+    requires some { start < end }
+    requires within { end ≤ length para.now }
+    requires levels { length levels.old ≡ length para.now }
+    ensures run { IsRun para.now start end level.now levels.old levels.new }
+    ensures steps { steps.new + start ≡ steps.old + end }
+{
+    let last = end - 1;
+    steps.tick();
+    levels[last] = level_at(para[last], level);
+    write_remaining(para, start, last, level, levels, steps);
 }
 
 /// A paragraph, and whether all its units remain (X9).
@@ -160,7 +227,7 @@ fn spread_all<L: Ledger>(
         write_run(k, start, end, &level, levels, steps);
         end = start;
     }
-    write_run(0, 0, end, &None, levels, steps);
+    write_all(0, end, &None, levels, steps);
 }
 
 /// X9: Writes the levels of any paragraph, as `spread` does.
@@ -182,7 +249,7 @@ fn spread_remaining<L: Ledger>(
     for k in (0..m).rev() {
         let start = start_of(starts[k]);
         let level = levels[k];
-        write_remaining(para, start, end, &level, levels, steps);
+        write_run_remaining(para, start, end, &level, levels, steps);
         end = start;
     }
     write_remaining(para, 0, end, &None, levels, steps);

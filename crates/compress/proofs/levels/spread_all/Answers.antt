@@ -1,6 +1,6 @@
 use Rattle.std.proofs.Common.{arith, None, ◌-◌, ◌∙◌, ◌≡◌, subst}
 use Rattle.std.proofs.lemmas.List.{get_or_default}
-use Rattle.compress.proofs.Placing.{IsSpread, starts_above, spread_none, spread_one, spread_all, spread_resolves}
+use Rattle.compress.proofs.Placing.{IsSpread, starts_above, starts_below, spread_none, spread_one, spread_all, spread_resolves}
 use Rattle.compress.proofs.levels.spread_all.Goals as goal
 
 pub loop-k-init : goal.loop-k-init
@@ -14,6 +14,12 @@ write_run-requires-clause-lowest g c =
     let low = starts_above c.args.para.now c.args.starts.now c.args.m c.args.levels.now c.loop-k.levels c.loop-k.end c.loop-k.k c.loop-k-test.true
     c.loop-k.invariant.spread in
     omega (arith, low, c.start_of-start.ensures)
+
+pub write_run-requires-clause-some : goal.write_run-requires-clause-some
+write_run-requires-clause-some g c =
+    let below = starts_below c.args.para.now c.args.starts.now c.args.m c.args.levels.now c.loop-k.levels c.loop-k.end c.loop-k.k c.loop-k-test.true
+    c.loop-k.invariant.spread in
+    omega (arith, below, c.start_of-start.ensures)
 
 pub loop-k-preserved : goal.loop-k-preserved
 loop-k-preserved g c =
@@ -31,11 +37,11 @@ loop-k-preserved g c =
 
 pub returns-clause-resolved : goal.returns-clause-resolved
 returns-clause-resolved g c =
-    let w = c.write_run-2.ensures in
+    let w = c.write_all.ensures in
     let run = w.run c.args.para.now c.requires.all_remain (omega (arith, c.requires.levels, c.loop-k.auto.levels)) in
     let none : c.loop-k.k ≡ 0 = omega (arith, c.loop-k-test.false) in
     let s = subst (λ k. IsSpread c.args.para.now c.args.starts.now c.args.m c.args.levels.now c.loop-k.levels c.loop-k.end k) none
     c.loop-k.invariant.spread in
-    spread_resolves c.args.para.now c.args.starts.now c.args.m c.args.levels.now c.write_run-2.new.levels
-    (omega (arith, c.requires.laid.within, c.requires.levels)) (omega (arith, c.write_run-2.auto.levels, c.loop-k.auto.levels, c.requires.levels))
-    (spread_all c.args.para.now c.args.starts.now c.args.m c.args.levels.now c.loop-k.levels c.write_run-2.new.levels c.loop-k.end s run.inside run.above)
+    spread_resolves c.args.para.now c.args.starts.now c.args.m c.args.levels.now c.write_all.new.levels
+    (omega (arith, c.requires.laid.within, c.requires.levels)) (omega (arith, c.write_all.auto.levels, c.loop-k.auto.levels, c.requires.levels))
+    (spread_all c.args.para.now c.args.starts.now c.args.m c.args.levels.now c.loop-k.levels c.write_all.new.levels c.loop-k.end s run.inside run.above)

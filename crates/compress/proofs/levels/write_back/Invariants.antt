@@ -9,7 +9,7 @@ invariant-loop-p g l = record {
   lowest : l.lowest ≤ l.p;
   within : l.p ≤ l.end;
   run : (us : List BidiUnit) → RemainAll us → length l.initial.levels ≡ length us → IsRun us l.p l.end l.level l.initial.levels l.levels;
-  steps : l.steps + max l.start l.p ≡ l.initial.steps + l.end;
+  steps : l.steps + max l.start l.p ≡ l.initial.steps + max l.start l.end;
 }
 
 abbrev pub decreases-loop-p : goal.decreases-loop-p
