@@ -1,5 +1,6 @@
 -- The resolution of paragraphs: its buffers, and the known properties of a resolved paragraph or of one unit alone.
 use Rattle.std.specs.Prelude.{Option, Some, None, ℕ, ◌≡◌, Bool, true, List, [], ◌∷◌, slice_index_or}
+use Rattle.std.specs.Int.{div_ceil}
 use Rattle.units.specs.Classes.{classes_of}
 use Rattle.units.specs.Isolates.{level_of_para, para_level_of}
 use Rattle.units.specs.Layout.{resolved_levels}
@@ -25,6 +26,11 @@ pub record Work : Type 0 where
   pub room : ℕ
   pub before : List Class
   pub classes : List Class
+
+-- the length of the column for the few units of paragraphs of up to n positions, and for the positions at which these
+-- begin: one in eight positions at most
+abbrev pub few_room : ℕ → ℕ
+few_room n = div_ceil n 4
 
 -- each position that has a level has this one
 abbrev pub StaysAt : ℕ → List (Option ℕ) → Type 0

@@ -358,9 +358,6 @@ fn scan_near<L: Ledger>(
     let side = Side::Unknown.noting(strong);
     let mut classes = before;
     for position in start..text.len() {
-        if position - start == NEAR {
-            return scan_far(text, position, strong, classes, steps);
-        }
         steps.tick();
         let class = text[position].class;
         classes = classes.with(class);
@@ -369,6 +366,9 @@ fn scan_near<L: Ledger>(
                 length: position + 1,
                 contents: Contents { classes, side },
             };
+        }
+        if position + 1 - start == NEAR {
+            return scan_far(text, position + 1, strong, classes, steps);
         }
     }
     FirstParagraph {

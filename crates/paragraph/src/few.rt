@@ -1,9 +1,11 @@
 //! A long flat paragraph by few of its units, which are resolved in its place (X1 to I2).
-ghost use Rattle.std.specs.Prelude.{◌≡◌, ◌+◌, ◌*◌, ◌<◌, ◌≤◌, ◌^◌, false, length, true};
+ghost use Rattle.std.specs.Prelude.{◌≡◌, ◌+◌, ◌*◌, ◌<◌, ◌≤◌, ◌^◌, IfOk, false, length, true};
+ghost use Rattle.std.specs.Box.{boxed_slice_len};
 ghost use Rattle.units.specs.Classes.{classes_of};
 ghost use Rattle.units.specs.Isolates.{level_of_para};
 ghost use Rattle.units.specs.Layout.{resolved_levels};
 ghost use Rattle.paragraph.specs.Contents.{Describes, are_flat};
+ghost use Rattle.paragraph.specs.Resolvers.{few_room};
 ghost use Rattle.paragraph.specs.StepBounds.{w_to_i_steps, x_rules_steps};
 
 use crate::contents::Contents;
@@ -50,7 +52,9 @@ fn limit_for(contents: Contents) -> TurnLimit {
 
 /// Makes a column for the few units of paragraphs of up to `n` positions, and for the positions at which these begin:
 /// one in eight positions at most. If there are more, the paragraph is resolved by all its units.
-pub fn few_column(alloc: Global, n: usize) -> Result<BoxedSlice<Unit>, Memory> {
+pub fn few_column(alloc: Global, n: usize) -> Result<BoxedSlice<Unit>, Memory>
+    ensures { IfOk result (λ few. boxed_slice_len few ≡ few_room n) }
+{
     let unused = Unit {
         class: Class::BN,
         bracket: Bracket::No,

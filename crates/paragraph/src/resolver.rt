@@ -1,12 +1,13 @@
 //! The resolved levels of a paragraph, rule after rule (P2 to I2).
 ghost use Rattle.std.specs.Prelude.{◌≡◌, ℕ, false, true, ◌+◌, ◌*◌, ◌≤◌, IfOk, length};
+ghost use Rattle.std.specs.Box.{boxed_slice_len};
 ghost use Rattle.units.specs.Classes.{classes_of};
 ghost use Rattle.units.specs.Isolates.{level_of_para};
 ghost use Rattle.units.specs.Layout.{resolved_levels};
 ghost use Rattle.units.specs.Paragraphs.{SeparatorOnlyLast};
 ghost use Rattle.explicit.specs.IsolateMaps.{IsFilledFrom};
 ghost use Rattle.paragraph.specs.Contents.{Describes, are_flat};
-ghost use Rattle.paragraph.specs.Resolvers.{IsResolved};
+ghost use Rattle.paragraph.specs.Resolvers.{IsResolved, few_room};
 ghost use Rattle.paragraph.specs.StepBounds.{driver_steps, paragraph_steps, w_to_i_steps, x_rules_steps};
 
 use crate::contents::{Contents, FirstParagraph};
@@ -38,7 +39,7 @@ impl Model for Resolver {
 
     ghost view = { λ r. r.work.room };
 
-    ghost invariant = { λ r. r.found.room ≡ r.work.room };
+    ghost invariant = { λ r. (r.found.room ≡ r.work.room) × (boxed_slice_len r.few ≡ few_room r.work.room) };
 }
 
 /// Applies X1 to I2 to a paragraph of this level. If the paragraph isn't flat, its isolates (BD9) are in `found`.

@@ -29,3 +29,13 @@ returns-then-is_separator-clause-first g c =
             c.loop-position.invariant.strong));
       };
     }
+
+pub scan_far-requires-clause-front : goal.scan_far-requires-clause-front
+scan_far-requires-clause-front g c =
+    front_more c.loop-position.invariant.front c.loop-position-test.true (sym c.is_separator.ensures ∙
+    c.if-is_separator.false) (c.with-classes.ensures _ c.loop-position.invariant.front.set)
+
+pub scan_far-requires-clause-strong : goal.scan_far-requires-clause-strong
+scan_far-requires-clause-strong g c =
+    first_strong_stays c.args.text.now c.loop-position.position no_unit c.loop-position-test.true c.args.strong
+    c.loop-position.invariant.strong
