@@ -99,6 +99,12 @@ pub record IsStateAt (known : Known) (us chosen starts : List BidiUnit) (m p : �
   pub strong : known.strong ≡ (known_after known.direction (stack_of us chosen starts m p)).strong
   pub apart : IsApart known.direction chosen m (slice_index_or us p no_unit)
 
+-- the pass has come to this position: the first m chosen units are those of the units before it
+pub record HasPassed (direction : Class) (us chosen starts : List BidiUnit) (p : ℕ) : Type 0 where
+  pub m : ℕ
+  pub laid : IsLaid us starts m p
+  pub leads : LeadsOn direction us (stack_of us chosen starts m p) p
+
 -- the first m chosen units are those of the whole paragraph
 pub record AreFew (direction : Class) (us chosen starts : List BidiUnit) (m : ℕ) : Type 0 where
   pub laid : IsLaid us starts m (length us)

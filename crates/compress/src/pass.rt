@@ -4,7 +4,7 @@ ghost use Rattle.units.specs.Classes.{is_removed, is_strong};
 ghost use Rattle.units.specs.Layout.{no_unit};
 ghost use Rattle.units.specs.declared.bracket.Unit.{Unit as BidiUnit};
 ghost use Rattle.units.specs.declared.class.Class.{Class as BidiClass};
-ghost use Rattle.compress.specs.Laid.{start_of, stack_of, class_after, BecomesLetter, IsLaid, IsNextAt, IsApart, IsStateAt, LeadsOn, AreFew};
+ghost use Rattle.compress.specs.Laid.{start_of, stack_of, class_after, BecomesLetter, IsLaid, IsNextAt, IsApart, IsStateAt, LeadsOn, HasPassed, AreFew};
 ghost use Rattle.compress.specs.PassedSets.{has};
 ghost use Rattle.compress.specs.Remaining.{remaining_units};
 ghost use Rattle.compress.specs.Squeeze.{Stack, is_bare, is_open_letter, passes_after, popped, added, next_for, turned, first_unit, known_after};
@@ -602,14 +602,12 @@ fn pass_words<L: Ledger>(
         || is_removed (slice_index_or para.now result no_unit).class)) ≡ false }
     ensures steps { steps.new + start ≡ steps.old + result }
 {
-    let mut p = start;
-    let mut next = start;
-    let mut more = true;
-    while more {
+    let mut p = pass_singly(para, start, set, steps);
+    let mut next = past_neutrals(letter, para, p);
+    while next > p {
         steps.add(next - p);
         p = pass_singly(para, next, set, steps);
         next = past_neutrals(letter, para, p);
-        more = next > p;
     }
     p
 }
@@ -665,52 +663,108 @@ fn next_remaining<L: Ledger>(para: &[Unit], start: usize, steps: &mut Steps<L>) 
 /// How many turns the pass may make before it gives up. It also gives up if there is no room for the chosen units.
 #[derive(Clone, Copy)]
 pub enum TurnLimit {
-    /// One for twelve units, later one for eight: for texts that take few instructions in any case.
+    /// At first one for twelve units: for texts that take few instructions in any case.
     Strict,
-    /// One for eight units, later one for six: for texts that take more.
+    /// At first one for eight units: for texts that take more.
     Lenient,
 }
 
-/// Returns how many turns the pass may have made at this position: at first few, so that it gives up early if
-/// directions change often, and later more, since then most is done.
+/// Before this position few turns are allowed, so that the pass gives up early if directions change often.
+const EARLY: usize = 256;
+
+/// How many turns after `EARLY` the pass makes before it asks again.
+const WINDOW: usize = 24;
+
+/// How many turns the pass may still make before it asks again, and the position at which it asked last.
+#[derive(Clone, Copy)]
+struct Granted {
+    remaining: usize,
+    asked: usize,
+}
+
+/// Returns how many turns the pass may have made at this position. There is room for one chosen unit in eight.
 fn most_turns(limit: TurnLimit, p: usize) -> usize
     ensures { (n : ℕ) → p ≤ n → result ≤ n + 10 }
 {
+    if p >= EARLY {
+        return p / 8 + 10;
+    }
     match limit {
-        TurnLimit::Strict => { if p < 256 { p / 12 + 2 } else { p / 8 + 10 } }
-        TurnLimit::Lenient => { if p < 256 { p / 8 + 3 } else { p / 6 + 10 } }
+        TurnLimit::Strict => p / 12 + 2,
+        TurnLimit::Lenient => p / 8 + 3,
     }
 }
 
-/// Returns how many turns the pass may make from this position on before it asks again, after it has made so many. Not
-/// more than `room` units can be chosen.
+/// Returns whether turns have become so frequent since the pass asked last that there is no room for the rest of `n`
+/// units if this goes on: a long stretch without turns, however many it saved, says nothing of the stretch after it.
+fn are_frequent(asked: usize, p: usize, turns: usize, n: usize) -> bool
+    requires asked { asked ≤ p }
+    requires within { p ≤ n }
+    requires short { n < 2 ^ 32 }
+    requires turned { turns ≤ p }
+{
+    let passed = (p - asked).max(1);
+    asked >= EARLY && passed < 3 * WINDOW && turns + (n - p) * WINDOW / passed > n / 8
+}
+
+/// Returns what is granted at the position `p` of `n` units after so many turns: none if these are too many. Not more
+/// than `room` units can be chosen.
 #[inline(never)]
-fn more_turns(limit: TurnLimit, p: usize, turns: usize, room: usize) -> usize
-    requires { p < 2 ^ 32 }
-    ensures { result ≤ room }
+fn granted_at(
+    limit: TurnLimit,
+    asked: usize,
+    p: usize,
+    turns: usize,
+    n: usize,
+    room: usize,
+) -> Granted
+    requires asked { asked ≤ p }
+    requires within { p ≤ n }
+    requires short { n < 2 ^ 32 }
+    requires turned { turns ≤ p }
+    ensures within { result.remaining ≤ room }
+    ensures asked { result.asked ≤ p }
 {
     let most = most_turns(limit, p);
-    if turns > most {
-        return 0;
+    if turns > most || are_frequent(asked, p, turns, n) {
+        return Granted {
+            remaining: 0,
+            asked: p,
+        };
     }
-    room.min(most - turns + 1)
+    let more = if p < EARLY { most - turns + 1 } else { WINDOW };
+    Granted {
+        remaining: room.min(more),
+        asked: p,
+    }
 }
 
-/// Returns how many turns the pass may make from this position on: those that remain, or more if none does.
-fn remaining_turns(remaining: usize, limit: TurnLimit, p: usize, turns: usize, room: usize) -> usize
-    requires { p < 2 ^ 32 }
-    ensures { remaining ≤ room → result ≤ room }
+/// Returns what is granted at the position `p` of `n` units: what remains, or more if no turn does.
+fn granted_or_more(
+    granted: Granted,
+    limit: TurnLimit,
+    p: usize,
+    turns: usize,
+    n: usize,
+    room: usize,
+) -> Granted
+    requires asked { granted.asked ≤ p }
+    requires within { p ≤ n }
+    requires short { n < 2 ^ 32 }
+    requires turned { turns ≤ p }
+    ensures within { granted.remaining ≤ room → result.remaining ≤ room }
+    ensures asked { result.asked ≤ p }
 {
-    if remaining > 0 {
-        remaining
+    if granted.remaining > 0 {
+        granted
     } else {
-        more_turns(limit, p, turns, room)
+        granted_at(limit, granted.asked, p, turns, n, room)
     }
 }
 
 /// Chooses the few units that are to be resolved in place of this paragraph, in a sequence of this direction, and the
 /// position at which each begins. Returns how many these are, or `None` if there is no room for them or if the pass
-/// has made more turns than `limit` says.
+/// makes more turns than `limit` says.
 #[inline(never)]
 pub fn squeeze<L: Ledger>(
     para: &[Unit],
@@ -722,23 +776,28 @@ pub fn squeeze<L: Ledger>(
 ) -> Option<usize>
     requires short { length para.now < 2 ^ 32 }
     ensures few { IfSome result (λ m. AreFew direction para.now chosen.new starts.new m) }
+    ensures all { IfSome result (λ m. steps.new ≡ steps.old + length para.now) }
+    ensures counted { (p : ℕ) → steps.new ≡ steps.old + p → HasPassed direction para.now chosen.new starts.new p }
     ensures at_least { steps.old ≤ steps.new }
     ensures at_most { steps.new ≤ steps.old + length para.now }
 {
     let room = chosen.len().min(starts.len());
+    let mut granted = Granted {
+        remaining: 0,
+        asked: 0,
+    };
     let mut m = 0;
     let mut turns = 0;
-    let mut remaining = 0;
     let mut strong = direction;
     let mut p = next_remaining(para, 0, steps);
     while p < para.len() {
-        let allowed = remaining_turns(remaining, limit, p, turns, room - m);
-        if allowed == 0 {
+        granted = granted_or_more(granted, limit, p, turns, para.len(), room - m);
+        if granted.remaining == 0 {
             return None;
         }
-        steps.tick();
-        remaining = allowed - 1;
+        granted.remaining -= 1;
         turns += 1;
+        steps.tick();
         let known = Known { direction, strong };
         let now = turn(known, chosen, starts, m, para, p, steps);
         m = now.m;

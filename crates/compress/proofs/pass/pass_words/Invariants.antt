@@ -1,4 +1,4 @@
-use Rattle.std.proofs.Common.{◌≡◌, ◌≤◌, ◌<◌, ◌+◌, ◌-◌, ℕ, suc, true, false, if◌then◌else◌, List, length, slice_index_or}
+use Rattle.std.proofs.Common.{◌≡◌, ◌≤◌, ◌<◌, ◌+◌, ◌-◌, ℕ, suc, true, false, List, length, slice_index_or}
 use Rattle.std.specs.Prelude.{◌&&◌, ◌||◌}
 use Rattle.units.specs.Classes.{is_removed}
 use Rattle.units.specs.Layout.{no_unit}
@@ -9,8 +9,8 @@ use Rattle.compress.specs.PassedSets.{has}
 use Rattle.compress.specs.Squeeze.{is_bare, is_open_letter, passes_after}
 use Rattle.compress.proofs.pass.pass_words.Given as goal
 
-abbrev pub invariant-loop-more : goal.invariant-loop-more
-invariant-loop-more g l = record {
+abbrev pub invariant-loop-p : goal.invariant-loop-p
+invariant-loop-p g l = record {
   from_start : l.start ≤ l.p;
   later : l.p ≤ l.next;
   within : l.next ≤ length l.para;
@@ -19,11 +19,10 @@ invariant-loop-more g l = record {
       ((next : BidiClass) → has l.set next ≡ passes_after direction (slice_index_or chosen k no_unit) next) → IsLaid l.para starts (suc k) l.start →
       LeadsOn direction l.para (stack_of l.para chosen starts (suc k) l.start) l.start →
       LeadsOn direction l.para (stack_of l.para chosen starts (suc k) l.next) l.next;
-  last : l.more ≡ false → l.next ≡ l.p;
-  stopped : l.more ≡ false → l.p < length l.para → (has l.set (slice_index_or l.para l.p no_unit).class
+  stopped : l.p < length l.para → (has l.set (slice_index_or l.para l.p no_unit).class
       && (is_bare (slice_index_or l.para l.p no_unit).bracket || is_removed (slice_index_or l.para l.p no_unit).class)) ≡ false;
-  steps : l.steps + l.start ≡ l.initial.steps + l.p;
+  steps : l.steps + l.initial.p ≡ l.initial.steps + l.p;
 }
 
-abbrev pub decreases-loop-more : goal.decreases-loop-more
-decreases-loop-more g l = if l.more then suc (length l.para - l.next) else 0
+abbrev pub decreases-loop-p : goal.decreases-loop-p
+decreases-loop-p g l = length l.para - l.p

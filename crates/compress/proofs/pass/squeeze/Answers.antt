@@ -2,7 +2,7 @@ use Rattle.std.proofs.Common.{arith, ap, sym, subst, refl, ◌∙◌, if◌then�
 use Rattle.units.specs.Classes.{is_strong}
 use Rattle.units.specs.declared.bracket.Unit.{Unit as BidiUnit}
 use Rattle.units.specs.declared.class.Class.{Class as BidiClass}
-use Rattle.compress.specs.Laid.{stack_of, class_after, IsApart, IsLaid, IsStateAt, LeadsOn}
+use Rattle.compress.specs.Laid.{stack_of, class_after, IsApart, IsLaid, IsStateAt, LeadsOn, HasPassed}
 use Rattle.compress.specs.Squeeze.{Stack, next_for, known_after}
 use Rattle.compress.specs.declared.pass.Known.{Known}
 use Rattle.compress.proofs.Counting.{at, removed_between}
@@ -10,6 +10,11 @@ use Rattle.compress.proofs.Knowing.{next_alike, turned_strong}
 use Rattle.compress.proofs.Laying.{laid_none}
 use Rattle.compress.proofs.Passing.{leads_turn, leads_past_removed, laid_past_run, known_same, leads_to_end}
 use Rattle.compress.proofs.pass.squeeze.Goals as goal
+
+passed_to : (direction : BidiClass) (us chosen starts : List BidiUnit) (m p q : ℕ) → IsLaid us starts m p → LeadsOn direction us (stack_of us chosen starts m p) p → p ≡ q →
+    HasPassed direction us chosen starts q
+passed_to direction us chosen starts m p q laid leads e =
+    subst (HasPassed direction us chosen starts) e (record { m = m; laid = laid; leads = leads })
 
 pub loop-p-init : goal.loop-p-init
 loop-p-init g c =
@@ -23,14 +28,15 @@ loop-p-init g c =
       apart = λ lt. record { remains = first.here lt; stopped = λ k e. absurd (omega arith) };
       fits = omega arith;
       starts_fit = omega arith;
+      asked = omega arith;
       turned = omega arith;
       strong = refl;
       counted = omega arith;
       steps = omega arith;
     }
 
-pub returns-then-allowed-eq0-clause-at_most : goal.returns-then-allowed-eq0-clause-at_most
-returns-then-allowed-eq0-clause-at_most g c =
+pub returns-then-granted-eq0-clause-at_most : goal.returns-then-granted-eq0-clause-at_most
+returns-then-granted-eq0-clause-at_most g c =
     omega (arith, c.loop-p.invariant.steps, c.next_remaining-p.ensures.steps, c.loop-p.invariant.laid.end_within)
 
 pub loop-p-preserved : goal.loop-p-preserved
@@ -56,8 +62,9 @@ loop-p-preserved g c =
     leads_turn d us p end old (stack_of us chosen starts m end) c.loop-p-test.true state.apart.remains (omega (arith, after.later)) after.within after.removed
     (after.stack state) c.loop-p.invariant.leads in
     let passing = c.pass_on-p.ensures in
-    let within : c.remaining_turns-allowed.result ≤ c.min-room.result - c.loop-p.m =
-    c.remaining_turns-allowed.ensures (omega (arith, c.loop-p.invariant.fits, c.loop-p.invariant.starts_fit, c.min-room.ensures)) in
+    let more = c.granted_or_more-granted.ensures in
+    let within : c.granted_or_more-granted.result.remaining ≤ c.min-room.result - c.loop-p.m =
+    more.within (omega (arith, c.loop-p.invariant.fits, c.loop-p.invariant.starts_fit, c.min-room.ensures)) in
     let last : m ≡ suc (m - 1) = omega (arith, after.some) in
     let laid_last : IsLaid us starts (suc (m - 1)) end = subst (λ n. IsLaid us starts n end) last laid in
     let way_last : LeadsOn d us (stack_of us chosen starts (suc (m - 1)) end) end =
@@ -67,8 +74,9 @@ loop-p-preserved g c =
           (passing.leads chosen starts (m - 1) refl laid_last way_last);
       laid = laid_past_run d us chosen starts m end run after.some passing.from_start passing.within laid;
       apart = λ lt. subst (λ n. IsApart d chosen n (at us run)) (sym last) (passing.apart chosen (m - 1) refl lt);
-      fits = omega (arith, after.more, within, c.loop-p.invariant.fits, c.min-room.ensures, c.if-allowed-eq0.false);
-      starts_fit = omega (arith, after.more, within, c.loop-p.invariant.starts_fit, c.min-room.ensures, c.if-allowed-eq0.false);
+      fits = omega (arith, after.more, within, c.loop-p.invariant.fits, c.min-room.ensures, c.if-granted-eq0.false);
+      starts_fit = omega (arith, after.more, within, c.loop-p.invariant.starts_fit, c.min-room.ensures, c.if-granted-eq0.false);
+      asked = omega (arith, more.asked, after.later, passing.from_start);
       turned = omega (arith, c.loop-p.invariant.turned, after.later, passing.from_start);
       strong = after.strong
           ∙ sym (next_alike d old (at us p) (class_after us p) c.loop-p.strong c.loop-p.invariant.strong)
@@ -97,3 +105,19 @@ returns-clause-few g c =
       fits = omega (arith, c.loop-p.invariant.fits);
       starts_fit = omega (arith, c.loop-p.invariant.starts_fit);
     }
+
+pub returns-clause-all : goal.returns-clause-all
+returns-clause-all g c =
+    omega (arith, c.loop-p.invariant.steps, c.next_remaining-p.ensures.steps, c.loop-p-test.false, c.loop-p.invariant.laid.end_within)
+
+pub returns-then-granted-eq0-clause-counted : goal.returns-then-granted-eq0-clause-counted
+returns-then-granted-eq0-clause-counted g c = λ p e.
+    let l = c.loop-p in
+    let here : l.p ≡ p = omega (arith, l.invariant.steps, c.next_remaining-p.ensures.steps) in
+    passed_to c.args.direction c.args.para.now l.chosen l.starts l.m l.p p l.invariant.laid l.invariant.leads here
+
+pub returns-clause-counted : goal.returns-clause-counted
+returns-clause-counted g c = λ p e.
+    let l = c.loop-p in
+    let here : l.p ≡ p = omega (arith, l.invariant.steps, c.next_remaining-p.ensures.steps) in
+    passed_to c.args.direction c.args.para.now l.chosen l.starts l.m l.p p l.invariant.laid l.invariant.leads here

@@ -9,8 +9,9 @@ invariant-loop-p g l = record {
   leads : LeadsOn l.direction l.para (stack_of l.para l.chosen l.starts l.m l.p) l.p;
   laid : IsLaid l.para l.starts l.m l.p;
   apart : l.p < length l.para → IsApart l.direction l.chosen l.m (slice_index_or l.para l.p no_unit);
-  fits : l.m + l.remaining ≤ length l.chosen;
-  starts_fit : l.m + l.remaining ≤ length l.starts;
+  fits : l.m + l.granted.remaining ≤ length l.chosen;
+  starts_fit : l.m + l.granted.remaining ≤ length l.starts;
+  asked : l.granted.asked ≤ l.p;
   turned : l.turns ≤ l.p;
   strong : l.strong ≡ (known_after l.direction (stack_of l.para l.chosen l.starts l.m l.p)).strong;
   counted : l.initial.steps ≤ l.steps;
