@@ -695,38 +695,34 @@ fn most_turns(limit: TurnLimit, p: usize) -> usize
     }
 }
 
-/// Returns whether turns have become so frequent since the pass asked last that there is no room for the rest of `n`
-/// units if this goes on: a long stretch without turns, however many it saved, says nothing of the stretch after it.
-fn are_frequent(asked: usize, p: usize, turns: usize, n: usize) -> bool
+/// Returns whether turns have become so frequent since the pass asked last that `room` units are too few for the `rest`
+/// of the paragraph if this goes on. A long stretch without turns before them says nothing of what follows.
+fn are_frequent(asked: usize, p: usize, rest: usize, room: usize) -> bool
     requires asked { asked ≤ p }
-    requires within { p ≤ n }
-    requires short { n < 2 ^ 32 }
-    requires turned { turns ≤ p }
+    requires short { rest < 2 ^ 32 }
 {
     let passed = (p - asked).max(1);
-    asked >= EARLY && passed < 3 * WINDOW && turns + (n - p) * WINDOW / passed > n / 8
+    asked >= EARLY && passed < 3 * WINDOW && rest * WINDOW / passed > room
 }
 
-/// Returns what is granted at the position `p` of `n` units after so many turns: none if these are too many. Not more
-/// than `room` units can be chosen.
+/// Returns what is granted at the position `p` after so many turns, before the `rest` of the paragraph: none if these
+/// are too many. Not more than `room` units can be chosen.
 #[inline(never)]
 fn granted_at(
     limit: TurnLimit,
     asked: usize,
     p: usize,
     turns: usize,
-    n: usize,
+    rest: usize,
     room: usize,
 ) -> Granted
     requires asked { asked ≤ p }
-    requires within { p ≤ n }
-    requires short { n < 2 ^ 32 }
-    requires turned { turns ≤ p }
+    requires short { rest < 2 ^ 32 }
     ensures within { result.remaining ≤ room }
     ensures asked { result.asked ≤ p }
 {
     let most = most_turns(limit, p);
-    if turns > most || are_frequent(asked, p, turns, n) {
+    if turns > most || are_frequent(asked, p, rest, room) {
         return Granted {
             remaining: 0,
             asked: p,
@@ -739,26 +735,24 @@ fn granted_at(
     }
 }
 
-/// Returns what is granted at the position `p` of `n` units: what remains, or more if no turn does.
+/// Returns what is granted at the position `p`: what remains, or more if no turn does.
 fn granted_or_more(
     granted: Granted,
     limit: TurnLimit,
     p: usize,
     turns: usize,
-    n: usize,
+    rest: usize,
     room: usize,
 ) -> Granted
     requires asked { granted.asked ≤ p }
-    requires within { p ≤ n }
-    requires short { n < 2 ^ 32 }
-    requires turned { turns ≤ p }
+    requires short { rest < 2 ^ 32 }
     ensures within { granted.remaining ≤ room → result.remaining ≤ room }
     ensures asked { result.asked ≤ p }
 {
     if granted.remaining > 0 {
         granted
     } else {
-        granted_at(limit, granted.asked, p, turns, n, room)
+        granted_at(limit, granted.asked, p, turns, rest, room)
     }
 }
 
@@ -791,7 +785,7 @@ pub fn squeeze<L: Ledger>(
     let mut strong = direction;
     let mut p = next_remaining(para, 0, steps);
     while p < para.len() {
-        granted = granted_or_more(granted, limit, p, turns, para.len(), room - m);
+        granted = granted_or_more(granted, limit, p, turns, para.len() - p, room - m);
         if granted.remaining == 0 {
             return None;
         }
