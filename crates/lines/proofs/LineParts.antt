@@ -1,7 +1,7 @@
 -- A line of one level, written part by part.
-use Rattle.std.proofs.Common.{◌≡◌, ℕ, ◌+◌, ◌-◌, ◌≤◌, ◌++◌, Bool, Option, List, [], ◌∷◌, zero, suc, inl, inr, refl, sym, ap, ◌∙◌, arith}
+use Rattle.std.proofs.Common.{◌≡◌, ℕ, ◌+◌, ◌-◌, ◌<◌, ◌≤◌, ◌%◌, ◌⊎◌, ◌++◌, min, Bool, Option, List, [], ◌∷◌, zero, suc, inl, inr, refl, sym, ap, ◌∙◌, arith}
 use Rattle.std.specs.Prelude.{filter, reverse}
-use Rattle.std.proofs.lemmas.Bool.{cases_Bool}
+use Rattle.std.proofs.lemmas.Bool.{cases_Bool, cases_lt}
 use Rattle.std.proofs.lemmas.List.{reverse-append}
 use Rattle.std.proofs.lemmas.List.Elements.{filter-append}
 use Rattle.units.specs.Isolates.{level_of_para}
@@ -10,6 +10,7 @@ use Rattle.units.specs.Reordering.{line_order}
 use Rattle.units.specs.declared.level.ParaLevel.{ParaLevel}
 use Rattle.units.specs.declared.level.ParaLevel.TheVariants.{Zero, One}
 use Rattle.lines.specs.LinePositions.{IsAtOneLevel, is_remaining, remaining}
+use Rattle.lines.specs.StepBounds.{parts_of}
 use Rattle.lines.proofs.Uniform.{uniform-falling, uniform-rising}
 
 -- a part of the line has that level too
@@ -66,6 +67,19 @@ falling_more levels start end position next before after low forward high at is 
     (uniform-falling levels next position 1 forward refl (part_at levels start end next position 1 low high at))
     ∙ sym (reverse-append (remaining levels next position) (remaining levels position end))
     ∙ ap reverse (sym (remaining_split levels next position end forward high))
+
+-- the positions that are done are all, or those of whole parts
+abbrev pub AreParts : ℕ → ℕ → Type 0
+AreParts done all = (done ≡ all) ⊎ (done % 128 ≡ 0)
+
+-- with one more part
+pub next_part : (done all size : ℕ) → done < all → size ≡ min 128 (all - done) → AreParts done all →
+    AreParts (done + size) all × (parts_of (done + size) ≡ parts_of done + 1)
+next_part done all size more is parts =
+    let whole : done % 128 ≡ 0 = elim parts [ inl e ↦ absurd (omega (arith, e)) | inr h ↦ h ] in (
+      elim (cases_lt (all - done) 128) [ inl last ↦ inl (omega arith) | inr full ↦ inr (omega arith) ],
+      omega arith,
+    )
 
 -- one position is its own order, rising and falling
 reversed_one : (test : ℕ → Bool) (position : ℕ) → reverse (filter test (position ∷ [])) ≡ filter test (position ∷ [])

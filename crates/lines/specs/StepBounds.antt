@@ -1,5 +1,5 @@
 -- The number of steps of a layout, per position of its text.
-use Rattle.std.specs.Prelude.{ℕ, ◌+◌}
+use Rattle.std.specs.Prelude.{ℕ, ◌+◌, ◌/◌}
 use Rattle.paragraph.specs.StepBounds.{driver_steps}
 
 -- P1 to I2 at most, if each paragraph keeps its level: one step each to find paragraphs, to find their contents, to
@@ -23,11 +23,15 @@ order_steps = linking_steps + 2
 abbrev pub uniform_order_steps : ℕ
 uniform_order_steps = 1 + 1
 
+-- the parts of a long line of this many positions, each of 128 positions but the last
+abbrev pub parts_of : ℕ → ℕ
+parts_of positions = (positions + 127) / 128
+
 -- L2 at most, over all lines: each line adds a step, and has at least one position
 abbrev pub line_steps : ℕ
 line_steps = order_steps + 1
 
--- the same, if the levels are known
+-- the same, if the levels are known; of a long line each part adds a step too
 abbrev pub uniform_line_steps : ℕ
 uniform_line_steps = uniform_order_steps + 1
 

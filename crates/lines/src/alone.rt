@@ -1,5 +1,5 @@
 //! One line of a text alone, at the cost of that line.
-ghost use Rattle.std.specs.Prelude.{◌≡◌, ◌<◌, ◌≤◌, ◌+◌, ◌-◌, ◌*◌, ◌^◌, IfSome, IsTrue, MatchResult, OnOk, false, length, map, slice_range, take, List, Option, ℕ};
+ghost use Rattle.std.specs.Prelude.{◌≡◌, ◌<◌, ◌≤◌, ◌+◌, ◌-◌, ◌*◌, ◌^◌, ◌⊎◌, Err, IfSome, IsTrue, MatchResult, OnOk, false, length, map, slice_range, take, List, Option, ℕ};
 ghost use Rattle.std.specs.List.{All, AllWithin};
 ghost use Rattle.units.specs.Isolates.{level_of_para};
 ghost use Rattle.units.specs.declared.level.ParaLevel.{ParaLevel as Para};
@@ -47,7 +47,7 @@ pub(crate) fn count_up_to(ends: &[u32], position: usize) -> usize
 }
 
 /// Returns the number of the paragraph (P1) that contains the line from `start` up to `end`. `ends` has the end of each
-/// paragraph of the text.
+/// paragraph of the text. Takes the steps of one search if the line is a range of the text, and else none.
 pub(crate) fn paragraph_of_line<L: Ledger>(
     text: &[Unit],
     ends: &[u32],
@@ -58,7 +58,8 @@ pub(crate) fn paragraph_of_line<L: Ledger>(
     requires { AreAllParagraphEnds text.now ends.now }
     ensures line { MatchResult result (IsLineOfParagraph text.now ends.now start end) (RejectsSpan text.now start end) }
     ensures search { OnOk result (steps.new ≡ steps.old + SEARCH_STEPS) }
-    ensures at_least { steps.old ≤ steps.new }
+    ensures crossing { result ≡ Err SpanFault.CrossesParagraph → steps.new ≡ steps.old + SEARCH_STEPS }
+    ensures no_search { (end ≤ start) ⊎ (length text.now < end) → steps.new ≡ steps.old }
     ensures at_most { steps.new ≤ steps.old + SEARCH_STEPS }
 {
     if start >= end {

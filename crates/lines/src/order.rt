@@ -5,7 +5,7 @@ ghost use Rattle.std.specs.Option.{is_some};
 ghost use Rattle.units.specs.Isolates.{level_of_para};
 ghost use Rattle.units.specs.Positions.{positions_from};
 ghost use Rattle.lines.specs.Spans.{IsRun, IsSpanAtLevel, order_of, remaining_in, units_in_span};
-ghost use Rattle.lines.specs.StepBounds.{uniform_order_steps, order_steps};
+ghost use Rattle.lines.specs.StepBounds.{uniform_order_steps, order_steps, parts_of};
 
 use crate::positions::{all_remain, count_down, count_up};
 use crate::runs::{Run, link_line};
@@ -165,6 +165,7 @@ fn append_part<L: Ledger>(
 const PART: usize = 128;
 
 /// Writes the remaining positions of a line at level 0 to the front of `order`, part by part, and returns their number.
+/// Takes two steps for each position, and one for each part.
 fn write_parts_rising<L: Ledger>(
     line: LineSpan<'_>,
     order: &mut [usize],
@@ -174,12 +175,13 @@ fn write_parts_rising<L: Ledger>(
     requires room { units_in_span line ≤ length order.old }
     ensures order { take result order.new ≡ remaining_in line.entry }
     ensures count { result ≤ units_in_span line.entry }
-    ensures steps { steps.new ≡ steps.old + 2 * units_in_span line.entry }
+    ensures steps { steps.new ≡ steps.old + 2 * units_in_span line.entry + parts_of (units_in_span line.entry) }
 {
     let LineSpan { levels, start, end } = line;
     let mut count = 0;
     let mut position = start;
     while position < end {
+        steps.tick();
         let next = position + PART.min(end - position);
         let part = LineSpan {
             levels,
@@ -202,12 +204,13 @@ fn write_parts_falling<L: Ledger>(
     requires room { units_in_span line ≤ length order.old }
     ensures order { take result order.new ≡ reverse (remaining_in line.entry) }
     ensures count { result ≤ units_in_span line.entry }
-    ensures steps { steps.new ≡ steps.old + 2 * units_in_span line.entry }
+    ensures steps { steps.new ≡ steps.old + 2 * units_in_span line.entry + parts_of (units_in_span line.entry) }
 {
     let LineSpan { levels, start, end } = line;
     let mut count = 0;
     let mut position = end;
     while position > start {
+        steps.tick();
         let next = position - PART.min(position - start);
         let part = LineSpan {
             levels,
@@ -220,7 +223,7 @@ fn write_parts_falling<L: Ledger>(
     count
 }
 
-/// Does what `write_part` does, for a line, part by part.
+/// Does what `write_part` does, for a line, part by part. Takes one more step for each part.
 // Inlined, short lines take more instructions.
 #[inline(never)]
 fn write_parts<L: Ledger>(
@@ -233,7 +236,7 @@ fn write_parts<L: Ledger>(
     requires room { units_in_span line ≤ length order.old }
     ensures order { take result order.new ≡ order_of line.entry }
     ensures count { result ≤ units_in_span line.entry }
-    ensures steps { steps.new ≡ steps.old + 2 * units_in_span line.entry }
+    ensures steps { steps.new ≡ steps.old + 2 * units_in_span line.entry + parts_of (units_in_span line.entry) }
 {
     match level {
         ParaLevel::Zero => write_parts_rising(line, order, steps),
@@ -283,7 +286,8 @@ pub fn write_order<L: Ledger>(
 }
 
 /// Does what `write_order` does. If `complete`, X9 removed no position of the line, so the function doesn't look for
-/// such positions. In a long line of one level it looks for them part by part.
+/// such positions. In a long line of one level it looks for them part by part. Each part takes a step, and a line that
+/// has parts has fewer of them than positions.
 #[inline(always)]
 pub(crate) fn write_known_order<L: Ledger>(
     line: LineSpan<'_>,
@@ -303,7 +307,8 @@ pub(crate) fn write_known_order<L: Ledger>(
     ensures count { result ≤ units_in_span line.entry }
     ensures at_least { steps.old + units_in_span line.entry ≤ steps.new }
     ensures at_most { steps.new ≤ steps.old + order_steps * units_in_span line.entry }
-    ensures if_uniform { IfSome uniform (λ _. steps.new ≤ steps.old + uniform_order_steps * units_in_span line.entry) }
+    ensures if_uniform { IfSome uniform (λ _.
+        steps.new ≤ steps.old + uniform_order_steps * units_in_span line.entry + (units_in_span line.entry - 1)) }
     ensures twice { IfSome uniform (λ _. complete ≡ false
         → steps.old + 2 * units_in_span line.entry ≤ steps.new + 1) }
 {

@@ -325,7 +325,8 @@ fn continues_above(line: &LineSpan<'_>, run_end: usize, level: Level, least: u8)
 }
 
 /// Links to the run of this level, which begins at the position and ends at `run_end`, the longest stretch after it
-/// whose levels are all at least `least`. Takes at most four steps for each position of that stretch.
+/// whose levels are all at least `least`. Takes at most four steps for each position of that stretch, and one to find
+/// its end.
 fn link_on<L: Ledger>(
     line: &LineSpan<'_>,
     position: usize,
@@ -345,17 +346,17 @@ fn link_on<L: Ledger>(
     ensures least { least ≤ result.level }
     ensures stops { StopsBelow line.now.levels.now least result.end line.now.end }
     ensures unchanged { (p : ℕ) → p < position → run_in runs.new p ≡ run_in runs.old p }
-    ensures at_least { steps.old + (result.end - run_end) ≤ steps.new }
-    ensures at_most { steps.new ≤ steps.old + linking_steps * (result.end - run_end) }
+    ensures at_least { steps.old + (result.end - run_end) + 1 ≤ steps.new }
+    ensures at_most { steps.new ≤ steps.old + linking_steps * (result.end - run_end) + 1 }
 {
     let span = *line;
     let mut stretch = one_run(position, run_end, level);
     loop {
+        steps.tick();
         let start = stretch.end;
         let Some(level) = level_from(&span, start, least) else {
             return stretch;
         };
-        steps.tick();
         let run = link_run(span, start, level, runs, steps);
         let end = run.end;
         let least_above = stretch.level.get() + 1;
@@ -391,7 +392,6 @@ fn link_from<L: Ledger>(
     ensures at_least { steps.old + (result.end - position) ≤ steps.new }
     ensures at_most { steps.new + 1 ≤ steps.old + linking_steps * (result.end - position) }
 {
-    steps.tick();
     let span = *line;
     let run = link_run(span, position, level, runs, steps);
     link_on(line, position, run.end, level, least, runs, steps)

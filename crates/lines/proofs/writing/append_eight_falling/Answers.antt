@@ -3,7 +3,7 @@ use Rattle.lines.proofs.EightWritten.{written_after}
 use Rattle.lines.proofs.writing.append_eight_falling.Goals as goal
 
 pub returns-clause-order : goal.returns-clause-order
-returns-clause-order g c =
+returns-clause-order c =
     let w = c.write_eight_falling in
     let order = c.args.order.now in
     written_after order w.new.order c.args.count w.result (length order - c.args.count) (omega (arith, c.requires.room))

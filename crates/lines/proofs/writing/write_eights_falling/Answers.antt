@@ -17,7 +17,7 @@ loop-position-preserved g c =
           (take eight.result eight.new.order) (omega arith) l.invariant.high l.invariant.order (eight.ensures.order ∙
           ap (λ n. take l.count l.order ++ reverse (remaining levels (l.position - 8) n)) end);
       count = omega (arith, l.invariant.count, l.invariant.high, eight.ensures.few);
-      steps = omega (arith, l.invariant.steps, l.invariant.high, eight.ensures.steps);
+      steps = omega (arith, l.invariant.steps, l.invariant.high, c.add.ensures);
     }
 
 pub returns-clause-order : goal.returns-clause-order

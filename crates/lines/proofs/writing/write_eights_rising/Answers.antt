@@ -12,7 +12,7 @@ loop-position-preserved g c =
       order = rising_with c.args.levels.now c.args.start l.position (l.position + 8) (take l.count l.order)
           (take eight.result eight.new.order) l.invariant.low (omega arith) l.invariant.order eight.ensures.order;
       count = omega (arith, l.invariant.count, l.invariant.low, eight.ensures.few);
-      steps = omega (arith, l.invariant.steps, l.invariant.low, eight.ensures.steps);
+      steps = omega (arith, l.invariant.steps, l.invariant.low, c.add.ensures);
     }
 
 pub returns-clause-order : goal.returns-clause-order
