@@ -5,7 +5,6 @@ use Rattle.std.proofs.Math.Seq.{take-append-add}
 use Rattle.std.proofs.lemmas.List.{length-set, length-take, reverse-append, take-append-le, take_more_set}
 use borrow.Rule.Slice.PartMut.{post_of, put_mid}
 use Rattle.units.specs.Positions.{positions_from}
-use Rattle.units.proofs.Positions.{positions_from-next}
 use Rattle.lines.specs.LinePositions.{is_remaining, remaining}
 use Rattle.lines.proofs.LineParts.{remaining_split}
 use Rattle.lines.proofs.Remaining.{remaining-next, remaining-none}
