@@ -4,6 +4,7 @@ pub mod Utf8Texts
 pub mod Spellings
 pub mod Utf8Tests
 pub mod Utf8Blocks
+pub mod WholeChars
 pub mod BlockReading
 pub mod KnownChars
 pub mod PairBlocks

@@ -1,5 +1,5 @@
 -- One character of a text in UTF-8, as its bytes.
-use Rattle.std.specs.Prelude.{ℕ, ◌≡◌, ◌+◌, ◌<◌, ◌≤◌, ◌*◌, ◌↔◌, ◌⊎◌, List, ◌++◌, length, take, slice_index}
+use Rattle.std.specs.Prelude.{ℕ, ◌≡◌, ◌+◌, ◌<◌, ◌≤◌, ◌*◌, List, ◌++◌, length, take, slice_index}
 use Rattle.std.specs.Char.{encode_utf8, IsScalar}
 use Rattle.std.specs.Str.{StartsWithNoChar}
 
@@ -30,18 +30,8 @@ pub record BeginsInBlock (bytes : List ℕ) (block at : ℕ) : Type 0 where
   pub least : 0xC0 + block * 2 ≤ slice_index bytes at
   pub most : slice_index bytes at < 0xC2 + block * 2
 
--- the byte is the first one of three, whatever continuation bytes follow
-pub record IsOfThree (byte : ℕ) : Type 0 where
-  pub least : 0xE1 ≤ byte
-  pub most : byte < 0xF0
-  pub other : (byte < 0xED) ⊎ (0xEE ≤ byte)
-
--- each byte is of a character of one to three bytes, whole but maybe for the last one, if a character begins with the
--- first byte
-pub record AreShort (bytes : List ℕ) : Type 0 where
-  pub lead : (k : ℕ) → k < length bytes → 0xC0 ≤ slice_index bytes k → 0xC2 ≤ slice_index bytes k
-  pub three : (k : ℕ) → k < length bytes → 0xE0 ≤ slice_index bytes k → IsOfThree (slice_index bytes k)
-  pub first : 0 < length bytes → Continues (slice_index bytes 0) → ⊥
-  pub second : 1 < length bytes → Continues (slice_index bytes 1) ↔ (0xC0 ≤ slice_index bytes 0)
-  pub next : (k : ℕ) → k + 2 < length bytes → Continues (slice_index bytes (k + 2)) ↔
-      ((0xE0 ≤ slice_index bytes k) ⊎ (0xC0 ≤ slice_index bytes (k + 1)))
+-- each byte `above` is followed by one that is at least `limit`, and each byte `below` by a smaller one; nothing follows
+-- the last byte
+pub record AreFollowed (bytes : List ℕ) (above below limit : ℕ) : Type 0 where
+  pub least : (k : ℕ) → k + 1 < length bytes → slice_index bytes k ≡ above → limit ≤ slice_index bytes (k + 1)
+  pub most : (k : ℕ) → k + 1 < length bytes → slice_index bytes k ≡ below → slice_index bytes (k + 1) < limit

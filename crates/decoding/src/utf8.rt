@@ -1,5 +1,5 @@
 //! The characters of a text in UTF-8: their units, the offsets at which they begin, and the offset of the first fault.
-ghost use Rattle.std.specs.Prelude.{◌≡◌, ◌<◌, ◌≤◌, ◌+◌, ◌^◌, ◌++◌, ◌⊎◌, List, drop, length, map, slice_index, take, leb, IfErr, IfOk, IfSome, IsTrue, OnOk};
+ghost use Rattle.std.specs.Prelude.{◌≡◌, ◌<◌, ◌≤◌, ◌+◌, ◌^◌, ◌++◌, List, drop, length, map, slice_index, take, eqb, leb, IfErr, IfOk, IfSome, IsTrue, OnOk};
 ghost use Rattle.std.specs.Simd.Lanes.{mask_l};
 ghost use Rattle.std.specs.Str.{chars, IsAscii, IsUtf8};
 ghost use Rattle.std.specs.Str.Lossy.{utf8_valid_len};
@@ -10,7 +10,7 @@ ghost use Rattle.ucdfiles.specs.UnitStages.{unit_by_stages};
 ghost use Rattle.decoding.specs.Decoded.{AreDecoded, IsReadUpTo, IsWritten};
 ghost use Rattle.decoding.specs.Encodings.{utf8_text};
 ghost use Rattle.decoding.specs.Offsets.{Spelled};
-ghost use Rattle.decoding.specs.Spelling.{AreShort};
+ghost use Rattle.decoding.specs.Spelling.{AreFollowed};
 
 use crate::blocks::write_offsets;
 use crate::decoded::Decoded;
@@ -93,56 +93,107 @@ fn at_least(block: u8x16, least: u8) -> u64
     block.simd_ge(u8x16::splat(least)).to_bitmask()
 }
 
-/// Returns whether three bytes that begin with a byte of the block that is at least 0xE0 are a character, whatever
-/// continuation bytes follow it. `threes` has the bits of these bytes.
+/// Returns which bytes of a block are equal to another one, the first one's bit lowest.
 #[inline(always)]
-fn are_of_three(block: u8x16, threes: u64) -> bool
-    ensures { IsTrue result → (threes ≡ 0) ⊎ ((mask_l (map (leb 0xE1) block) ≡ threes)
-        × (mask_l (map (leb 0xED) block) ≡ mask_l (map (leb 0xEE) block)) × (mask_l (map (leb 0xF0) block) ≡ 0)) }
+fn equal_to(block: u8x16, byte: u8) -> u64
+    ensures small { result < 2 ^ 16 }
+    ensures bits { result ≡ mask_l (map (λ x. eqb x byte) block) }
 {
-    if threes == 0 {
-        return true;
-    }
-    if at_least(block, 0xE1) != threes || at_least(block, 0xED) != at_least(block, 0xEE) {
-        return false;
-    }
-    at_least(block, 0xF0) == 0
+    block.simd_eq(u8x16::splat(byte)).to_bitmask()
 }
 
-/// Returns whether a block is of characters of one to three bytes, if a character begins with it. The last one may
-/// continue after the block. Doesn't find blocks of ASCII, nor those with a byte 0xE0 or 0xED.
+/// Returns whether each byte `above` of a block is followed by one that is at least `limit`, and each byte `below` by a
+/// smaller one. Nothing follows the last byte.
 #[inline(always)]
-fn are_short(block: u8x16) -> bool
-    ensures { IsTrue result → AreShort block }
+fn are_followed(block: u8x16, above: u8, below: u8, limit: u8) -> bool
+    requires { above < below }
+    ensures { IsTrue result → AreFollowed block above below limit }
+{
+    let first = equal_to(block, above);
+    let both = first + equal_to(block, below);
+    both == 0 || both & (at_least(block, limit) / 2) == first % 0x8000
+}
+
+/// Returns whether the first two bytes of each character of four bytes in a block are well formed. `fours` must be the
+/// bits of their first bytes.
+#[inline(always)]
+fn are_fours(block: u8x16, fours: u64) -> bool
+    requires { fours ≡ mask_l (map (leb 0xF0) block) }
+    ensures most { IsTrue result → mask_l (map (leb 0xF5) block) ≡ 0 }
+    ensures followed { IsTrue result → AreFollowed block 0xF0 0xF4 0x90 }
+{
+    if fours == 0 {
+        return true;
+    }
+    at_least(block, 0xF5) == 0 && are_followed(block, 0xF0, 0xF4, 0x90)
+}
+
+/// Does what `whole_chars` does, for a block without characters of three bytes or more.
+#[inline(always)]
+fn whole_pairs(block: u8x16) -> usize
+    requires { mask_l (map (leb 0xE0) block) ≡ 0 }
+    ensures inside { result ≤ 16 }
+    ensures text { IsUtf8 (take result block) }
+{
+    let leads = at_least(block, 0xC0);
+    let others = at_least(block, 0x80);
+    // The bits of continuation bytes are those of lead bytes, one byte later.
+    if others == 0 || leads + leads * 2 % 0x1_0000 != others || at_least(block, 0xC2) != leads {
+        return 0;
+    }
+    16 - (leads / 0x8000) as usize
+}
+
+/// Does what `whole_chars` does, for a block with a character of three or four bytes.
+#[inline(always)]
+fn whole_long(block: u8x16) -> usize
+    ensures inside { result ≤ 16 }
+    ensures text { IsUtf8 (take result block) }
 {
     let leads = at_least(block, 0xC0);
     let threes = at_least(block, 0xE0);
-    let others = at_least(block, 0x80);
-    // The bits of continuation bytes are those of lead bytes, one byte later, and of those of three, two bytes later.
-    others != 0
-        && leads + (leads * 2 + threes * 4) % 0x1_0000 == others
-        && at_least(block, 0xC2) == leads
-        && are_of_three(block, threes)
+    let fours = at_least(block, 0xF0);
+    // The bits of continuation bytes are also those of lead bytes of three, two bytes later, and of four, three later.
+    if leads + (leads * 2 + threes * 4 + fours * 8) % 0x1_0000 != at_least(block, 0x80)
+        || at_least(block, 0xC2) != leads
+        || !are_followed(block, 0xE0, 0xED, 0xA0)
+        || !are_fours(block, fours)
+    {
+        return 0;
+    }
+    16 - (leads / 0x8000 + threes / 0x4000 % 2 * 2 + fours / 0x2000 % 2 * 3) as usize
 }
 
-/// Returns the end of the blocks of characters of one to three bytes that begin at an offset.
+/// Returns how many bytes of a block are of whole characters, if characters begin with it and at most the last one
+/// continues after it. Returns 0 for other blocks, and for those of ASCII.
 #[inline(always)]
-fn short_end(bytes: &[u8], from: usize) -> usize
+fn whole_chars(block: u8x16) -> usize
+    ensures inside { result ≤ 16 }
+    ensures text { IsUtf8 (take result block) }
+{
+    if at_least(block, 0xE0) == 0 {
+        whole_pairs(block)
+    } else {
+        whole_long(block)
+    }
+}
+
+/// Returns the end of the blocks of characters that begin at an offset.
+#[inline(always)]
+fn chars_end(bytes: &[u8], from: usize) -> usize
     requires inside { from ≤ length bytes.now }
     requires front { IsUtf8 (take from bytes.now) }
     ensures forward { from ≤ result }
     ensures inside { result ≤ length bytes.now }
     ensures front { IsUtf8 (take result bytes.now) }
 {
-    // In scripts of 0xE0, such as Devanagari and Thai, few blocks begin with another byte.
-    if from < bytes.len() && bytes[from] == 0xE0 {
-        return from;
-    }
     let mut at = from;
-    while bytes.len() - at >= BLOCK && are_short(u8x16::from_slice(&bytes[at..])) {
-        let last = usize::from(bytes[at + BLOCK - 1] >= 0xC0);
-        let last_two = usize::from(bytes[at + BLOCK - 2] >= 0xE0) * 2;
-        at += BLOCK - last - last_two;
+    while bytes.len() - at >= BLOCK {
+        let whole = whole_chars(u8x16::from_slice(&bytes[at..]));
+        if whole == 0 {
+            return at;
+        }
+        at += whole;
     }
     at
 }
@@ -176,7 +227,7 @@ fn test_next(bytes: &[u8], from: usize) -> Result<usize, usize>
     ensures passed { IfOk result (λ at. (from < at) × (at ≤ length bytes.now) × IsUtf8 (take at bytes.now)) }
 {
     let ascii = ascii_end(bytes, from);
-    let passed = short_end(bytes, ascii);
+    let passed = chars_end(bytes, ascii);
     if passed > ascii {
         return Ok(passed);
     }

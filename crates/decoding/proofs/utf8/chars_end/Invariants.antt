@@ -1,6 +1,6 @@
 use Rattle.std.proofs.Common.{◌≤◌, ◌-◌, length, take}
 use Rattle.std.specs.Str.{IsUtf8}
-use Rattle.decoding.proofs.utf8.short_end.Given as goal
+use Rattle.decoding.proofs.utf8.chars_end.Given as goal
 
 abbrev pub invariant-loop-at : goal.invariant-loop-at
 invariant-loop-at l = record {
