@@ -7,7 +7,7 @@ pub mod Utf8Blocks
 pub mod WholeChars
 pub mod BlockReading
 pub mod KnownChars
-pub mod PairBlocks
+pub mod CharBlocks
 pub mod LossyChunks
 pub mod LossyReading
 pub mod Indexing

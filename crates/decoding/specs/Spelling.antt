@@ -2,6 +2,7 @@
 use Rattle.std.specs.Prelude.{ℕ, ◌≡◌, ◌+◌, ◌<◌, ◌≤◌, ◌*◌, List, ◌++◌, length, take, slice_index}
 use Rattle.std.specs.Char.{encode_utf8, IsScalar}
 use Rattle.std.specs.Str.{StartsWithNoChar}
+use Rattle.decoding.specs.declared.known.InBlock.{InBlock}
 
 -- the byte is a continuation byte
 pub record Continues (byte : ℕ) : Type 0 where
@@ -24,11 +25,11 @@ pub record IsSpelled (bytes : List ℕ) (at : ℕ) (found : ℕ × ℕ) : Type 0
   pub inside : found.1 ≤ length bytes
   pub spelled : take found.1 bytes ≡ take at bytes ++ encode_utf8 found.0
 
--- the byte at the offset is the first of two that spell a code point of this block of 128
-pub record BeginsInBlock (bytes : List ℕ) (block at : ℕ) : Type 0 where
-  pub inside : at < length bytes
-  pub least : 0xC0 + block * 2 ≤ slice_index bytes at
-  pub most : slice_index bytes at < 0xC2 + block * 2
+-- a character begins at the offset: `found` has its block of 128 code points, its index there, and the offset after it
+pub record IsInBlock (bytes : List ℕ) (at : ℕ) (found : InBlock) : Type 0 where
+  pub block : found.block < 8704
+  pub index : found.index < 128
+  pub spelled : IsSpelled bytes at (found.block * 128 + found.index, found.following)
 
 -- each byte `above` is followed by one that is at least `limit`, and each byte `below` by a smaller one; nothing follows
 -- the last byte

@@ -1,7 +1,7 @@
 //! The character that begins at an offset of well-formed UTF-8, read without tests of its bytes.
-ghost use Rattle.std.specs.Prelude.{ℕ, ◌≡◌, ◌<◌, ◌+◌, ◌*◌, [], ◌∷◌, length, slice_index, take};
+ghost use Rattle.std.specs.Prelude.{ℕ, ◌≡◌, ◌<◌, ◌≤◌, ◌+◌, ◌*◌, [], ◌∷◌, length, slice_index, take};
 ghost use Rattle.std.specs.Str.{IsUtf8};
-ghost use Rattle.decoding.specs.Spelling.{BeginsInBlock, IsOfBytes, IsSpelled};
+ghost use Rattle.decoding.specs.Spelling.{IsInBlock, IsOfBytes, IsSpelled};
 
 #[inline(always)]
 fn of_two(x: u8, y: u8) -> char
@@ -51,26 +51,79 @@ pub fn known_char_at(bytes: &[u8], at: usize) -> (char, usize)
     }
 }
 
-/// Returns the ASCII character at an offset.
-#[inline(always)]
-pub fn ascii_at(bytes: &[u8], at: usize) -> u8
-    requires inside { at < length bytes.now }
-    requires ascii { slice_index bytes.now at < 0x80 }
-    ensures small { result < 0x80 }
-    ensures spelled { IsSpelled bytes.now at (result, at + 1) }
-{
-    bytes[at]
+/// A character of a text, by the block of 128 code points that has it.
+#[derive(Clone, Copy)]
+pub struct InBlock {
+    /// Which block it is.
+    pub block: usize,
+    /// The character's index in the block.
+    pub index: u8,
+    /// The offset after the character.
+    pub following: usize,
 }
 
-/// Returns the index in its block of the character of two bytes that begins at an offset.
+/// Returns the ASCII character that begins at an offset, by its block.
 #[inline(always)]
-pub fn index_in_block(bytes: &[u8], at: usize, block: u8) -> u8
+pub fn one_at(bytes: &[u8], at: usize) -> InBlock
+    requires inside { at < length bytes.now }
+    requires ascii { slice_index bytes.now at < 0x80 }
+    ensures { IsInBlock bytes.now at result }
+{
+    InBlock {
+        block: 0,
+        index: bytes[at],
+        following: at + 1,
+    }
+}
+
+/// Returns the character of two bytes that begins at an offset, by its block.
+#[inline(always)]
+pub fn two_at(bytes: &[u8], at: usize) -> InBlock
+    requires inside { at < length bytes.now }
     requires well_formed { IsUtf8 bytes.now }
     requires front { IsUtf8 (take at bytes.now) }
-    requires block { block < 16 }
-    requires begins { BeginsInBlock bytes.now block at }
-    ensures small { result < 128 }
-    ensures spelled { IsSpelled bytes.now at (block * 128 + result, at + 2) }
+    requires two { (0x80 ≤ slice_index bytes.now at) × (slice_index bytes.now at < 0xE0) }
+    ensures { IsInBlock bytes.now at result }
 {
-    bytes[at].wrapping_mul(0x40).wrapping_add(bytes[at + 1]) % 0x80
+    let first = bytes[at];
+    InBlock {
+        block: usize::from((first - 0xC0) / 2),
+        index: first.wrapping_mul(0x40).wrapping_add(bytes[at + 1]) % 0x80,
+        following: at + 2,
+    }
+}
+
+/// Returns the character of three bytes that begins at an offset, by its block.
+#[inline(always)]
+pub fn three_at(bytes: &[u8], at: usize) -> InBlock
+    requires inside { at < length bytes.now }
+    requires well_formed { IsUtf8 bytes.now }
+    requires front { IsUtf8 (take at bytes.now) }
+    requires three { (0xE0 ≤ slice_index bytes.now at) × (slice_index bytes.now at < 0xF0) }
+    ensures { IsInBlock bytes.now at result }
+{
+    let second = bytes[at + 1];
+    InBlock {
+        block: usize::from(bytes[at] - 0xE0) * 32 + usize::from((second - 0x80) / 2),
+        index: second.wrapping_mul(0x40).wrapping_add(bytes[at + 2]) % 0x80,
+        following: at + 3,
+    }
+}
+
+/// Returns the character of four bytes that begins at an offset, by its block.
+#[inline(always)]
+pub fn four_at(bytes: &[u8], at: usize) -> InBlock
+    requires inside { at < length bytes.now }
+    requires well_formed { IsUtf8 bytes.now }
+    requires front { IsUtf8 (take at bytes.now) }
+    requires four { 0xF0 ≤ slice_index bytes.now at }
+    ensures { IsInBlock bytes.now at result }
+{
+    let front = usize::from(bytes[at] - 0xF0) * 64 + usize::from(bytes[at + 1] - 0x80);
+    let third = bytes[at + 2];
+    InBlock {
+        block: front * 32 + usize::from((third - 0x80) / 2),
+        index: third.wrapping_mul(0x40).wrapping_add(bytes[at + 3]) % 0x80,
+        following: at + 4,
+    }
 }

@@ -1,5 +1,5 @@
 //! The characters of a text in UTF-8: their units, the offsets at which they begin, and the offset of the first fault.
-ghost use Rattle.std.specs.Prelude.{◌≡◌, ◌<◌, ◌≤◌, ◌+◌, ◌^◌, ◌++◌, List, drop, length, map, slice_index, take, eqb, leb, IfErr, IfOk, IfSome, IsTrue, OnOk};
+ghost use Rattle.std.specs.Prelude.{ℕ, ◌≡◌, ◌<◌, ◌≤◌, ◌+◌, ◌^◌, ◌++◌, List, drop, length, map, slice_index, take, eqb, leb, IfErr, IfOk, IfSome, IsTrue, OnOk};
 ghost use Rattle.std.specs.Simd.Lanes.{mask_l};
 ghost use Rattle.std.specs.Str.{chars, IsAscii, IsUtf8};
 ghost use Rattle.std.specs.Str.Lossy.{utf8_valid_len};
@@ -10,12 +10,12 @@ ghost use Rattle.ucdfiles.specs.UnitStages.{unit_by_stages};
 ghost use Rattle.decoding.specs.Decoded.{AreDecoded, IsReadUpTo, IsWritten};
 ghost use Rattle.decoding.specs.Encodings.{utf8_text};
 ghost use Rattle.decoding.specs.Offsets.{Spelled};
-ghost use Rattle.decoding.specs.Spelling.{AreFollowed};
+ghost use Rattle.decoding.specs.Spelling.{AreFollowed, IsInBlock};
 
 use crate::blocks::write_offsets;
 use crate::decoded::Decoded;
 use crate::fours::look_up_ascii;
-use crate::known::{ascii_at, index_in_block, known_char_at};
+use crate::known::{InBlock, four_at, known_char_at, one_at, three_at, two_at};
 use crate::reached::{Passed, Reached};
 use crate::spelling::char_at;
 use paragraph::class_set::ClassSet;
@@ -364,109 +364,42 @@ fn decode_ascii(
     }
 }
 
-/// Writes the unit and the offset of a character of two bytes. The class of each bracket must be ON.
+/// Writes the unit and the offset of the next character, which was found in its block. The class of each bracket must be
+/// ON.
 #[inline(always)]
-fn decode_pair(
-    bytes: &[u8],
+fn write_found(
+    found: InBlock,
     borrowed: &BorrowedUnits<'_>,
     before: Reached,
     units: &mut [Unit],
     starts: &mut [u32],
 ) -> Reached
-    requires well_formed { IsUtf8 bytes.now }
     requires neutral { AreNeutral borrowed.now.classes borrowed.now.brackets }
-    requires pair { (before.code_units < length bytes.now) × (0xC0 ≤ slice_index bytes.now before.code_units)
-        × (slice_index bytes.now before.code_units < 0xE0) }
-    requires units { length bytes.now ≤ length units.old }
-    requires starts { length bytes.now ≤ length starts.old }
-    requires small { length bytes.now < 2 ^ 32 }
-    requires read { IsReadUpTo borrowed.now bytes.now before units.old starts.old }
+    requires block { found.block < 8704 }
+    requires index { found.index < 128 }
+    requires units { before.characters < length units.old }
+    requires starts { before.characters < length starts.old }
+    requires small { before.code_units < 2 ^ 32 }
     ensures units_len { length units.new ≡ length units.old }
     ensures starts_len { length starts.new ≡ length starts.old }
     ensures one { result.characters ≡ before.characters + 1 }
+    ensures following { result.code_units ≡ found.following }
     ensures unchanged { take before.characters units.new ≡ take before.characters units.old }
-    ensures forward { before.code_units < result.code_units }
-    ensures read { IsReadUpTo borrowed.now bytes.now result units.new starts.new }
+    ensures read { (bytes : List ℕ) → IsInBlock bytes before.code_units found
+        → IsReadUpTo borrowed.now bytes before units.old starts.old
+        → IsReadUpTo borrowed.now bytes result units.new starts.new }
 {
-    let at = before.code_units;
-    let block = (bytes[at] - 0xC0) / 2;
-    let k = index_in_block(bytes, at, block);
-    let classes = borrowed.block_classes(usize::from(block));
+    let classes = borrowed.block_classes(found.block);
     borrowed.write_in_block(
         classes,
-        usize::from(block),
-        k,
+        found.block,
+        found.index,
         &mut units[before.characters],
     );
-    starts[before.characters] = at as u32;
-    Reached {
-        characters: before.characters + 1,
-        code_units: at + 2,
-    }
-}
-
-/// Writes the unit and the offset of a character of any number of bytes. The class of each bracket must be ON.
-#[inline(always)]
-fn decode_char(
-    bytes: &[u8],
-    borrowed: &BorrowedUnits<'_>,
-    before: Reached,
-    units: &mut [Unit],
-    starts: &mut [u32],
-) -> Reached
-    requires well_formed { IsUtf8 bytes.now }
-    requires neutral { AreNeutral borrowed.now.classes borrowed.now.brackets }
-    requires remaining { before.code_units < length bytes.now }
-    requires units { length bytes.now ≤ length units.old }
-    requires starts { length bytes.now ≤ length starts.old }
-    requires small { length bytes.now < 2 ^ 32 }
-    requires read { IsReadUpTo borrowed.now bytes.now before units.old starts.old }
-    ensures units_len { length units.new ≡ length units.old }
-    ensures starts_len { length starts.new ≡ length starts.old }
-    ensures one { result.characters ≡ before.characters + 1 }
-    ensures unchanged { take before.characters units.new ≡ take before.characters units.old }
-    ensures forward { before.code_units < result.code_units }
-    ensures read { IsReadUpTo borrowed.now bytes.now result units.new starts.new }
-{
-    let (c, following) = known_char_at(bytes, before.code_units);
-    borrowed.write_neutral(c, &mut units[before.characters]);
     starts[before.characters] = before.code_units as u32;
     Reached {
         characters: before.characters + 1,
-        code_units: following,
-    }
-}
-
-/// Writes the unit and the offset of an ASCII character. The class of each bracket must be ON.
-#[inline(always)]
-fn decode_byte(
-    bytes: &[u8],
-    borrowed: &BorrowedUnits<'_>,
-    before: Reached,
-    units: &mut [Unit],
-    starts: &mut [u32],
-) -> Reached
-    requires neutral { AreNeutral borrowed.now.classes borrowed.now.brackets }
-    requires remaining { before.code_units < length bytes.now }
-    requires ascii { slice_index bytes.now before.code_units < 0x80 }
-    requires units { length bytes.now ≤ length units.old }
-    requires starts { length bytes.now ≤ length starts.old }
-    requires small { length bytes.now < 2 ^ 32 }
-    requires read { IsReadUpTo borrowed.now bytes.now before units.old starts.old }
-    ensures units_len { length units.new ≡ length units.old }
-    ensures starts_len { length starts.new ≡ length starts.old }
-    ensures one { result.characters ≡ before.characters + 1 }
-    ensures unchanged { take before.characters units.new ≡ take before.characters units.old }
-    ensures forward { before.code_units < result.code_units }
-    ensures read { IsReadUpTo borrowed.now bytes.now result units.new starts.new }
-{
-    let byte = ascii_at(bytes, before.code_units);
-    let classes = borrowed.block_classes(0);
-    borrowed.write_in_block(classes, 0, byte, &mut units[before.characters]);
-    starts[before.characters] = before.code_units as u32;
-    Reached {
-        characters: before.characters + 1,
-        code_units: before.code_units + 1,
+        code_units: found.following,
     }
 }
 
@@ -493,13 +426,16 @@ fn decode_next(
     ensures forward { before.code_units < result.code_units }
     ensures read { IsReadUpTo borrowed.now bytes.now result units.new starts.new }
 {
-    let x = bytes[before.code_units];
+    let at = before.code_units;
+    let x = bytes[at];
     if x < 0x80 {
-        decode_byte(bytes, borrowed, before, units, starts)
-    } else if 0xC0 <= x && x < 0xE0 {
-        decode_pair(bytes, borrowed, before, units, starts)
+        write_found(one_at(bytes, at), borrowed, before, units, starts)
+    } else if x < 0xE0 {
+        write_found(two_at(bytes, at), borrowed, before, units, starts)
+    } else if x < 0xF0 {
+        write_found(three_at(bytes, at), borrowed, before, units, starts)
     } else {
-        decode_char(bytes, borrowed, before, units, starts)
+        write_found(four_at(bytes, at), borrowed, before, units, starts)
     }
 }
 
