@@ -682,12 +682,13 @@ struct Granted {
     asked: usize,
 }
 
-/// Returns how many turns the pass may have made at this position. There is room for one chosen unit in eight.
+/// Returns how many turns the pass may have made at this position. Later these are more than the units for which there
+/// is room, since not every turn chooses one.
 fn most_turns(limit: TurnLimit, p: usize) -> usize
     ensures { (n : ℕ) → p ≤ n → result ≤ n + 10 }
 {
     if p >= EARLY {
-        return p / 8 + 10;
+        return p / 7 + 10;
     }
     match limit {
         TurnLimit::Strict => p / 12 + 2,
