@@ -37,7 +37,7 @@ pub struct Asked {
 }
 
 /// Reads lines, one after the other. It stores the text of the row that was read last, and the lists in force or those
-/// of that row.
+/// of that row. Each of its three lists has capacity for `MOST_UNITS` items at all times.
 #[derive(Drop)]
 pub struct LineReader {
     text: Vec<Unit>,
@@ -48,7 +48,7 @@ pub struct LineReader {
 }
 
 impl Model for LineReader {
-    ghost use Rattle.std.specs.Prelude.{◌≤◌, vec_capacity};
+    ghost use Rattle.std.specs.Prelude.{◌≡◌, vec_capacity};
     ghost use Rattle.bidtests.specs.LineReadings.{LineReading};
     ghost use Rattle.bidtests.specs.declared.line_reader.TheConstants.{MOST_UNITS};
 
@@ -62,13 +62,13 @@ impl Model for LineReader {
       has_order = s.has_order;
     } };
 
-    ghost invariant = { λ s. (MOST_UNITS ≤ vec_capacity s.text)
-        × (MOST_UNITS ≤ vec_capacity s.levels) × (MOST_UNITS ≤ vec_capacity s.order) };
+    ghost invariant = { λ s. (vec_capacity s.text ≡ MOST_UNITS)
+        × (vec_capacity s.levels ≡ MOST_UNITS) × (vec_capacity s.order ≡ MOST_UNITS) };
 }
 
-// Returns an empty list with capacity for the items of a row.
+// Returns an empty list with capacity for the items of the longest row, and for no more.
 fn list<T: Copy>(alloc: Global) -> Result<Vec<T>, Memory>
-    ensures { IfOk result (λ list. MOST_UNITS ≤ vec_capacity list) }
+    ensures { IfOk result (λ list. vec_capacity list ≡ MOST_UNITS) }
 {
     Ok(Vec::with_capacity(alloc, MOST_UNITS)?)
 }
