@@ -2,6 +2,7 @@ pub mod Appending
 pub mod Breaks
 pub mod Codes
 pub mod DecimalPairs
+pub mod FailedWrites
 pub mod Fronts
 pub mod HeadBreaks
 pub mod HeadColumns

@@ -1,3 +1,4 @@
+pub mod FailedWrites
 pub mod Following
 pub mod Columns
 pub mod EndedParagraphs

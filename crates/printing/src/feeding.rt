@@ -1,7 +1,8 @@
 //! Bytes written at once, or piece by piece if the writer doesn't take them at once.
-ghost use Rattle.std.specs.Prelude.{◌≡◌, ◌<◌, ◌≤◌, length, take, drop, OnOk};
+ghost use Rattle.std.specs.Prelude.{◌≡◌, ◌<◌, ◌≤◌, length, take, drop, IfErr, OnOk};
 ghost use Rattle.std.specs.Io.KnownBytes.{Appends};
 
+use crate::output::Output;
 use std::io;
 use std::io::{ErrorKind, Write};
 
@@ -74,16 +75,17 @@ fn first_piece(bytes: &[u8], pieces: Pieces) -> usize
 /// Writes the rest of the bytes piece by piece. The writer has taken the first `taken` bytes.
 #[cold]
 #[inline(never)]
-fn write_pieces<W: Write>(w: &mut W, bytes: &[u8], taken: usize, pieces: Pieces) -> io::Result<()>
+fn write_pieces<W: Output>(w: &mut W, bytes: &[u8], taken: usize, pieces: Pieces) -> io::Result<()>
     requires { taken ≤ length bytes.now }
-    ensures { OnOk result (Appends (W.contents w.old) (W.contents w.new) (drop taken bytes.now)) }
+    ensures written { OnOk result (Appends (W.contents w.old) (W.contents w.new) (drop taken bytes.now)) }
+    ensures failed { IfErr result (W.failed_with w.new) }
 {
     let mut start = 0;
     let mut taken = taken;
     while start < bytes.len() {
         start += first_piece(&bytes[start..], pieces);
         if taken < start {
-            w.write_all(&bytes[taken..start])?;
+            w.write_bytes(&bytes[taken..start])?;
             taken = start;
         }
     }
@@ -109,8 +111,9 @@ fn offer<W: Write>(w: &mut W, bytes: &[u8]) -> usize
 /// Writes bytes with one call of `write`, which is repeated if it is interrupted. If the writer doesn't take all of
 /// them, writes the rest piece by piece, and returns the error of the first piece that fails.
 #[inline(always)]
-pub fn hand_over<W: Write>(w: &mut W, bytes: &[u8], pieces: Pieces) -> io::Result<()>
-    ensures { OnOk result (Appends (W.contents w.old) (W.contents w.new) bytes.now) }
+pub fn hand_over<W: Output>(w: &mut W, bytes: &[u8], pieces: Pieces) -> io::Result<()>
+    ensures written { OnOk result (Appends (W.contents w.old) (W.contents w.new) bytes.now) }
+    ensures failed { IfErr result (W.failed_with w.new) }
 {
     if bytes.is_empty() {
         return Ok(());

@@ -1,5 +1,5 @@
 // The text that `levels` prints, from a layout.
-ghost use Rattle.std.specs.Prelude.{◌≡◌, ◌≤◌, ◌+◌, length, map, slice_index_or, OnOk};
+ghost use Rattle.std.specs.Prelude.{◌≡◌, ◌≤◌, ◌+◌, length, map, slice_index_or, IfErr, OnOk};
 ghost use Rattle.std.specs.Io.KnownBytes.{Appends};
 ghost use Rattle.units.specs.Isolates.{level_of_para};
 ghost use Rattle.units.specs.Layout.{longest_text};
@@ -7,17 +7,17 @@ ghost use Rattle.lines.specs.Layouts.{view_of};
 ghost use Rattle.printing.specs.Following.{one_paragraph_after, position_after};
 ghost use Rattle.printing.specs.LevelsText.{printed};
 
+use crate::output::Output;
 use crate::passed::Passed;
 use crate::position_line::{print_paragraph, print_position};
 use lines::layout::Layout;
 use std::io;
-use std::io::Write;
 use units::bracket::Unit;
 use units::level::{Level, ParaLevel};
 
 /// Writes the lines of the positions of a paragraph, from its characters, units and levels after L1. The paragraph
 /// comes after `passed`.
-fn print_positions<W: Write>(
+fn print_positions<W: Output>(
     w: &mut W,
     passed: Passed,
     chars: &[char],
@@ -27,8 +27,9 @@ fn print_positions<W: Write>(
     requires units { length text.now ≡ length chars.now }
     requires levels { length levels.now ≡ length chars.now }
     requires small { passed.characters + length chars.now ≤ longest_text }
-    ensures { OnOk result (Appends (W.contents w.old) (W.contents w.new)
+    ensures written { OnOk result (Appends (W.contents w.old) (W.contents w.new)
         (printed (position_after passed chars.now text.now levels.now) 0 (length chars.now))) }
+    ensures failed { IfErr result (W.failed_with w.new) }
 {
     for p in 0..chars.len() {
         print_position(w, passed.characters + p, chars[p], text[p].class, levels[p])?;
@@ -47,7 +48,7 @@ fn level_of_first(paras: &[ParaLevel]) -> ParaLevel
 
 /// Writes the line of a paragraph and then the lines of its positions, from its layout. The paragraph comes after
 /// `passed`.
-pub(crate) fn print_one_paragraph<W: Write>(
+pub(crate) fn print_one_paragraph<W: Output>(
     w: &mut W,
     passed: Passed,
     chars: &[char],
@@ -57,9 +58,10 @@ pub(crate) fn print_one_paragraph<W: Write>(
     requires units { length text.now ≡ length chars.now }
     requires levels { length (view_of layout.now).levels ≡ length chars.now }
     requires small { passed.characters + length chars.now ≤ longest_text }
-    ensures { OnOk result (Appends (W.contents w.old) (W.contents w.new)
+    ensures written { OnOk result (Appends (W.contents w.old) (W.contents w.new)
         (one_paragraph_after passed (slice_index_or (view_of layout.now).paras 0 0)
         chars.now text.now (view_of layout.now).levels)) }
+    ensures failed { IfErr result (W.failed_with w.new) }
 {
     print_paragraph(w, passed.paragraphs, level_of_first(layout.para_levels()))?;
     print_positions(w, passed, chars, text, layout.levels())

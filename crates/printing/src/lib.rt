@@ -9,6 +9,7 @@ pub mod fault;
 pub mod feeding;
 pub mod form;
 mod layout_text;
+pub mod output;
 mod paragraphs;
 mod passed;
 pub mod pieces;

@@ -1,14 +1,14 @@
 // The lines with the levels of a text.
-ghost use Rattle.std.specs.Prelude.{◌≡◌, ◌≤◌, drop, OnOk};
+ghost use Rattle.std.specs.Prelude.{◌≡◌, ◌≤◌, drop, IfErr, OnOk};
 ghost use Rattle.std.specs.Io.KnownBytes.{Appends};
 ghost use Rattle.units.specs.Isolates.{level_of_para};
 ghost use Rattle.printing.specs.LevelsText.{position_text, paragraph_text};
 
 use crate::decimals::put_decimal;
 use crate::feeding::{Pieces, hand_over};
+use crate::output::Output;
 use crate::pieces::{LONGEST_LINE, put_byte, put_bytes, put_code, put_level, put_name};
 use std::io;
-use std::io::Write;
 use units::class::Class;
 use units::level::{Level, ParaLevel};
 
@@ -34,15 +34,16 @@ fn put_position(
 }
 
 /// Writes the line of a position of the text: the position, its code point, original class and level after L1.
-pub fn print_position<W: Write>(
+pub fn print_position<W: Output>(
     w: &mut W,
     position: usize,
     character: char,
     class: Class,
     level: Option<Level>,
 ) -> io::Result<()>
-    ensures { OnOk result (Appends (W.contents w.old) (W.contents w.new)
+    ensures written { OnOk result (Appends (W.contents w.old) (W.contents w.new)
         (position_text position character class level)) }
+    ensures failed { IfErr result (W.failed_with w.new) }
 {
     let mut line = [0; LONGEST_LINE];
     let start = put_position(position, character, class, level, &mut line);
@@ -62,9 +63,10 @@ fn put_paragraph(number: usize, level: ParaLevel, line: &mut [u8; LONGEST_LINE])
 }
 
 /// Writes the line before the positions of a paragraph: its number, counted from 0, and its level.
-pub fn print_paragraph<W: Write>(w: &mut W, number: usize, level: ParaLevel) -> io::Result<()>
-    ensures { OnOk result (Appends (W.contents w.old) (W.contents w.new) (paragraph_text number
+pub fn print_paragraph<W: Output>(w: &mut W, number: usize, level: ParaLevel) -> io::Result<()>
+    ensures written { OnOk result (Appends (W.contents w.old) (W.contents w.new) (paragraph_text number
         (level_of_para level))) }
+    ensures failed { IfErr result (W.failed_with w.new) }
 {
     let mut line = [0; LONGEST_LINE];
     let start = put_paragraph(number, level, &mut line);

@@ -1,7 +1,8 @@
 //! The texts that `levels` and `reorder` print.
-ghost use Rattle.std.specs.Prelude.{◌≡◌, ◌≤◌, length, OnOk};
+ghost use Rattle.std.specs.Prelude.{◌≡◌, ◌≤◌, length, IfErr, OnOk};
 ghost use Rattle.std.specs.Io.KnownBytes.{Appends};
 ghost use Rattle.units.specs.Layout.{longest_text};
+ghost use Rattle.printing.specs.FailedWrites.{IsFaultAfter, StopsAfter};
 ghost use Rattle.printing.specs.Following.{printed_as};
 ghost use Rattle.printing.specs.PrintedTexts.{printed_levels, printed_reorder};
 ghost use Rattle.printing.specs.UnfinishedParagraphs.{chars_so_far};
@@ -9,16 +10,16 @@ ghost use Rattle.printing.specs.UnfinishedParagraphs.{chars_so_far};
 use crate::begun::Begun;
 use crate::fault::{PrintFault, PrintStop};
 use crate::form::Form;
+use crate::output::Output;
 use crate::paragraphs::{print_last, take_character};
 use crate::settings::Settings;
 use std::alloc::Global;
-use std::io::Write;
 use std::num::NonZeroU16;
 use ucdfiles::tables::Tables;
 use units::level::Direction;
 
 /// Writes a text in this form, as `print_chars` does, with a new `Begun`.
-fn print_each<W: Write>(
+fn print_each<W: Output>(
     alloc: Global,
     w: &mut W,
     text: &[char],
@@ -26,8 +27,9 @@ fn print_each<W: Write>(
 ) -> Result<(), PrintStop>
     requires small { length text.now ≤ longest_text }
     requires new { chars_so_far begun.old.paragraph ≡ 0 }
-    ensures { OnOk result (Appends (W.contents w.old) (W.contents w.new)
+    ensures printed { OnOk result (Appends (W.contents w.old) (W.contents w.new)
         (printed_as begun.old.settings.form begun.old.settings.tables.now text.now begun.old.settings.direction)) }
+    ensures stopped { IfErr result (StopsAfter (W.failed_with w.new)) }
 {
     let borrowed = begun.settings.tables.units();
     for k in 0..text.len() {
@@ -40,7 +42,7 @@ fn print_each<W: Write>(
 
 /// Writes a text in this form, paragraph by paragraph, as `print_levels` and `print_reorder` describe. Each paragraph
 /// is laid out when it ends, and written before the next one is read.
-fn print_chars<W: Write>(
+fn print_chars<W: Output>(
     alloc: Global,
     w: &mut W,
     tables: &Tables,
@@ -49,8 +51,9 @@ fn print_chars<W: Write>(
     form: Form,
 ) -> Result<(), PrintFault>
     requires { length text.now ≤ longest_text }
-    ensures { OnOk result (Appends (W.contents w.old) (W.contents w.new)
+    ensures printed { OnOk result (Appends (W.contents w.old) (W.contents w.new)
         (printed_as form tables.now text.now direction)) }
+    ensures fault { IfErr result (IsFaultAfter (W.failed_with w.new)) }
 {
     let settings = Settings {
         tables,
@@ -67,7 +70,7 @@ fn print_chars<W: Write>(
 /// the code point, the original class and the level after L1, or `x` if the position was removed (X9). The text may
 /// have up to 16,777,216 characters. Fails with `Write` if the writer fails; it is then not known how much the writer
 /// took. Fails with `Memory` if memory runs out.
-pub fn print_levels<W: Write>(
+pub fn print_levels<W: Output>(
     alloc: Global,
     w: &mut W,
     tables: &Tables,
@@ -75,8 +78,9 @@ pub fn print_levels<W: Write>(
     direction: Direction,
 ) -> Result<(), PrintFault>
     requires { length text.now ≤ longest_text }
-    ensures { OnOk result (Appends (W.contents w.old) (W.contents w.new)
+    ensures printed { OnOk result (Appends (W.contents w.old) (W.contents w.new)
         (printed_levels tables.now text.now direction)) }
+    ensures fault { IfErr result (IsFaultAfter (W.failed_with w.new)) }
 {
     print_chars(alloc, w, tables, text, direction, Form::Levels)
 }
@@ -87,7 +91,7 @@ pub fn print_levels<W: Write>(
 /// removed positions count too. Otherwise each paragraph is one line. The text may have up to 16,777,216 characters.
 /// Fails with `Write` if the writer fails; it is then not known how much the writer took. Fails with `Memory` if memory
 /// runs out.
-pub fn print_reorder<W: Write>(
+pub fn print_reorder<W: Output>(
     alloc: Global,
     w: &mut W,
     tables: &Tables,
@@ -96,8 +100,9 @@ pub fn print_reorder<W: Write>(
     columns: Option<NonZeroU16>,
 ) -> Result<(), PrintFault>
     requires { length text.now ≤ longest_text }
-    ensures { OnOk result (Appends (W.contents w.old) (W.contents w.new)
+    ensures printed { OnOk result (Appends (W.contents w.old) (W.contents w.new)
         (printed_reorder tables.now text.now direction columns)) }
+    ensures fault { IfErr result (IsFaultAfter (W.failed_with w.new)) }
 {
     print_chars(alloc, w, tables, text, direction, Form::Reorder { columns })
 }

@@ -2,6 +2,7 @@
 ghost use Rattle.std.specs.Prelude.{◌≡◌, ◌<◌, ◌≤◌, ◌+◌, ℕ, List, length, take, IfErr, IfOk, OnOk};
 ghost use Rattle.std.specs.Str.{chars};
 ghost use Rattle.units.specs.Layout.{longest_text};
+ghost use Rattle.printing.specs.FailedWrites.{ReportsFailure, StopsAfter};
 ghost use Rattle.printing.specs.ReadTexts.{BreaksOff, EndsUnwritten, IsPrinted, IsReadUpTo, utf8_front};
 ghost use Rattle.printing.specs.UnderWay.{PrintsOn};
 ghost use Rattle.printing.specs.UnfinishedParagraphs.{chars_so_far};
@@ -10,12 +11,12 @@ use crate::begun::Begun;
 use crate::cutting::{hold, utf8_front};
 use crate::fault::PrintStop;
 use crate::form::Form;
+use crate::output::Output;
 use crate::paragraphs::{print_last, take_character};
 use crate::place::TextPlace;
 use crate::settings::Settings;
 use crate::written::Written;
 use std::alloc::Global;
-use std::io::Write;
 use ucdfiles::tables::Tables;
 use units::level::Direction;
 use units::memory::Memory;
@@ -63,7 +64,7 @@ impl From<Memory> for TextFault {
 }
 
 /// Adds these characters to the unfinished paragraph, and writes each paragraph that one of them ends.
-fn take_text<W: Write>(
+fn take_text<W: Output>(
     alloc: Global,
     w: &mut W,
     begun: &mut Begun<'_>,
@@ -74,6 +75,7 @@ fn take_text<W: Write>(
         ≡ chars_so_far begun.old.paragraph + length (chars text.now)) }
     ensures printed { OnOk result (PrintsOn (chars text.now) (W.contents w.old) (W.contents w.new)
         begun.old begun.new) }
+    ensures stopped { IfErr result (StopsAfter (W.failed_with w.new)) }
 {
     let borrowed = begun.settings.tables.units();
     for character in text.chars() {
@@ -85,7 +87,7 @@ fn take_text<W: Write>(
 
 /// Takes the longest front of these bytes that is UTF-8, and writes each paragraph that ends in it. Flushes the writer
 /// if a paragraph has ended. Returns how many bytes the front has.
-fn take_front<W: Write>(
+fn take_front<W: Output>(
     alloc: Global,
     w: &mut W,
     begun: &mut Begun<'_>,
@@ -97,12 +99,13 @@ fn take_front<W: Write>(
         ≡ chars_so_far begun.old.paragraph + length (chars (utf8_front bytes.now))) }
     ensures printed { OnOk result (PrintsOn (chars (utf8_front bytes.now)) (W.contents w.old) (W.contents w.new)
         begun.old begun.new) }
+    ensures stopped { IfErr result (StopsAfter (W.failed_with w.new)) }
 {
     let passed = begun.paragraph.passed.paragraphs;
     let front = utf8_front(bytes);
     take_text(alloc, w, begun, front)?;
     if begun.paragraph.passed.paragraphs > passed {
-        w.flush()?;
+        w.flush_out()?;
     }
     Ok(front.len())
 }
@@ -165,7 +168,7 @@ fn end_unwritten<S: ByteSource>(
 }
 
 /// Reads the source to its end and writes its text, as `print_source` does, with a new `Begun`.
-fn read_text<S: ByteSource, W: Write>(
+fn read_text<S: ByteSource, W: Output>(
     alloc: Global,
     w: &mut W,
     source: &mut S,
@@ -181,6 +184,7 @@ fn read_text<S: ByteSource, W: Write>(
         × BreaksOff (S.failures source.new ≡ 1) (S.ended source.new)
         begun.old.settings.form begun.old.settings.tables.now begun.old.settings.direction given
         (W.contents w.old) (W.contents w.new) fault) }
+    ensures reported { IfErr result (ReportsFailure (W.failed_with w.new)) }
 {
     let written = Written::Whole;
     let mut place = TextPlace::start();
@@ -229,7 +233,7 @@ fn read_text<S: ByteSource, W: Write>(
 ///
 /// Two faults end the call at once, and the source is not read further: `NobodyReads` if a write or a flush fails with
 /// `ErrorKind::BrokenPipe`, and `Memory` if memory runs out.
-pub fn print_source<S: ByteSource, W: Write>(
+pub fn print_source<S: ByteSource, W: Output>(
     alloc: Global,
     w: &mut W,
     tables: &Tables,
@@ -244,6 +248,7 @@ pub fn print_source<S: ByteSource, W: Write>(
     ensures fault { IfErr result (λ fault. (given : List ℕ) × S.gives source.old given source.new
         × BreaksOff (S.failures source.new ≡ 1) (S.ended source.new) form tables.now direction given
         (W.contents w.old) (W.contents w.new) fault) }
+    ensures reported { IfErr result (ReportsFailure (W.failed_with w.new)) }
 {
     let settings = Settings {
         tables,

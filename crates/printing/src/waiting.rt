@@ -1,13 +1,13 @@
 // Bytes of printed lines, buffered until they are written together.
-ghost use Rattle.std.specs.Prelude.{◌≡◌, ℕ, ◌≤◌, ◌+◌, [], ◌++◌, List, length, IsOk, OnOk};
+ghost use Rattle.std.specs.Prelude.{◌≡◌, ℕ, ◌≤◌, ◌+◌, [], ◌++◌, List, length, IfErr, IsOk, OnOk};
 ghost use Rattle.std.specs.Char.{encode_utf8};
 ghost use Rattle.std.specs.Io.KnownBytes.{Appends};
 ghost use Rattle.printing.specs.WaitingBytes.{with_waiting};
 
 use crate::feeding::{Pieces, hand_over};
+use crate::output::Output;
 use arrayvec::ArrayVec;
 use std::io;
-use std::io::Write;
 use std::marker::Model;
 
 /// The greatest number of waiting bytes.
@@ -66,9 +66,10 @@ impl Waiting {
     }
 
     /// Writes the waiting bytes.
-    pub(crate) fn write<W: Write>(&mut self, w: &mut W) -> io::Result<()>
+    pub(crate) fn write<W: Output>(&mut self, w: &mut W) -> io::Result<()>
         ensures none { OnOk result (self.new ≡ []) }
         ensures written { OnOk result (Appends (W.contents w.old) (W.contents w.new) self.old) }
+        ensures failed { IfErr result (W.failed_with w.new) }
     {
         hand_over(w, self.bytes.as_slice(), Pieces::Characters)?;
         self.bytes.clear();
@@ -76,11 +77,12 @@ impl Waiting {
     }
 
     /// Makes space for a character: writes the waiting bytes if there is no space.
-    fn write_out<W: Write>(&mut self, w: &mut W) -> io::Result<()>
+    fn write_out<W: Output>(&mut self, w: &mut W) -> io::Result<()>
         ensures room { OnOk result (length self.new + 4 ≤ 256) }
         ensures same { OnOk result (Appends (with_waiting (W.contents w.old) self.old)
             (with_waiting (W.contents w.new) self.new) []) }
         ensures remaining { length self.old + 4 ≤ 256 → IsOk result × (self.new ≡ self.old) × (w.new ≡ w.old) }
+        ensures failed { IfErr result (W.failed_with w.new) }
     {
         if self.bytes.remaining_capacity() < LONGEST_CHARACTER {
             return self.write(w);
@@ -89,9 +91,10 @@ impl Waiting {
     }
 
     /// Adds a character in UTF-8. If there is no space for it, writes the waiting bytes first.
-    pub(crate) fn print<W: Write>(&mut self, w: &mut W, character: char) -> io::Result<()>
-        ensures { OnOk result (Appends (with_waiting (W.contents w.old) self.old)
+    pub(crate) fn print<W: Output>(&mut self, w: &mut W, character: char) -> io::Result<()>
+        ensures printed { OnOk result (Appends (with_waiting (W.contents w.old) self.old)
             (with_waiting (W.contents w.new) self.new) (encode_utf8 character)) }
+        ensures failed { IfErr result (W.failed_with w.new) }
     {
         self.write_out(w)?;
         self.push_character(character);

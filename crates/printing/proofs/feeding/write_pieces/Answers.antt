@@ -12,5 +12,5 @@ loop-start-preserved-then-taken-start g c =
       within = omega (arith, c.first_piece-start.ensures.within);
       more = omega (arith, l.invariant.more);
       written = Appends-to _ _ _ _ (parts_joined c.args.taken l.taken end c.args.bytes.now l.invariant.more
-          (omega arith)) (Appends-joined _ _ _ _ _ l.invariant.written c.in_ok-write_all.ensures.bytes);
+          (omega arith)) (Appends-joined _ _ _ _ _ l.invariant.written c.in_ok-write_bytes.ensures.written);
     }

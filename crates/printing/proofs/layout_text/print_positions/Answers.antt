@@ -14,5 +14,5 @@ loop-p-preserved g c =
     c.index-chars-p.is ∙ get_or_default _ _ _ 0 in_chars in
     let level : c.index-levels-p.result ≡ slice_index_or c.args.levels.now c.loop-p.p None =
     c.index-levels-p.is ∙ get_or_default _ _ _ None in_levels in
-    let line = rw (character, level) at c.in_ok-print_position.ensures in
+    let line = rw (character, level) at c.in_ok-print_position.ensures.written in
     one_more_printed _ _ _ _ _ _ (omega arith) c.loop-p.invariant line

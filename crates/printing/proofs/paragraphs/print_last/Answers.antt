@@ -4,8 +4,8 @@ use Rattle.units.specs.Paragraphs.{SeparatorOnlyLast}
 use Rattle.printing.proofs.UnderWay.{nothing_remaining, unended_only}
 use Rattle.printing.proofs.paragraphs.print_last.Goals as goal
 
-pub returns-then-is_empty : goal.returns-then-is_empty
-returns-then-is_empty g c =
+pub returns-then-is_empty-clause-printed : goal.returns-then-is_empty-clause-printed
+returns-then-is_empty-clause-printed g c =
     let settings = c.args.begun.now.settings in
     let none = eqb-true _ _ (sym c.is_empty.ensures ∙ c.if-is_empty.true) in
     nothing_remaining settings.form _ settings.tables.now _ settings.direction _

@@ -14,8 +14,8 @@ print_one_paragraph-requires-clause-levels g c =
     let laid = c.layout.ensures ∙ rw c.unwrap.ensures at c.lay_out_into.ensures.laid_out in
     ap (λ (layout : TextLayout). length layout.levels) laid ∙ length-levels _ _ _ _ ∙ c.requires.units
 
-pub returns : goal.returns
-returns g c =
+pub returns-clause-printed : goal.returns-clause-printed
+returns-clause-printed g c =
     let laid = c.layout.ensures ∙ rw c.unwrap.ensures at c.lay_out_into.ensures.laid_out in
     let none = rw c.unwrap-breaks.ensures at c.new.ensures in
     let broken = ap (λ (breaks : BreaksView). layout_of standard c.args.units.now c.args.direction breaks.positions)
@@ -27,4 +27,4 @@ returns g c =
     (subst (λ (layout : TextLayout).
     Appends (g.W.Write.contents c.args.w.now) (g.W.Write.contents c.print_one_paragraph.new.w)
     (one_paragraph_after c.args.passed (get_or layout.paras 0 0) c.args.chars.now c.args.units.now layout.levels))
-    (laid ∙ broken) c.in_ok-print_one_paragraph.ensures)
+    (laid ∙ broken) c.in_ok-print_one_paragraph.ensures.written)

@@ -20,8 +20,8 @@ print_lines-requires-clause-levels g c =
     let laid = c.layout.ensures ∙ rw c.unwrap.ensures at c.lay_out_into.ensures.laid_out in
     ap (λ (layout : TextLayout). length layout.levels) laid ∙ length-levels _ _ _ _ ∙ c.requires.units
 
-pub returns : goal.returns
-returns g c =
+pub returns-clause-printed : goal.returns-clause-printed
+returns-clause-printed g c =
     let text = c.args.text.now in
     let laid = c.layout.ensures ∙ rw c.unwrap.ensures at c.lay_out_into.ensures.laid_out in
     let made = rw c.unwrap-breaks.ensures at c.new.ensures in
@@ -31,4 +31,4 @@ returns g c =
     c.in_ok-positions.ensures.breaks) in
     subst (λ (layout : TextLayout). Appends (g.W.Write.contents c.args.w.now) (g.W.Write.contents c.print_lines.new.w)
     (reorder_text (mirror_by text.mirrors.now) text.chars.now text.units.now layout)) (laid ∙ broken ∙
-    at) c.in_ok-print_lines.ensures
+    at) c.in_ok-print_lines.ensures.written

@@ -27,8 +27,8 @@ loop-k-preserved g c =
           (more_came _ _ _ _ _ _ _ _ c.loop-k.invariant.printed c.in_ok-take_character.ensures.printed);
     }
 
-pub returns : goal.returns
-returns g c =
+pub returns-clause-printed : goal.returns-clause-printed
+returns-clause-printed g c =
     let settings = c.args.begun.now.settings in
     let text = c.args.text.now in
     let begun = c.loop-k.begun in
@@ -41,4 +41,4 @@ returns g c =
     (λ _. Appends (g.W.Write.contents c.args.w.now) (g.W.Write.contents c.print_last.new.w)
     (printed_as settings.form settings.tables.now text settings.direction))
     (λ _ last. all_came text _ _ c.args.begun.now begun c.requires.new came _ last)
-    c.print_last.ensures
+    c.print_last.ensures.printed

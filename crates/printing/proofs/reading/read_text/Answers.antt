@@ -3,6 +3,7 @@ use Rattle.std.proofs.lemmas.List.{length-take}
 use borrow.Rule.Slice.PartMut.{put_mid}
 use Rattle.units.specs.Layout.{longest_text}
 use Rattle.printing.specs.UnfinishedParagraphs.{chars_so_far}
+use Rattle.printing.proofs.FailedWrites.{stop_reports}
 use Rattle.printing.proofs.ReadBytesLemmas.{filled_is}
 use Rattle.printing.proofs.ReadSources.{HasRead, cut_of, ended_read, last_ends, more_fits, nothing_read, read_more, stop_ends, whole_read}
 use Rattle.printing.proofs.ReadingOn.{cut_broken, cut_whole, up_to}
@@ -64,6 +65,25 @@ returns-in-Err-take_front-clause-fault g c =
     let cut = cut_of _ _ _ _ _ _ _ _ _ _ read c.requires.new in
     stop_ends _ _ _ _ _ _ _ g.S.ByteSource.gives _ c.read.new.self _ _ given c.in-Err-take_front.stop
     c.end_unwritten.result
+    c.end_unwritten.ensures.unread c.end_unwritten.ensures.memory
+    (λ is. c.end_unwritten.ensures.write is c.args.source.now
+    (up_to g.S.ByteSource.gives joined c.args.source.now l.source c.read.new.self l.place (take l.stored l.buffer)
+    (take n buf) _ cut c.in-Ok.ensures.given filled))
+
+pub returns-in-Err-take_front-clause-reported : goal.returns-in-Err-take_front-clause-reported
+returns-in-Err-take_front-clause-reported g c =
+    let l = c.loop-n in
+    let buf = c.read.new.buf in
+    let n = c.in-Ok.n in
+    let joined = g.met.S.ByteSource.gives_joined in
+    let filled = filled_is l.buffer buf l.stored n (4096 - l.stored) (omega (
+      arith,
+      l.invariant.few,
+      l.invariant.long,
+    )) c.in-Ok.ensures.bound in
+    let cut = cut_of _ _ _ _ _ _ _ _ _ _ l.invariant.read c.requires.new in
+    stop_reports (g.W.Output.failed_with c.take_front.new.w) g.S.ByteSource.gives _ _ c.args.source.now c.read.new.self _ c.in-Err-take_front.stop
+    c.end_unwritten.result c.in-Err-take_front.ensures.stopped
     c.end_unwritten.ensures.unread c.end_unwritten.ensures.memory
     (λ is. c.end_unwritten.ensures.write is c.args.source.now
     (up_to g.S.ByteSource.gives joined c.args.source.now l.source c.read.new.self l.place (take l.stored l.buffer)
@@ -176,5 +196,5 @@ returns-clause-printed g c =
         arith,
         all,
         length-take l.stored l.buffer,
-      )) _ c.in_ok-print_last.ensures,
+      )) _ c.in_ok-print_last.ensures.printed,
     )

@@ -27,15 +27,16 @@ loop-position-init g c =
 pub loop-position-preserved : goal.loop-position-preserved
 loop-position-preserved g c =
     one_more_shown _ _ _ _ _ _ _ _ _ _ _ _ _ _ c.in-Some.ensures.steps.0 c.in-Some.ensures.steps.1
-    c.loop-position.invariant c.in_ok-print_shown.ensures
+    c.loop-position.invariant c.in_ok-print_shown.ensures.printed
 
-pub returns : goal.returns
+pub returns-clause-printed : goal.returns-clause-printed
 unfolding encode_utf8
-returns g c =
+returns-clause-printed g c =
     let it = c.loop-position.position-iterator in
     let none : (iter_rest (zip_first it) ≡ []) ⊎ (remaining_shown (zip_second it) ≡ []) =
     elim c.in-None.ensures.steps [
       | inl x ↦ inl (nil_from_length _ x.1.0)
       | inr x ↦ inr x.1.0
     ] in
-    Appends-then c.print.result _ _ _ _ _ (all_shown _ _ _ _ _ _ _ _ _ none c.loop-position.invariant) c.print.ensures
+    let shown = all_shown _ _ _ _ _ _ _ _ _ none c.loop-position.invariant in
+    Appends-then c.print.result _ _ _ _ _ shown c.print.ensures.printed

@@ -12,10 +12,10 @@ pub loop-k-preserved : goal.loop-k-preserved
 loop-k-preserved g c =
     let lines = (view_of c.args.layout.now).lines in
     one_more_passed _ _ _ _ _ _ _ _ (drop_more lines c.loop-k.k no_line (omega arith)) c.loop-k.invariant
-    c.in_ok-print_line.ensures
+    c.in_ok-print_line.ensures.printed
 
-pub returns : goal.returns
-returns g c =
+pub returns-clause-written : goal.returns-clause-written
+returns-clause-written g c =
     let lines = (view_of c.args.layout.now).lines in
     let passed = all_passed _ _ _ _ _ (nil_from_length _ (omega (arith, length-drop c.loop-k.k lines)))
     c.loop-k.invariant in

@@ -11,4 +11,5 @@ loop-remaining-preserved g c =
     ap (λ bs. bs ++ after_blanks g.T.RowItem.text items) c.clear.ensures in
     let parts = sym (take-append-drop c.add_items-count.result c.loop-remaining.remaining.now) ∙
     ap (λ xs. items ++ xs) (sym c.split_at.ensures.back) in
-    more_passed _ _ _ _ _ _ _ _ parts c.loop-remaining.invariant (Appends-to _ _ _ _ text c.in_ok-hand_over.ensures)
+    let written = Appends-to _ _ _ _ text c.in_ok-hand_over.ensures.written in
+    more_passed _ _ _ _ _ _ _ _ parts c.loop-remaining.invariant written

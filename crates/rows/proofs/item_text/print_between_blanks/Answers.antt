@@ -19,7 +19,7 @@ returns g c =
     let first = c.as_slice.ensures.value ∙ c.add_items-count.ensures.text ∙
     ap (λ bs. bs ++ after_blanks text (take n items)) c.new-text.ensures ∙
     following-first text items n some there in
-    let written = Appends-to _ _ _ _ (sliced-following 32 _ _ first) c.in_ok-hand_over.ensures in
+    let written = Appends-to _ _ _ _ (sliced-following 32 _ _ first) c.in_ok-hand_over.ensures.written in
     let whole = ap (λ xs. between_blanks text (take n items) ++ after_blanks text xs) c.split_at.ensures.back ∙
     between-parts text items n some there in
     subst (λ bs. OnOk c.print_after_blanks.result (Appends (g.W.Write.contents c.args.w.now)
