@@ -1,5 +1,7 @@
 //! Lays out a text with the built-in tables. Prints the level of each character and each line as it is shown, and then
-//! where the cursor goes in the same text in UTF-8: from each column to a byte, and from each byte to a column.
+//! where the cursor goes in the same text in UTF-8: from each column to a byte, and from each byte to a column. At last
+//! lays out bytes that end inside a character. They are rejected, so the program ends with status 1 and the reason on
+//! standard error.
 #![tactic(auto)]
 
 use decoding::fault::Faults;
@@ -10,6 +12,9 @@ use ucdfiles::tables::Tables;
 use units::limits::Limits;
 
 const WORDS: &str = "ab (\u{5D2}\u{5D3}) 12";
+
+/// Bytes that end inside a character.
+const CUT_OFF: &[u8] = b"ab \xD7";
 
 /// Prints each character that has a level, and its level.
 fn print_levels(rt: &HostRuntime, text: &Text<'_>) -> anyhow::Result<()> {
@@ -64,21 +69,27 @@ fn print_cursor(rt: &HostRuntime, room: &Room) -> anyhow::Result<()> {
     print_places(rt, columns.get(..length).unwrap_or(&[]))
 }
 
-/// Lays out the bytes of the text, and prints where the cursor goes.
-fn print_bytes(rt: &HostRuntime, tables: &Tables) -> anyhow::Result<()> {
-    let mut room = Room::reserve(rt.alloc(), 16, true)?;
+/// Lays out bytes of UTF-8, and prints where the cursor goes. Fails if they are not UTF-8.
+fn print_bytes(
+    rt: &HostRuntime,
+    tables: &Tables,
+    room: &mut Room,
+    bytes: &[u8],
+) -> anyhow::Result<()> {
     let ask = Ask {
-        source: Source::Utf8(WORDS.as_bytes(), Faults::Rejected),
+        source: Source::Utf8(bytes, Faults::Rejected),
         direction: Direction::Rtl,
         breaks: &[],
         limits: Limits::standard(),
     };
     room.lay_out(tables, &ask)?;
-    print_cursor(rt, &room)
+    print_cursor(rt, room)
 }
 
 fn main(rt: HostRuntime) -> anyhow::Result<()> {
     let tables = standard::tables();
     print_text(&rt, &tables)?;
-    print_bytes(&rt, &tables)
+    let mut room = Room::reserve(rt.alloc(), 16, true)?;
+    print_bytes(&rt, &tables, &mut room, WORDS.as_bytes())?;
+    print_bytes(&rt, &tables, &mut room, CUT_OFF)
 }

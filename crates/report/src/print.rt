@@ -5,15 +5,16 @@ ghost use Rattle.report.specs.declared.wrong_case.WrongCase.{WrongCase as Report
 ghost use Rattle.std.specs.IoError.{error_kind};
 ghost use Rattle.std.specs.declared.io.ErrorKind.TheVariants.{BrokenPipe};
 ghost use Rattle.report.specs.PrintedReports.{BreaksOff, EndsUnwritten, HasReported, HasWrittenFirst};
-ghost use Rattle.report.specs.PrintedReports.{IsFaultOf, IsWriteFault, Prints, PrintsEnd};
+ghost use Rattle.report.specs.PrintedReports.{IsFaultOf, IsWriteFault, Prints, PrintsEnd, ReportsCut};
 ghost use Rattle.report.specs.ReportText.{wrong_cases_text};
 
 use crate::report::Report;
 use crate::report_text::{print_foot, print_wrong_case};
 use crate::wrong_case::WrongCase;
+use printing::output::Output;
 use printing::written::Written;
 use std::io;
-use std::io::{ErrorKind, Write};
+use std::io::ErrorKind;
 use units::source::ByteSource;
 
 /// Why a report broke off.
@@ -41,8 +42,9 @@ impl From<io::Error> for ReportFault {
 }
 
 /// Writes the lines of these wrong cases.
-fn print_cases<W: Write>(w: &mut W, cases: &[WrongCase]) -> io::Result<()>
-    ensures { OnOk result (Appends (W.contents w.old) (W.contents w.new) (wrong_cases_text cases.now)) }
+fn print_cases<W: Output>(w: &mut W, cases: &[WrongCase]) -> io::Result<()>
+    ensures written { OnOk result (Appends (W.contents w.old) (W.contents w.new) (wrong_cases_text cases.now)) }
+    ensures failed { IfErr result (W.failed_with w.new) }
 {
     for case in cases {
         print_wrong_case(w, case)?;
@@ -51,8 +53,9 @@ fn print_cases<W: Write>(w: &mut W, cases: &[WrongCase]) -> io::Result<()>
 }
 
 /// Writes the lines of the first of these wrong cases, at most `most`. Returns how many more may follow.
-fn print_first<W: Write>(w: &mut W, cases: &[WrongCase], most: u64) -> io::Result<u64>
-    ensures { IfOk result (HasWrittenFirst most cases.now (W.contents w.old) (W.contents w.new)) }
+fn print_first<W: Output>(w: &mut W, cases: &[WrongCase], most: u64) -> io::Result<u64>
+    ensures written { IfOk result (HasWrittenFirst most cases.now (W.contents w.old) (W.contents w.new)) }
+    ensures failed { IfErr result (W.failed_with w.new) }
 {
     let count = most.min(cases.len() as u64);
     print_cases(w, &cases[..count as usize])?;
@@ -61,15 +64,16 @@ fn print_first<W: Write>(w: &mut W, cases: &[WrongCase], most: u64) -> io::Resul
 
 /// Passes the next bytes of the file to the report, and writes the lines of the first wrong cases that it reports, at
 /// most `most`. Returns how many more may follow.
-fn print_piece<W: Write>(
+fn print_piece<W: Output>(
     w: &mut W,
     report: &mut Report<'_>,
     piece: &[u8],
     most: u64,
 ) -> io::Result<u64>
-    ensures { IfOk result (λ remaining. (reported : List Reported) ×
+    ensures written { IfOk result (λ remaining. (reported : List Reported) ×
         HasReported report.old reported piece.now report.new
         × HasWrittenFirst most reported (W.contents w.old) (W.contents w.new) remaining) }
+    ensures failed { IfErr result (W.failed_with w.new) }
 {
     let mut rest = piece;
     let mut remaining = most;
@@ -112,7 +116,7 @@ fn end_unwritten<S: ByteSource>(error: io::Error, source: &mut S) -> ReportFault
 
 /// Reads the source to its end, passes its bytes to the report, and writes the lines of the first wrong cases that it
 /// reports, at most `most`. Returns how many more may follow.
-fn print_source<S: ByteSource, W: Write>(
+fn print_source<S: ByteSource, W: Output>(
     w: &mut W,
     report: &mut Report<'_>,
     source: &mut S,
@@ -125,6 +129,7 @@ fn print_source<S: ByteSource, W: Write>(
     ensures fault { IfErr result (λ fault. (given : List ℕ) × S.gives source.old given source.new
         × BreaksOff (S.failures source.new ≡ 1) (S.ended source.new) report.old most given
         (W.contents w.old) (W.contents w.new) fault) }
+    ensures cut_off { IfErr result (ReportsCut (W.failed_with w.new)) }
 {
     let written = Written::Whole;
     let mut remaining = most;
@@ -143,7 +148,7 @@ fn print_source<S: ByteSource, W: Write>(
 
 /// Writes the rest of an ended report: the lines of the first of its wrong cases, at most `most`, and then the foot.
 /// Returns whether the file is right.
-fn print_end<W: Write>(w: &mut W, ended: &Report<'_>, most: u64) -> Result<bool, ReportFault>
+fn print_end<W: Output>(w: &mut W, ended: &Report<'_>, most: u64) -> Result<bool, ReportFault>
     ensures printed { IfOk result (PrintsEnd most ended.now (W.contents w.old) (W.contents w.new)) }
     ensures fault { IfErr result IsWriteFault }
 {
@@ -163,7 +168,7 @@ fn print_end<W: Write>(w: &mut W, ended: &Report<'_>, most: u64) -> Result<bool,
 /// end after a failed write, and nothing more is written. `Read` says whether a write failed before. If none did, the
 /// lines of the wrong cases on the lines that have ended are written. Fails at once with `NobodyReads` if a write fails
 /// with `ErrorKind::BrokenPipe`; the source is not read further.
-pub fn print_report<S: ByteSource, W: Write>(
+pub fn print_report<S: ByteSource, W: Output>(
     w: &mut W,
     mut report: Report<'_>,
     source: &mut S,
@@ -175,6 +180,7 @@ pub fn print_report<S: ByteSource, W: Write>(
     ensures fault { IfErr result (λ fault. (given : List ℕ) × S.gives source.old given source.new
         × BreaksOff (S.failures source.new ≡ 1) (S.ended source.new) report.entry most given
         (W.contents w.old) (W.contents w.new) fault) }
+    ensures cut_off { IfErr result (ReportsCut (W.failed_with w.new)) }
 {
     let remaining = print_source(w, &mut report, source, most)?;
     report.finish();

@@ -1,5 +1,5 @@
 //! The lines that a report prints.
-ghost use Rattle.std.specs.Prelude.{OnOk, Some};
+ghost use Rattle.std.specs.Prelude.{IfErr, OnOk, Some};
 ghost use Rattle.std.specs.Io.KnownBytes.{Appends};
 ghost use Rattle.report.specs.ReportText.{directions_text, foot_text, item_text, malformed_text, parts_text};
 ghost use Rattle.report.specs.ReportText.{place_words, totals_text, wrong_case_text};
@@ -8,6 +8,7 @@ use crate::case_counts::CaseCounts;
 use crate::wrong_case::{Item, WrongCase};
 use bidtests::verdict::{Cause, Place, Verdict};
 use bidtests::verdict_line::{print_verdict, word_of_direction};
+use printing::output::Output;
 use std::io::Write;
 use std::{fmt, io};
 
@@ -41,8 +42,9 @@ impl fmt::Display for PlaceWords {
 }
 
 /// Writes the line of a wrong case, with its LF. Fails with the writer's error; then the line may be written in part.
-pub fn print_wrong_case<W: Write>(w: &mut W, case: &WrongCase) -> io::Result<()>
-    ensures { OnOk result (Appends (W.contents w.old) (W.contents w.new) (wrong_case_text case.now)) }
+pub fn print_wrong_case<W: Output>(w: &mut W, case: &WrongCase) -> io::Result<()>
+    ensures written { OnOk result (Appends (W.contents w.old) (W.contents w.new) (wrong_case_text case.now)) }
+    ensures failed { IfErr result (W.failed_with w.new) }
 {
     let WrongCase {
         line,
@@ -53,10 +55,7 @@ pub fn print_wrong_case<W: Write>(w: &mut W, case: &WrongCase) -> io::Result<()>
     } = *case;
     let word = word_of_direction(direction);
     let place = PlaceWords(place);
-    writeln!(
-        w,
-        "line {line}: {word}: {place}: claimed {claimed}, defined {defined}"
-    )
+    w.write_line(format_args!("line {line}: {word}: {place}: claimed {claimed}, defined {defined}"))
 }
 
 /// Writes how many rows and cases there are, and how many of them are wrong.

@@ -14,4 +14,4 @@ loop-case-preserved g c =
     one_more_passed wrong_case_text _ _ _ _ _ _ _
     (drop_more c.args.cases.now c.loop-case.case-index item c.loop-case-test.true) c.loop-case.invariant
     (subst (λ (w : WrongCase). Appends (g.W.Write.contents c.loop-case.w) (g.W.Write.contents c.print_wrong_case.new.w)
-    (wrong_case_text w)) at c.in_ok-print_wrong_case.ensures)
+    (wrong_case_text w)) at c.in_ok-print_wrong_case.ensures.written)

@@ -24,4 +24,4 @@ loop-rest-preserved g c =
     HasGone c.args.report.now c.take-used.new.self c.args.most remaining old new c.args.piece.now following)
     (sym all)
     (more-gone c.args.report.now c.args.most old c.args.piece.now _ _ _ _ _ _ _ used c.found.result.now
-    c.loop-rest.invariant reported c.in_ok-remaining.ensures)
+    c.loop-rest.invariant reported c.in_ok-remaining.ensures.written)
