@@ -682,6 +682,12 @@ struct Granted {
     asked: usize,
 }
 
+/// What is granted before the pass asks.
+const UNASKED: Granted = Granted {
+    remaining: 0,
+    asked: 0,
+};
+
 /// Returns how many turns the pass may have made at this position. Later these are more than the units for which there
 /// is room, since not every turn chooses one.
 fn most_turns(limit: TurnLimit, p: usize) -> usize
@@ -777,10 +783,7 @@ pub fn squeeze<L: Ledger>(
     ensures at_most { steps.new ≤ steps.old + length para.now }
 {
     let room = chosen.len().min(starts.len());
-    let mut granted = Granted {
-        remaining: 0,
-        asked: 0,
-    };
+    let mut granted = UNASKED;
     let mut m = 0;
     let mut turns = 0;
     let mut strong = direction;
