@@ -15,8 +15,10 @@ pub mod Plain
 pub mod Spreading
 pub mod Spans
 pub mod ParagraphsAtZero
+pub mod AtBreaks
 pub mod BasePass
 pub mod BaseSides
+pub mod BaseReads
 pub mod BaseParagraphs
 pub mod CharactersAt
 pub mod WholeLevels

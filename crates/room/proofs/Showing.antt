@@ -1,11 +1,12 @@
 -- What a room shows after its scratch was written.
-use Rattle.std.proofs.Common.{◌≡◌, ◌∙◌, ◌+◌, ℕ, Bool, List, ap, length, map, sym, take, true, false}
+use Rattle.std.proofs.Common.{◌≡◌, ◌∙◌, ◌+◌, ℕ, Bool, List, ap, length, map, subst, sym, take, true, false}
 use Rattle.std.specs.Prelude.{slice_index}
 use Rattle.std.specs.Box.{boxed_slice_items}
 use Rattle.std.proofs.lemmas.List.{map-id}
 use Rattle.units.specs.Layout.{TextLayout, layout_of}
 use Rattle.units.specs.declared.bracket.Unit.{Unit as BidiUnit}
 use Rattle.lines.proofs.Lengths.{length-levels}
+use Rattle.lines.specs.LineBreaks.{AreBreaks}
 use Rattle.lines.specs.Scratches.{layout_in}
 use Rattle.room.specs.Insides.{offsets_if, seen}
 use Rattle.room.specs.Rooms.{IsBrokenAt, offset_by}
@@ -25,14 +26,18 @@ module _ (a : Inside) (us : List BidiUnit) (indices : List ℕ) (laid : layout_i
   units : (seen a).text.units ≡ us
   units = ap (λ (k : ℕ). take k (boxed_slice_items a.units)) count ∙ front
 
+  inside : AreBreaks indices (length us) → AreBreaks indices (length (layout_in a.scratch).levels)
+  inside are = subst (AreBreaks indices) (sym count) are
+
   -- characters begin at their positions
-  pub shows_plain : a.spelled ≡ false → Shows a us indices
-  shows_plain plain =
+  pub shows_plain : AreBreaks indices (length us) → a.spelled ≡ false → Shows a us indices
+  shows_plain are plain =
       record {
         count = count;
         units = units;
         broken = record {
           indices = indices;
+          inside = inside are;
           begin = ap (λ (b : Bool).
               map (offset_by (offsets_if b (take (length (layout_in a.scratch).levels + 1)
               (boxed_slice_items a.starts)))) indices) plain ∙ map-id indices;
@@ -45,15 +50,16 @@ module _ (a : Inside) (us : List BidiUnit) (indices : List ℕ) (laid : layout_i
       take (length (layout_in a.scratch).levels + 1) (boxed_slice_items a.starts) ≡ starts
   starts_shown starts begin = ap (λ (k : ℕ). take (k + 1) (boxed_slice_items a.starts)) count ∙ begin
 
-  pub shows_spelled : (starts breaks : List ℕ) → a.spelled ≡ true →
+  pub shows_spelled : AreBreaks indices (length us) → (starts breaks : List ℕ) → a.spelled ≡ true →
       take (length us + 1) (boxed_slice_items a.starts) ≡ starts
       → map (slice_index starts) indices ≡ breaks → Shows a us breaks
-  shows_spelled starts breaks spelled begin found =
+  shows_spelled are starts breaks spelled begin found =
       record {
         count = count;
         units = units;
         broken = record {
           indices = indices;
+          inside = inside are;
           begin = ap (λ (b : Bool).
               map (offset_by (offsets_if b (take (length (layout_in a.scratch).levels + 1)
               (boxed_slice_items a.starts)))) indices) spelled

@@ -1,5 +1,5 @@
 -- The direction of a text that is not laid out.
-use Rattle.std.specs.Prelude.{ℕ, ◌≡◌, ◌<◌, ◌≤◌, ◌+◌, ◌-◌, None, List, Result, IfErr, IfOk, OnErr, drop, if◌then◌else◌, length, take}
+use Rattle.std.specs.Prelude.{ℕ, ◌≡◌, ◌<◌, ◌≤◌, ◌+◌, ◌-◌, Option, Some, None, List, Result, IfErr, IfOk, OnErr, drop, if◌then◌else◌, length, take}
 use Rattle.units.specs.Classes.{classes_of, is_isolate_initiator, is_pdi}
 use Rattle.units.specs.Isolates.{first_strong, para_level_of}
 use Rattle.units.specs.Layout.{para_levels_of}
@@ -24,6 +24,16 @@ base_level units direction = para_level_of (classes_of (first_paragraph units)) 
 -- P1, P2: the side of the first strong class of the text's first paragraph outside of its isolates
 abbrev pub first_side : List BidiUnit → Side
 first_side units = let cs : List Class = classes_of (first_paragraph units) in side_at cs (first_strong cs None)
+
+-- how many of n positions there are up to this one, which counts too; all of them, if there is no such position
+abbrev pub through : Option ℕ → ℕ → ℕ
+through None n = n
+through (Some p) n = p + 1
+
+-- P1, P2: how many units of the text show that side: those of its first paragraph up to that strong class, or all of
+-- the paragraph
+abbrev pub units_read : List BidiUnit → ℕ
+units_read units = through (first_strong (classes_of (first_paragraph units)) None) (first_length units)
 
 -- BD9: how many isolates are open after a class, if `depth` are open before it; a PDI closes one, if one is open
 abbrev pub depth_after : Class → ℕ → ℕ

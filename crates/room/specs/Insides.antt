@@ -27,7 +27,7 @@ seen a =
       layout = layout_in a.scratch;
     }
 
--- all columns are made for texts of so many code units
+-- the columns of a room with offsets have an item for each code unit of its capacity, and those of offsets one more
 pub record HaveCapacity (capacity units spare_units starts spare indices : ℕ) : Type 0 where
   pub for_units : units ≡ capacity
   pub for_spare_units : spare_units ≡ capacity
@@ -35,7 +35,14 @@ pub record HaveCapacity (capacity units spare_units starts spare indices : ℕ) 
   pub for_spare : spare ≡ capacity + 1
   pub for_indices : indices ≡ capacity
 
--- the scratch contains the text with its layout, and each column is long enough
+-- the columns that only a room with offsets needs have no items
+pub record HaveNoItems (spare_units starts spare indices : ℕ) : Type 0 where
+  pub of_spare_units : spare_units ≡ 0
+  pub of_starts : starts ≡ 0
+  pub of_spare : spare ≡ 0
+  pub of_indices : indices ≡ 0
+
+-- the scratch contains the text with its layout, and each column has the length that a room of its kind needs
 pub record IsRoom (a : Inside) : Type 0 where
   pub filled : IsFilled a.scratch
   pub fits : length (boxed_slice_items a.units) ≡ room_of a.scratch
@@ -45,6 +52,9 @@ pub record IsRoom (a : Inside) : Type 0 where
   pub columns : a.encodes ≡ true →
       HaveCapacity (room_of a.scratch) (length (boxed_slice_items a.units)) (length (boxed_slice_items a.spare_units))
       (length (boxed_slice_items a.starts)) (length (boxed_slice_items a.spare)) (length (boxed_slice_items a.indices))
+  pub no_columns : a.encodes ≡ false →
+      HaveNoItems (length (boxed_slice_items a.spare_units)) (length (boxed_slice_items a.starts))
+      (length (boxed_slice_items a.spare)) (length (boxed_slice_items a.indices))
   pub spelled : a.spelled ≡ true → a.encodes ≡ true
   pub begun : a.spelled ≡ true → AreOffsets (length (layout_in a.scratch).levels) (boxed_slice_items a.starts)
   pub ends : a.spelled ≡ true → slice_index (boxed_slice_items a.starts) (length (layout_in a.scratch).levels) ≤

@@ -1,5 +1,6 @@
 -- The room after a call that lays out a text, or that breaks one into lines again.
-use Rattle.std.specs.Prelude.{ℕ, true, false, ◌≡◌, ◌<◌, ◌≤◌, ◌⊎◌, Result, List, IfErr, OnErr, OnOk}
+use Rattle.std.specs.Prelude.{ℕ, true, false, ◌≡◌, ◌<◌, ◌≤◌, ◌⊎◌, Result, List, IfErr, OnErr, OnOk, map}
+use Rattle.units.specs.Layout.{layout_of}
 use Rattle.ucdfiles.specs.Tables.{TablesOf}
 use Rattle.lines.specs.LineBreaks.{AreBreaks}
 use Rattle.sources.specs.Asks.{AskOf}
@@ -62,6 +63,20 @@ pub record LeavesText (IsTaken : Type 0) (IsRejected : LayoutFault → Type 0) (
 abbrev pub Leaves : AskOf → TablesOf → RoomOf → RoomOf → Result (Unit {0}) LayoutFault → Type 0
 Leaves ask tables old new done =
     LeavesText (Takes ask old) (Rejects ask old) (IsAsked ask tables) ask.breaks old new done
+
+-- P1 to L2: a room contains the layout of the text that is asked for, broken at the characters that begin at the breaks.
+-- These are the breaks themselves if each unit of the text is a character
+abbrev pub IsBrokenAsAsked : AskOf → TablesOf → RoomOf → Type 0
+IsBrokenAsAsked ask tables room =
+    (indices : List ℕ) → AreBreaks indices (characters_of ask.source) →
+    map (source_offset ask.source) indices ≡ ask.breaks
+    → room.layout ≡ layout_of ask.limits (units_of tables ask.source) ask.direction indices
+
+-- this holds of each room after a call that lays out a text
+abbrev pub BreaksAreTaken : Type 0
+BreaksAreTaken =
+    (ask : AskOf) (tables : TablesOf) (old new : RoomOf) (done : Result (Unit {0}) LayoutFault)
+    → Leaves ask tables old new done → OnOk done (IsBrokenAsAsked ask tables new)
 
 -- breaks of the room's text are rejected for this reason
 abbrev pub RejectsLines : RoomOf → List ℕ → LayoutFault → Type 0

@@ -10,7 +10,7 @@ ghost use Rattle.units.specs.declared.bracket.Unit.{Unit as BidiUnit};
 ghost use Rattle.explicit.specs.FirstParagraph.{first_length};
 ghost use Rattle.room.specs.StaysAtZero.{AreLevelsZero, all_stay_at_zero, stays_at_zero};
 ghost use Rattle.room.specs.BaseLevels.{IsAfterParagraph, IsNextText, WritesBaseLevels};
-ghost use Rattle.room.specs.BaseLevels.{base_level, depth_after, first_side};
+ghost use Rattle.room.specs.BaseLevels.{base_level, depth_after, first_side, units_read};
 ghost use Rattle.sources.specs.Seen.{source_seen};
 ghost use Rattle.sources.specs.Sources.{IsFirstFault, IsWellFormed, size_of, units_of};
 ghost use Rattle.sources.specs.Splitting.{IsEmpty};
@@ -41,13 +41,14 @@ fn depth_after(class: Class, depth: usize) -> usize
 }
 
 /// P1, P2: returns the side of the first strong class of a text's first paragraph outside of all isolates. Reads no
-/// further than that class or the paragraph, so it takes at most one step for each character of the paragraph.
-#[tactic(auto, using(crate::proofs::BaseSides::first_side_from, crate::proofs::BaseSides::one_longer))]
+/// further than that class or the paragraph, and takes one step for each character that it reads.
+#[tactic(auto, using(crate::proofs::BaseSides::first_side_from, crate::proofs::BaseSides::one_longer, crate::proofs::BaseReads::units_read_from))]
 fn first_side<L: Ledger>(tables: &Tables, source: Source<'_>, steps: &mut Steps<L>) -> Side
     requires { IsWellFormed (source_seen source) }
     ensures side { result ≡ first_side (units_of tables.now (source_seen source.entry)) }
     ensures steps { steps.new ≤ steps.old + size_of (source_seen source.entry) }
     ensures paragraph { steps.new ≤ steps.old + first_length (units_of tables.now (source_seen source.entry)) }
+    ensures read { steps.new ≡ steps.old + units_read (units_of tables.now (source_seen source.entry)) }
 {
     let _size = source.size();
     let mut depth = 0;
@@ -96,9 +97,9 @@ fn next_text<'t>(tables: &Tables, source: Source<'t>) -> Option<Source<'t>>
     Some(after_paragraph(tables, after))
 }
 
-/// Returns the level of the first paragraph of a well-formed text under a direction (P1 to P3). It takes at most one
-/// step for each unit of the text, and at most one for each character of that paragraph. What comes after the paragraph
-/// is not read.
+/// Returns the level of the first paragraph of a well-formed text under a direction (P1 to P3). It takes one step for
+/// each character of the paragraph up to its first strong class outside of all isolates, or for all of them if there is
+/// no such class. So it takes at most one step for each unit of the text. What comes after the paragraph is not read.
 pub fn first_level<L: Ledger>(
     tables: &Tables,
     source: Source<'_>,
@@ -109,6 +110,7 @@ pub fn first_level<L: Ledger>(
     ensures level { level_of_para result ≡ base_level (units_of tables.now (source_seen source.entry)) direction }
     ensures steps { steps.new ≤ steps.old + size_of (source_seen source.entry) }
     ensures paragraph { steps.new ≤ steps.old + first_length (units_of tables.now (source_seen source.entry)) }
+    ensures read { steps.new ≡ steps.old + units_read (units_of tables.now (source_seen source.entry)) }
 {
     level_under(direction, first_side(tables, source, steps))
 }

@@ -16,4 +16,5 @@ pub mod runs;
 pub mod shown;
 pub mod shown_units;
 pub mod text;
+pub mod theorems;
 pub mod whole_levels;

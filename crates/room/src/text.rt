@@ -1,6 +1,6 @@
 //! A text and its layout in one value, for callers that lay out one text at a time. To lay out many texts, use one
 //! `crate::room::Room` for all of them.
-ghost use Rattle.std.specs.Prelude.{◌≡◌, ◌≤◌, length, None, false, IfOk};
+ghost use Rattle.std.specs.Prelude.{◌≡◌, ◌≤◌, length, IfOk};
 ghost use Rattle.std.specs.Char.{IsScalar};
 ghost use Rattle.std.specs.Str.{chars};
 ghost use Rattle.units.specs.Layout.{layout_of, longest_text};
@@ -80,14 +80,6 @@ fn codes_of(alloc: Global, chars: &[char]) -> Result<Vec<u32>, AllocError>
     Ok(codes)
 }
 
-/// States for callers that the offsets of a room without offsets are positions.
-fn counts_positions(room: &Room)
-    requires { room.now.encodes ≡ false }
-    ensures { room.now.text.offsets ≡ None }
-{
-    let _ = &room.scratch;
-}
-
 /// Makes a room with the layout of code points, broken at these positions.
 fn room_with(
     alloc: Global,
@@ -110,7 +102,6 @@ fn room_with(
         limits: Limits::standard(),
     };
     room.lay_out(tables, &ask).unwrap();
-    counts_positions(&room);
     Ok(room)
 }
 

@@ -60,8 +60,9 @@ returns c =
       direction = ask.direction;
       limits = ask.limits;
     } in
+    let are : AreBreaks breaks (length us) = subst (AreBreaks breaks) (c.size-len.ensures ∙ sym len) c.in-Ok.ensures.1 in
     let shows = shows_plain new us breaks laid
-    (ap (λ (k : ℕ). take k (boxed_slice_items column)) len ∙ front) refl in
+    (ap (λ (k : ℕ). take k (boxed_slice_items column)) len ∙ front) are refl in
     subst (λ (a : AskOf). Leaves a c.args.tables.now c.args.self.now (seen new) (Ok tt)) c.ask.view_is (record {
       capacity = c.lay_out_units.ensures.room ∙ capacity;
       encodes = ap (λ (r : RoomOf). r.encodes) c.self.view_is;

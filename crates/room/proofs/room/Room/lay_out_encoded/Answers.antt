@@ -1,4 +1,4 @@
-use Rattle.std.proofs.Common.{rules, ◌≡◌, ◌∙◌, ◌+◌, ◌-◌, ℕ, List, ap, arith, length, refl, subst, sym, take, true, IfSome}
+use Rattle.std.proofs.Common.{rules, ◌≡◌, ◌∙◌, ◌+◌, ◌-◌, ℕ, List, ap, arith, length, refl, subst, sym, take, true, true≢false, IfSome}
 use Rattle.std.specs.Prelude.{slice_index}
 use Rattle.std.specs.Box.{boxed_slice_items, boxed_slice_with_items}
 use Rattle.units.specs.Classes.{classes_of}
@@ -292,6 +292,7 @@ invariant_of-self-2 c =
         for_indices = ap length (refilled self.indices c.find_indices.new.indices indices_len) ∙ indices_len ∙
             columns.for_indices ∙ sym room;
       };
+      no_columns = λ plain. absurd (true≢false (sym encodes ∙ plain));
       spelled = λ _. encodes;
       begun = λ _. begun;
       ends = λ _. omega (arith, last, c.if-room-size.false, c.room.ensures, c.size.ensures, room);
@@ -351,8 +352,11 @@ returns c =
     ap (λ (k : ℕ). take k (boxed_slice_items c.swap-2.new.x)) f.len_units ∙ ap (take n) units_here in
     let begin : take (length us + 1) (boxed_slice_items c.swap.new.x) ≡ ss =
     ap (λ (k : ℕ). take (k + 1) (boxed_slice_items c.swap.new.x)) f.len_units ∙ ap (take (n + 1)) here in
-    let shows = shows_spelled new us indices laid front ss c.args.breaks.now refl begin c.in_default.ensures.found.found
-    in
+    let are : AreBreaks indices (length us) =
+    subst (AreBreaks indices) {x = length ss - 1} {y = length us} (omega (arith, f.len_starts, f.len_units))
+    c.in_default.ensures.characters in
+    let shows = shows_spelled new us indices laid front are ss c.args.breaks.now refl begin
+    c.in_default.ensures.found.found in
     let starts = starts_shown new us indices laid front ss begin in
     record {
       capacity = c.lay_out_units.ensures.room ∙ capacity;

@@ -35,6 +35,18 @@ invariant_of-result c =
             for_indices = sym c.into_boxed_slice-indices.result.items.ok.0 ∙ c.into_boxed_slice-indices.ensures.len ∙
                 c.in_ok-from_elem.ensures.len ∙ few ∙ sym room;
           };
+      no_columns = λ is.
+          let few : c.items_if-few.result ≡ 0 = c.items_if-few.ensures ∙
+          ap (λ (b : Bool). if b then c.args.n else 0) is in
+          let offsets : c.items_if-offsets.result ≡ 0 = c.items_if-offsets.ensures ∙
+          ap (λ (b : Bool). if b then c.args.n + 1 else 0) is in
+          record {
+            of_spare_units = c.in_ok-spare_units.ensures ∙ few;
+            of_starts = c.in_ok-starts.ensures ∙ offsets;
+            of_spare = c.in_ok-spare.ensures ∙ offsets;
+            of_indices = sym c.into_boxed_slice-indices.result.items.ok.0 ∙ c.into_boxed_slice-indices.ensures.len ∙
+                c.in_ok-from_elem.ensures.len ∙ few;
+          };
       spelled = λ is. absurd (true≢false (sym is));
       begun = λ is. absurd (true≢false (sym is));
       ends = λ is. absurd (true≢false (sym is));

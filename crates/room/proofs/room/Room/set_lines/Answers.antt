@@ -160,6 +160,9 @@ returns-then-self c =
       text = ap (text_of self) count_new ∙ ap (λ (r : RoomOf). r.text) c.self.view_is;
       broken = record {
         indices = indices;
+        inside = subst (AreBreaks indices) {x = length starts - 1} {y =
+            length (layout_in c.set_lines_of_units.new.scratch).levels} (omega (arith, whole, count_new))
+            c.in_default.ensures.characters;
         begin = ap (λ (k : ℕ). map (offset_by (offsets_if self.spelled (take (k + 1) items))) indices) count_new
             ∙ ap (λ (b : Bool). map (offset_by (offsets_if b (take (n + 1) items))) indices) spelled
             ∙ ap (λ (xs : List ℕ). map (slice_index xs) indices) (sym same) ∙ c.in_default.ensures.found.found;
@@ -206,6 +209,7 @@ returns c =
       text = ap (text_of self) count_new ∙ ap (λ (r : RoomOf). r.text) c.self.view_is;
       broken = record {
         indices = breaks;
+        inside = subst (AreBreaks breaks) (count ∙ sym count_new) c.in-Ok.ensures.1;
         begin = ap (λ (k : ℕ). map (offset_by (offsets_if self.spelled (take (k + 1) items))) breaks) count_new
             ∙ ap (λ (b : Bool). map (offset_by (offsets_if b (take (n + 1) items))) breaks) spelled ∙ map-id breaks;
         laid_out = laid ∙ ap (λ (k : ℕ). layout_of self.limits (take k units) self.direction breaks) (sym count_new);
