@@ -28,8 +28,8 @@ use units::limits::Limits;
 /// A room for texts and their layouts, to be used again and again. It contains a text and its layout at all times, at
 /// first those of an empty text. Its columns don't grow.
 ///
-/// A room without offsets is for texts of code points, classes and units, and has no items in the columns for offsets. A
-/// room with offsets is for all texts.
+/// A room without offsets is for texts of code points, classes and units. Its columns for offsets have no items. A room
+/// with offsets is for all texts.
 /// Offsets, breaks and lengths count the units of the text's source: code points, classes, bytes of UTF-8 or code units
 /// of UTF-16.
 #[derive(Drop)]
