@@ -111,7 +111,8 @@ pub fn three_at(bytes: &[u8], at: usize) -> InBlock
 }
 
 /// Returns the character of four bytes that begins at an offset, by its block.
-#[inline(always)]
+// Inlined, blocks of ASCII take more instructions.
+#[inline(never)]
 pub fn four_at(bytes: &[u8], at: usize) -> InBlock
     requires inside { at < length bytes.now }
     requires well_formed { IsUtf8 bytes.now }
