@@ -26,13 +26,19 @@ HasSmallNumbers (Yes rows cases) = (rows < 2 ^ 64) × (cases < 2 ^ 64)
 HasSmallNumbers (Malformed line cause) = line < 2 ^ 64
 HasSmallNumbers (Wrong line direction place) = (line < 2 ^ 64) × HasSmallIndex place
 
+-- the numbers encode a verdict
+abbrev pub EncodeVerdict : BidiVerdict → Type 0
+EncodeVerdict numbers = (verdict : Verdict) × (numbers ≡ verdict_for_c verdict)
+
 -- the numbers encode no verdict
 abbrev pub EncodeNoVerdict : BidiVerdict → Type 0
 EncodeNoVerdict numbers = (verdict : Verdict) → numbers ≢ verdict_for_c verdict
 
--- no line is made of these numbers, for this reason
+-- no line is made of these numbers, for this reason: they encode a verdict, and there is not enough memory, or they
+-- encode none
 abbrev pub RejectsVerdictNumbers : BidiVerdict → CallError → Type 0
-RejectsVerdictNumbers numbers error = (error ≡ Memory) ⊎ ((error ≡ NoVerdict) × EncodeNoVerdict numbers)
+RejectsVerdictNumbers numbers error =
+    ((error ≡ Memory) × EncodeVerdict numbers) ⊎ ((error ≡ NoVerdict) × EncodeNoVerdict numbers)
 
 -- the numbers encode a verdict whose line has more bytes than this
 abbrev pub IsLongerThan : BidiVerdict → ℕ → Type 0

@@ -1,4 +1,4 @@
-use Rattle.std.proofs.Common.{◌≡◌, ◌∙◌}
+use Rattle.std.proofs.Common.{◌≡◌, ◌∙◌, inl, refl}
 use Rattle.bidtests.specs.VerdictText.{verdict_text}
 use Rattle.for_c.proofs.LineLengths.{line_short}
 use Rattle.for_c.proofs.verdict_text.verdict_line.Goals as goal
@@ -9,3 +9,7 @@ returns-in-Ok-clause-short c =
     let printed : c.print_verdict.new.w.items ≡ verdict_text c.in-Some.verdict =
     c.in-Ok.ensures ∙ rw c.new-line.ensures.items in
     rw printed (line_short c.in-Some.verdict c.in-Some.ensures.small)
+
+-- only what was printed of a verdict takes memory
+pub returns-in-Err-clause-reason : goal.returns-in-Err-clause-reason
+returns-in-Err-clause-reason c = inl (refl, (c.in-Some.verdict, c.in-Some.ensures.encoded))
