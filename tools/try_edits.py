@@ -17,10 +17,10 @@ folder, with the sum of what the edit is (its text and the functions that it cha
 whether it is rejected. With --changed the tool tries these edits of wrong/, in this order:
 
 1. a tenth of all, drawn by the hash of the commit, so that a record that isn't true makes a run fail sooner or later;
-2. those with no record, and those that are something else than what was recorded: these two kinds fail if the time ends
-   before they are tried;
-3. those for which only something else changed since they were recorded, in a drawn order of crates. Those that the time
-   doesn't suffice for are stale. The last line counts them, and they don't change the status.
+2. those that are something else than what was recorded: these two kinds fail if the time ends before they are tried;
+3. those for which only something else changed since they were recorded, and those with no record, in a drawn order of
+   crates. Those that the time doesn't suffice for are stale. The last line counts them, and they don't change the
+   status.
 
 With --minutes=N it starts no check after N minutes.
 
@@ -85,6 +85,7 @@ printing = threading.Lock()
 choosing = threading.Lock()
 running = set()
 is_ending = threading.Event()
+proved = set()
 ends_at = float("inf")
 
 
@@ -311,11 +312,12 @@ def try_edits(job, jobs, noted):
     tried = [it for it in edits if not it.fault]
     if not tried or is_over():
         return
-    if output := unproved(crate, jobs, tried):
+    if crate.folder not in proved and (output := unproved(crate, jobs, tried)):
         for it in tried:
             report(it, False, "NOT JUDGED")
         report(None, False, f"{crate.name}: its right code is not proved here: {output.strip()[-500:]}")
         return
+    proved.add(crate.folder)
     joined = [it for it in tried if it.functions]
     missed = in_rounds(crate, jobs, joined, report)
     if len(missed) < len(joined):
@@ -378,7 +380,7 @@ def turn_of(edit, chosen, records):
     known, sums = records.known[crate].get(name), records.sums(edit)
     if edit.label in chosen:
         return 0
-    if edit.fault or known is None or known.own != sums.own:
+    if edit.fault or known and known.own != sums.own:
         return 1
     return None if known == sums else 2
 

@@ -155,12 +155,12 @@ followed a b limit q (x ∷ y ∷ ys) lt e =
     let hy : ℕ = cond (leb limit y) 1 0 in
     let step : bit_and ((firsts + lasts) * 2 + (ax + bx)) (hs * 2 + hy) ≡ bit_and (firsts + lasts) hs * 2 + bit_and (ax + bx) hy =
     and_block 1 (firsts + lasts) hs (ax + bx) hy (both_bits x a b lt) (omega (arith, bit_most (leb limit y))) in
-    let left : mask_l (map (λ z. eqb z a) (x ∷ zs)) + mask_l (map (λ z. eqb z b) (x ∷ zs)) ≡
+    let joined : mask_l (map (λ z. eqb z a) (x ∷ zs)) + mask_l (map (λ z. eqb z b) (x ∷ zs)) ≡
     (firsts + lasts) * 2 + (ax + bx) = omega arith in
     let right : mask_l (map (leb limit) (x ∷ zs)) / 2 ≡ hs * 2 + hy =
     omega (arith, bit_most (leb limit x)) in
     let half : hs ≡ mask_l (map (leb limit) zs) / 2 = omega (arith, bit_most (leb limit y)) in
-    let all = ap (λ (n : ℕ). bit_and n (mask_l (map (leb limit) (x ∷ zs)) / 2)) left ∙
+    let all = ap (λ (n : ℕ). bit_and n (mask_l (map (leb limit) (x ∷ zs)) / 2)) joined ∙
     ap (bit_and ((firsts + lasts) * 2 + (ax + bx))) right ∙ step in
     let few : bit_and (ax + bx) hy ≤ hy = and_le_r (ax + bx) hy in
     let here : bit_and (ax + bx) hy ≡ ax =

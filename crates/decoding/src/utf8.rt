@@ -367,7 +367,7 @@ fn decode_ascii(
 /// Writes the unit and the offset of the next character, which was found in its block. The class of each bracket must be
 /// ON.
 #[inline(always)]
-fn write_found(
+fn write_character(
     found: InBlock,
     borrowed: &BorrowedUnits<'_>,
     before: Reached,
@@ -429,13 +429,13 @@ fn decode_next(
     let at = before.code_units;
     let x = bytes[at];
     if x < 0x80 {
-        write_found(one_at(bytes, at), borrowed, before, units, starts)
+        write_character(one_at(bytes, at), borrowed, before, units, starts)
     } else if x < 0xE0 {
-        write_found(two_at(bytes, at), borrowed, before, units, starts)
+        write_character(two_at(bytes, at), borrowed, before, units, starts)
     } else if x < 0xF0 {
-        write_found(three_at(bytes, at), borrowed, before, units, starts)
+        write_character(three_at(bytes, at), borrowed, before, units, starts)
     } else {
-        write_found(four_at(bytes, at), borrowed, before, units, starts)
+        write_character(four_at(bytes, at), borrowed, before, units, starts)
     }
 }
 

@@ -1,5 +1,5 @@
 use Rattle.decoding.proofs.BlockReading.{read_char}
-use Rattle.decoding.proofs.utf8.write_found.Goals as goal
+use Rattle.decoding.proofs.utf8.write_character.Goals as goal
 
 pub returns-clause-read : goal.returns-clause-read
 returns-clause-read c bytes is read =
