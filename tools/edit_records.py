@@ -1,12 +1,13 @@
 """Records which wrong bodies were rejected, with sums that show whether a record still holds.
 
 Two sums are stored for each wrong body. One is over what it is: its own text, and the right code of the functions that
-it changes. The other is over all else that decides whether the prover rejects it: the kit, and of its crate and of
-those below what crates.txt says of them, all of specs/, and the signatures, contracts, types and constants of the
-sources. Bodies of other functions, proofs, comments and the files that programs run on aren't in it.
+it changes, or of the files if it changes no function. The other is over all else that decides whether the prover
+rejects it: the kit, and of its crate and of those below what crates.txt says of them, all of specs/, and the
+signatures, contracts, types and constants of the sources. Bodies of other functions, proofs, comments and the files
+that programs run on aren't in it.
 
 tools/try_edits.py writes and reads records. The file RECORD in a crate's folder has those of the crate, one on each
-line: the wrong body and its two sums.
+line: the wrong body and its two sums. In place of the second sum, UNTRIED says that it wasn't tried yet.
 """
 import dataclasses
 import functools
@@ -19,6 +20,7 @@ import subprocess
 
 RECORD = "edits.rejected"
 HEAD = "# wrong body, sum of what it is, sum of what else decides whether it is rejected (tools/edit_records.py)\n"
+UNTRIED = "untried"
 DIGITS = 16
 DRAWN_OF = 10
 FUNCTION = re.compile(r"( *)(?:pub(?:\([a-z]+\))? )?(?:unsafe )?(?:extern \"C\" )?fn \w")
@@ -94,9 +96,11 @@ def others_of(crates):
             for name, crate in crates.items()}
 
 
-def sums_of(edit, others):
-    """Returns the sums of an edit, whose crate has this sum of all else."""
+def sums_of(crate, edit, others):
+    """Returns the sums of an edit of a crate, which has this sum of all else."""
     codes = ["::".join(path) + without_comments(edit.functions[path]) for path in sorted(edit.functions)]
+    files = sorted({path for path, _, _ in edit.pairs if os.path.isfile(f"{crate.folder}/{path}")})
+    codes = codes or [without_comments(crate.text(it)) for it in files]
     return Sums(digits_of(edit.text, *codes), others)
 
 

@@ -17,10 +17,11 @@ folder, with the sum of what the edit is (its text and the functions that it cha
 whether it is rejected. With --changed the tool tries these edits of wrong/, in this order:
 
 1. a tenth of all, drawn by the hash of the commit, so that a record that isn't true makes a run fail sooner or later;
-2. those that are something else than what was recorded: these two kinds fail if the time ends before they are tried;
-3. those for which only something else changed since they were recorded, and those with no record, in a drawn order of
-   crates. Those that the time doesn't suffice for are stale. The last line counts them, and they don't change the
-   status.
+2. those with no record, and those that are something else than what was recorded: these two kinds fail if the time ends
+   before they are tried;
+3. those for which only something else changed since they were recorded, and those that are recorded as untried, in a
+   drawn order of crates. Those that the time doesn't suffice for are stale. The last line counts them, and they don't
+   change the status.
 
 With --minutes=N it starts no check after N minutes.
 
@@ -92,12 +93,11 @@ ends_at = float("inf")
 @dataclasses.dataclass
 class Job:
     """Edits of one crate that are tried one after another, and what becomes of each: whether it was rejected. One that
-    was not tried isn't there. `turn` says which jobs come first, and `must` that each of its edits has to be tried."""
+    was not tried isn't there. `turn` says which jobs come first. In the first two turns each edit must be tried."""
 
     turn: int
     crate: Crate
     files: list
-    must: bool = True
     results: dict = dataclasses.field(default_factory=dict)
     faults: int = 0
 
@@ -112,7 +112,8 @@ class Records:
 
     def sums(self, edit):
         """Returns the sums of an edit."""
-        return edit_records.sums_of(edit, self.others[edit.label.partition("/")[0]])
+        name = edit.label.partition("/")[0]
+        return edit_records.sums_of(self.crates[name], edit, self.others[name])
 
     def note(self, edit, is_well):
         """Records that an edit of wrong/ was rejected, or removes its record if it wasn't."""
@@ -380,7 +381,7 @@ def turn_of(edit, chosen, records):
     known, sums = records.known[crate].get(name), records.sums(edit)
     if edit.label in chosen:
         return 0
-    if edit.fault or known and known.own != sums.own:
+    if edit.fault or known is None or known.own != sums.own:
         return 1
     return None if known == sums else 2
 
@@ -396,7 +397,7 @@ def changed(crates, names, records):
         by_turn = {turn: [] for turn in (0, 1, 2, None)}
         for it in edits[name]:
             by_turn[turn_of(it, chosen, records)].append(it.file)
-        jobs += [Job(turn, crates[name], by_turn[turn], turn < 2) for turn in (0, 1, 2) if by_turn[turn]]
+        jobs += [Job(turn, crates[name], by_turn[turn]) for turn in (0, 1, 2) if by_turn[turn]]
         counts = [len(by_turn[turn]) for turn in (0, 1, 2)]
         print(f"{name}: of {len(edits[name])} {counts[0]} drawn, {counts[1]} changed, {counts[2]} stale", flush=True)
     order = edit_records.in_drawn_order(list(crates), commit)
@@ -427,7 +428,8 @@ def work_through(left, top, noted):
         with choosing:
             if not left:
                 return
-            job = min(left, key=lambda it: (it.turn, len(it.crate.below - built), -len(it.files)))
+            job = min((it for it in left if it.turn == left[0].turn),
+                      key=lambda it: it.turn < 2 and (len(it.crate.below - built), -len(it.files)))
             left.remove(job)
         built |= job.crate.below
         job.crate = dataclasses.replace(job.crate, top=top)
@@ -465,7 +467,7 @@ def try_here(jobs, noted):
     left, busy = list(jobs), {}
     with futures.ThreadPoolExecutor(lanes(CRATES_AT_ONCE)) as workers, ending_all():
         while left or busy:
-            for job in startable(left, busy.values()):
+            for job in startable(left, busy.values())[: lanes(CRATES_AT_ONCE) - len(busy)]:
                 left.remove(job)
                 busy[workers.submit(try_edits, job, lanes(sys.maxsize), noted)] = job
             for it in futures.wait(busy, return_when=futures.FIRST_COMPLETED).done:
@@ -492,7 +494,7 @@ def status_of(jobs):
     for job in jobs:
         for is_well in job.results.values():
             counts[is_well] += 1
-        if (untried := len(job.files) - len(job.results)) and job.must:
+        if (untried := len(job.files) - len(job.results)) and job.turn < 2:
             counts[False] += untried
             print(f"{job.crate.name}: {untried} NOT TRIED in time, of those that must be")
         elif untried:

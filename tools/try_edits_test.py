@@ -13,6 +13,7 @@ is left, the run ends with 1. If only a proof changed, nothing but the draw is t
 edit is stale as long as no time is left for it, and the run says so. The draw shows that a false record is false. With
 --here the checkout is unchanged afterwards, except for records.
 """
+import dataclasses
 import os
 import pathlib
 import subprocess
@@ -161,6 +162,17 @@ def records(top):
     stale, tried = f"0 passed, 0 failed, {count} stale", f"{count} passed, 0 failed, 0 stale"
     well.append(changed(top, "a change of a contract", stale, 0, ["--minutes=0", undrawn]))
     well.append(changed(top, "a change of a contract, with time", tried, 0, [undrawn]))
+    put(top / "crates/small/src/lib.rt", CODE)
+    known = edit_records.recorded(small)
+    edit_records.record(small, {})
+    no_time = ["--minutes=0", "small"]
+    well.append(changed(top, "edits without a record, no time", "0 passed, 3 failed, 0 stale", 1, no_time))
+    untried = {name: dataclasses.replace(it, others=edit_records.UNTRIED) for name, it in known.items()}
+    edit_records.record(small, untried)
+    count = len(drawn(small))
+    stale = f"0 passed, {count} failed, {3 - count} stale"
+    well.append(changed(top, "untried edits, no time", stale, 1 if count else 0, no_time))
+    edit_records.record(small, known)
     put(top / "crates/small/src/lib.rt", CODE.replace(SMALLER, f"    let x = x;\n{SMALLER}"))
     count = len({"first", "larger"} | drawn(small))
     untried, tried = f"0 passed, {count} failed, 0 stale", f"{count} passed, 0 failed, 0 stale"
@@ -170,7 +182,7 @@ def records(top):
     put_edits(top, {"as_before": BAD["as_before"]})
     (top / "crates/pair/wrong/other.edit").unlink()
     others = edit_records.others_of({"small": small})["small"]
-    sums = edit_records.sums_of(read_edit(small, "wrong/as_before.edit"), others)
+    sums = edit_records.sums_of(small, read_edit(small, "wrong/as_before.edit"), others)
     edit_records.record(small, {"as_before": sums})
     well.append(changed(top, "a false record", "0 passed, 1 failed, 0 stale", 1))
     return well

@@ -8,8 +8,8 @@ use for_c::verdict_text::write_verdict_line;
 use std::alloc::Global;
 
 /// Writes the line that states a verdict, with its LF, to the front of `text`, if it fits there, and the number of its
-/// bytes to `line_length`. Fails with `NoVerdict` exactly if the numbers encode no verdict, else with `Memory` if there
-/// is not enough; then both are unchanged. Else fails with `TooSmall` if it does not fit; then `text` is unchanged.
+/// bytes to `line_length`. Fails with `NoVerdict` exactly if the numbers encode no verdict, and else with `Memory` if
+/// memory runs out; then both are unchanged. Else fails with `TooSmall` if it does not fit; then `text` is unchanged.
 #[unsafe(no_mangle)]
 pub extern "C" fn bidi_verdict_text(
     alloc: Global,

@@ -31,8 +31,8 @@ pub record IsInBlock (bytes : List ℕ) (at : ℕ) (found : InBlock) : Type 0 wh
   pub index : found.index < 128
   pub spelled : IsSpelled bytes at (found.block * 128 + found.index, found.following)
 
--- each byte `above` is followed by one that is at least `limit`, and each byte `below` by a smaller one; nothing follows
--- the last byte
+-- each byte `above` is followed by one that is at least `limit`, and each byte `below` by a smaller one; nothing
+-- follows the last byte
 pub record AreFollowed (bytes : List ℕ) (above below limit : ℕ) : Type 0 where
   pub least : (k : ℕ) → k + 1 < length bytes → slice_index bytes k ≡ above → limit ≤ slice_index bytes (k + 1)
   pub most : (k : ℕ) → k + 1 < length bytes → slice_index bytes k ≡ below → slice_index bytes (k + 1) < limit

@@ -364,8 +364,8 @@ fn decode_ascii(
     }
 }
 
-/// Writes the unit and the offset of the next character, which was found in its block. The class of each bracket must be
-/// ON.
+/// Writes the unit and the offset of the next character, which was found in its block. The class of each bracket must
+/// be ON.
 #[inline(always)]
 fn write_character(
     found: InBlock,

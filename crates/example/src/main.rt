@@ -1,5 +1,5 @@
 //! Lays out a text with the built-in tables. Prints the level of each character and each line as it is shown, and then
-//! where the cursor goes in the same text in UTF-8: from each column to a byte, and from each byte to a column. At last
+//! where the cursor goes in the same text in UTF-8: from each column to a byte, and from each byte to a column. Finally
 //! lays out bytes that end inside a character. They are rejected, so the program ends with status 1 and the reason on
 //! standard error.
 #![tactic(auto)]

@@ -7,8 +7,8 @@ use crate::verdict::BidiVerdict;
 use bidtests::verdict_line::print_verdict;
 use std::alloc::Global;
 
-/// Returns the line that states the verdict of these numbers. Fails with `NoVerdict` exactly if they encode none, else
-/// with `Memory` if there is not enough.
+/// Returns the line that states the verdict of these numbers. Fails with `NoVerdict` exactly if they encode none, and
+/// else with `Memory` if memory runs out.
 fn verdict_line(alloc: Global, numbers: &BidiVerdict) -> Result<Vec<u8>, CallError>
     ensures line { IfOk result (λ line. IsVerdictLine numbers.now line.items) }
     ensures short { IfOk result (λ line. length line.items ≤ 72) }
@@ -27,8 +27,8 @@ fn verdict_line(alloc: Global, numbers: &BidiVerdict) -> Result<Vec<u8>, CallErr
 /// Writes the line that states the verdict of these numbers, with its LF, to the front of `out`, and its number of
 /// bytes to `line_length`.
 ///
-/// Fails with `NoVerdict` exactly if the numbers encode no verdict, else with `Memory` if there is not enough; then both
-/// are unchanged. Else fails with `TooSmall` if `out` has fewer bytes; then only `line_length` is written.
+/// Fails with `NoVerdict` exactly if the numbers encode no verdict, and else with `Memory` if memory runs out; then
+/// both are unchanged. Else fails with `TooSmall` if `out` has fewer bytes; then only `line_length` is written.
 pub fn write_verdict_line(
     alloc: Global,
     numbers: &BidiVerdict,

@@ -12,7 +12,8 @@ use std::io::Write;
 /// tried. What is printed over any `Output` can report a failed write only after one of these calls failed. Every
 /// writer is an `Output`.
 pub trait Output: Write {
-    // The last of these calls failed with this error. Where it is not known of a writer, it holds of any error.
+    // Whether the last of these calls failed with this error. Of a writer of which nothing is known it holds of every
+    // error.
     ghost failed_with: { Self → Error → Type 0 } = { λ _ _. ⊤ };
 
     /// Writes all of these bytes, as `write_all` does.

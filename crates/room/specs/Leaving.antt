@@ -64,8 +64,8 @@ abbrev pub Leaves : AskOf → TablesOf → RoomOf → RoomOf → Result (Unit {0
 Leaves ask tables old new done =
     LeavesText (Takes ask old) (Rejects ask old) (IsAsked ask tables) ask.breaks old new done
 
--- P1 to L2: a room contains the layout of the text that is asked for, broken at the characters that begin at the breaks.
--- These are the breaks themselves if each unit of the text is a character
+-- P1 to L2: a room contains the layout of the text that is asked for, broken at the characters that begin at the
+-- breaks. These are the breaks themselves if each unit of the text is a character
 abbrev pub IsBrokenAsAsked : AskOf → TablesOf → RoomOf → Type 0
 IsBrokenAsAsked ask tables room =
     (indices : List ℕ) → AreBreaks indices (characters_of ask.source) →
