@@ -25,3 +25,4 @@ pub mod Runs
 pub mod Placing
 pub mod Separators
 pub mod Knowing
+pub mod Unchanged

@@ -105,6 +105,11 @@ pub record HasPassed (direction : Class) (us chosen starts : List BidiUnit) (p :
   pub laid : IsLaid us starts m p
   pub leads : LeadsOn direction us (stack_of us chosen starts m p) p
 
+-- from this index on, both columns are as they were
+pub record AreUnchangedFrom (k : ℕ) (chosen starts chosen2 starts2 : List BidiUnit) : Type 0 where
+  pub units : drop k chosen2 ≡ drop k chosen
+  pub positions : drop k starts2 ≡ drop k starts
+
 -- the first m chosen units are those of the whole paragraph
 pub record AreFew (direction : Class) (us chosen starts : List BidiUnit) (m : ℕ) : Type 0 where
   pub laid : IsLaid us starts m (length us)

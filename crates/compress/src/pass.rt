@@ -4,7 +4,7 @@ ghost use Rattle.units.specs.Classes.{is_removed, is_strong};
 ghost use Rattle.units.specs.Layout.{no_unit};
 ghost use Rattle.units.specs.declared.bracket.Unit.{Unit as BidiUnit};
 ghost use Rattle.units.specs.declared.class.Class.{Class as BidiClass};
-ghost use Rattle.compress.specs.Laid.{start_of, stack_of, class_after, BecomesLetter, IsLaid, IsNextAt, IsApart, IsStateAt, LeadsOn, HasPassed, AreFew};
+ghost use Rattle.compress.specs.Laid.{start_of, stack_of, class_after, BecomesLetter, IsLaid, IsNextAt, IsApart, IsStateAt, LeadsOn, HasPassed, AreFew, AreUnchangedFrom};
 ghost use Rattle.compress.specs.PassedSets.{has};
 ghost use Rattle.compress.specs.Remaining.{remaining_units};
 ghost use Rattle.compress.specs.Squeeze.{Stack, is_bare, is_open_letter, passes_after, popped, added, next_for, turned, first_unit, known_after};
@@ -76,6 +76,7 @@ fn added(
         → IsLaid us starts.new result end }
     ensures within { result ≤ m + 1 }
     ensures some { 0 < result }
+    ensures unchanged { AreUnchangedFrom result chosen.old starts.old chosen.new starts.new }
 {
     if m > 0 && joins(direction, chosen[m - 1], unit) {
         return m;
@@ -155,6 +156,7 @@ fn turn_by_next<L: Ledger>(
         → IsLaid para.now starts.new result.m result.end }
     ensures more { result.m ≤ m + 1 }
     ensures some { 0 < result.m }
+    ensures unchanged { AreUnchangedFrom result.m chosen.old starts.old chosen.new starts.new }
     ensures steps { steps.new + p + 1 ≡ steps.old + result.end }
 {
     let end = next_remaining(para, p + 1, steps);
@@ -186,6 +188,7 @@ fn added_at(
         → IsLaid us starts.new result end }
     ensures within { result ≤ m + 1 }
     ensures some { 0 < result }
+    ensures unchanged { AreUnchangedFrom result chosen.old starts.old chosen.new starts.new }
 {
     added(direction, chosen, starts, m, para[p], p)
 }
@@ -213,6 +216,7 @@ fn turn_letter(
         → IsLaid us starts.new result end }
     ensures within { result ≤ m + 1 }
     ensures some { 0 < result }
+    ensures unchanged { AreUnchangedFrom result chosen.old starts.old chosen.new starts.new }
 {
     let count = popped(chosen, m, para[p]);
     if count < m {
@@ -247,6 +251,7 @@ fn turn_other(
         → IsLaid us starts.new result end }
     ensures within { result ≤ m + 1 }
     ensures some { 0 < result }
+    ensures unchanged { AreUnchangedFrom result chosen.old starts.old chosen.new starts.new }
 {
     if is_mark(para[p].class) {
         return added_at(direction, chosen, starts, m, para, p);
@@ -294,6 +299,7 @@ fn turn<L: Ledger>(
         else known.strong) }
     ensures more { result.m ≤ m + 1 }
     ensures some { 0 < result.m }
+    ensures unchanged { AreUnchangedFrom result.m chosen.old starts.old chosen.new starts.new }
     ensures steps { steps.new + p + 1 ≡ steps.old + result.end }
 {
     let class = para[p].class;
@@ -779,6 +785,8 @@ pub fn squeeze<L: Ledger>(
     ensures few { IfSome result (λ m. AreFew direction para.now chosen.new starts.new m) }
     ensures all { IfSome result (λ m. steps.new ≡ steps.old + length para.now) }
     ensures counted { (p : ℕ) → steps.new ≡ steps.old + p → HasPassed direction para.now chosen.new starts.new p }
+    ensures unchanged { (p : ℕ) → steps.new ≡ steps.old + p
+        → AreUnchangedFrom p chosen.old starts.old chosen.new starts.new }
     ensures at_least { steps.old ≤ steps.new }
     ensures at_most { steps.new ≤ steps.old + length para.now }
 {

@@ -1,5 +1,6 @@
 use Rattle.std.proofs.Common.{◌∙◌, sym, arith}
 use Rattle.compress.proofs.Laying.{adds_joined, adds_chosen, laid_later, laid_push}
+use Rattle.compress.proofs.Unchanged.{unchanged_after}
 use Rattle.compress.proofs.pass.added.Goals as goal
 use Rattle.compress.proofs.pass.added.Goals.{else-m-gt0-via-then-m-gt0+else-joins, else-m-gt0-via-else-m-gt0}
 
@@ -24,3 +25,6 @@ returns-clause-stack c = λ us end laid next.
 pub returns-clause-laid : goal.returns-clause-laid
 returns-clause-laid c = λ us end laid next.
     laid_push us c.args.starts.now c.args.m c.args.p end c.stored.result c.requires.starts c.stored.ensures next.later next.within laid
+
+pub returns-clause-unchanged : goal.returns-clause-unchanged
+returns-clause-unchanged c = unchanged_after c.args.chosen.now c.args.starts.now c.args.m c.args.unit c.stored.result

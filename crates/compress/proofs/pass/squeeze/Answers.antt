@@ -2,13 +2,14 @@ use Rattle.std.proofs.Common.{arith, ap, sym, subst, refl, ◌∙◌, if◌then�
 use Rattle.units.specs.Classes.{is_strong}
 use Rattle.units.specs.declared.bracket.Unit.{Unit as BidiUnit}
 use Rattle.units.specs.declared.class.Class.{Class as BidiClass}
-use Rattle.compress.specs.Laid.{stack_of, class_after, IsApart, IsLaid, IsStateAt, LeadsOn, HasPassed}
+use Rattle.compress.specs.Laid.{stack_of, class_after, AreUnchangedFrom, IsApart, IsLaid, IsStateAt, LeadsOn, HasPassed}
 use Rattle.compress.specs.Squeeze.{Stack, next_for, known_after}
 use Rattle.compress.specs.declared.pass.Known.{Known}
 use Rattle.compress.proofs.Counting.{at, removed_between}
 use Rattle.compress.proofs.Knowing.{next_alike, turned_strong}
 use Rattle.compress.proofs.Laying.{laid_none}
 use Rattle.compress.proofs.Passing.{leads_turn, leads_past_removed, laid_past_run, known_same, leads_to_end}
+use Rattle.compress.proofs.Unchanged.{unchanged_later}
 use Rattle.compress.proofs.pass.squeeze.Goals as goal
 
 passed_to : (direction : BidiClass) (us chosen starts : List BidiUnit) (m p q : ℕ) → IsLaid us starts m p → LeadsOn direction us (stack_of us chosen starts m p) p → p ≡ q →
@@ -31,6 +32,7 @@ loop-p-init g c =
       asked = omega arith;
       turned = omega arith;
       strong = refl;
+      unchanged = record { units = refl; positions = refl };
       counted = omega arith;
       steps = omega arith;
     }
@@ -85,6 +87,10 @@ loop-p-preserved g c =
           ∙ sym (turned_strong d d old (next_for d old (at us p) (class_after us p)))
           ∙ sym (ap (λ (st : Stack). (known_after d st).strong) (after.stack state))
           ∙ ap (λ f. f.strong) (known_same d us chosen starts m end run);
+      unchanged = unchanged_later c.args.chosen.now c.args.starts.now c.loop-p.chosen c.loop-p.starts chosen starts p m run
+          (omega (arith, after.later, passing.from_start))
+          (omega (arith, after.more, c.loop-p.invariant.laid.within, after.later, passing.from_start))
+          c.loop-p.invariant.unchanged after.unchanged;
       counted = omega (arith, c.loop-p.invariant.counted, after.steps, after.later, passing.steps, passing.from_start, c.tick.ensures);
       steps = omega (arith, c.loop-p.invariant.steps, after.steps, passing.steps, c.tick.ensures);
     }
@@ -121,3 +127,15 @@ returns-clause-counted g c = λ p e.
     let l = c.loop-p in
     let here : l.p ≡ p = omega (arith, l.invariant.steps, c.next_remaining-p.ensures.steps) in
     passed_to c.args.direction c.args.para.now l.chosen l.starts l.m l.p p l.invariant.laid l.invariant.leads here
+
+pub returns-then-granted-eq0-clause-unchanged : goal.returns-then-granted-eq0-clause-unchanged
+returns-then-granted-eq0-clause-unchanged g c = λ p e.
+    let l = c.loop-p in
+    let here : l.p ≡ p = omega (arith, l.invariant.steps, c.next_remaining-p.ensures.steps) in
+    subst (λ k. AreUnchangedFrom k c.args.chosen.now c.args.starts.now l.chosen l.starts) here l.invariant.unchanged
+
+pub returns-clause-unchanged : goal.returns-clause-unchanged
+returns-clause-unchanged g c = λ p e.
+    let l = c.loop-p in
+    let here : l.p ≡ p = omega (arith, l.invariant.steps, c.next_remaining-p.ensures.steps) in
+    subst (λ k. AreUnchangedFrom k c.args.chosen.now c.args.starts.now l.chosen l.starts) here l.invariant.unchanged

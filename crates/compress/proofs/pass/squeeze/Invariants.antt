@@ -1,6 +1,6 @@
 use Rattle.std.proofs.Common.{◌≡◌, ◌≤◌, ◌<◌, ◌+◌, ◌-◌, length, slice_index_or}
 use Rattle.units.specs.Layout.{no_unit}
-use Rattle.compress.specs.Laid.{stack_of, IsApart, IsLaid, LeadsOn}
+use Rattle.compress.specs.Laid.{stack_of, AreUnchangedFrom, IsApart, IsLaid, LeadsOn}
 use Rattle.compress.specs.Squeeze.{known_after}
 use Rattle.compress.proofs.pass.squeeze.Given as goal
 
@@ -14,6 +14,7 @@ invariant-loop-p g l = record {
   asked : l.granted.asked ≤ l.p;
   turned : l.turns ≤ l.p;
   strong : l.strong ≡ (known_after l.direction (stack_of l.para l.chosen l.starts l.m l.p)).strong;
+  unchanged : AreUnchangedFrom l.p l.initial.chosen l.initial.starts l.chosen l.starts;
   counted : l.initial.steps ≤ l.steps;
   steps : l.steps + l.initial.p ≡ l.initial.steps + l.p;
 }

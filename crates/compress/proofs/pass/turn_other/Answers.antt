@@ -5,6 +5,7 @@ use Rattle.compress.specs.Squeeze.{Stack, added, joins}
 use Rattle.compress.proofs.Counting.{at}
 use Rattle.compress.proofs.Laying.{adds_chosen, laid_push}
 use Rattle.compress.proofs.Passing.{popped_weak, unjoined}
+use Rattle.compress.proofs.Unchanged.{unchanged_after}
 use Rattle.compress.proofs.pass.turn_other.Goals as goal
 
 pub returns-then-is_mark-clause-stack : goal.returns-then-is_mark-clause-stack
@@ -30,3 +31,6 @@ returns-clause-stack c = λ us end laid next apart.
 pub returns-clause-laid : goal.returns-clause-laid
 returns-clause-laid c = λ us end laid next.
     laid_push us c.args.starts.now c.args.m c.args.p end c.stored.result c.requires.starts c.stored.ensures next.later next.within laid
+
+pub returns-clause-unchanged : goal.returns-clause-unchanged
+returns-clause-unchanged c = unchanged_after c.args.chosen.now c.args.starts.now c.args.m (at c.args.para.now c.args.p) c.stored.result
