@@ -666,7 +666,8 @@ fn next_remaining<L: Ledger>(para: &[Unit], start: usize, steps: &mut Steps<L>) 
     p
 }
 
-/// How many turns the pass may make before it gives up. It also gives up if there is no room for the chosen units.
+/// How many turns the pass may make before it gives up. It also gives up if there is no room for the chosen units, or if
+/// turns become too frequent for the rest of the paragraph.
 #[derive(Clone, Copy)]
 pub enum TurnLimit {
     /// At first one for twelve units: for texts that take few instructions in any case.
@@ -700,7 +701,7 @@ fn most_turns(limit: TurnLimit, p: usize) -> usize
     ensures { (n : ℕ) → p ≤ n → result ≤ n + 10 }
 {
     if p >= EARLY {
-        return p / 7 + 10;
+        return p / 6 + 10;
     }
     match limit {
         TurnLimit::Strict => p / 12 + 2,
@@ -708,14 +709,27 @@ fn most_turns(limit: TurnLimit, p: usize) -> usize
     }
 }
 
-/// Returns whether turns have become so frequent since the pass asked last that `room` units are too few for the `rest`
-/// of the paragraph if this goes on. A long stretch without turns before them says nothing of what follows.
-fn are_frequent(asked: usize, p: usize, rest: usize, room: usize) -> bool
+/// Returns whether turns have become so frequent since the pass asked last that, if this goes on, `room` units are too
+/// few for the `rest` of the paragraph, or more turns are made up to its end than are allowed there. A long stretch
+/// without turns before them says nothing of what follows.
+fn are_frequent(
+    limit: TurnLimit,
+    asked: usize,
+    p: usize,
+    turns: usize,
+    rest: usize,
+    room: usize,
+) -> bool
     requires asked { asked ≤ p }
-    requires short { rest < 2 ^ 32 }
+    requires turns { turns ≤ p }
+    requires short { p + rest < 2 ^ 32 }
 {
     let passed = (p - asked).max(1);
-    asked >= EARLY && passed < 3 * WINDOW && rest * WINDOW / passed > room
+    if asked < EARLY || passed >= 3 * WINDOW {
+        return false;
+    }
+    let more = rest * WINDOW / passed;
+    more > room || turns + more > most_turns(limit, p + rest)
 }
 
 /// Returns what is granted at the position `p` after so many turns, before the `rest` of the paragraph: none if these
@@ -730,12 +744,13 @@ fn granted_at(
     room: usize,
 ) -> Granted
     requires asked { asked ≤ p }
-    requires short { rest < 2 ^ 32 }
+    requires turns { turns ≤ p }
+    requires short { p + rest < 2 ^ 32 }
     ensures within { result.remaining ≤ room }
     ensures asked { result.asked ≤ p }
 {
     let most = most_turns(limit, p);
-    if turns > most || are_frequent(asked, p, rest, room) {
+    if turns > most || are_frequent(limit, asked, p, turns, rest, room) {
         return Granted {
             remaining: 0,
             asked: p,
@@ -758,7 +773,8 @@ fn granted_or_more(
     room: usize,
 ) -> Granted
     requires asked { granted.asked ≤ p }
-    requires short { rest < 2 ^ 32 }
+    requires turns { turns ≤ p }
+    requires short { p + rest < 2 ^ 32 }
     ensures within { granted.remaining ≤ room → result.remaining ≤ room }
     ensures asked { result.asked ≤ p }
 {
@@ -770,8 +786,8 @@ fn granted_or_more(
 }
 
 /// Chooses the few units that are to be resolved in place of this paragraph, in a sequence of this direction, and the
-/// position at which each begins. Returns how many these are, or `None` if there is no room for them or if the pass
-/// makes more turns than `limit` says.
+/// position at which each begins. Returns how many these are, or `None` if there is no room for them, if the pass makes
+/// more turns than `limit` says, or if turns become too frequent for the rest of the paragraph.
 #[inline(never)]
 pub fn squeeze<L: Ledger>(
     para: &[Unit],

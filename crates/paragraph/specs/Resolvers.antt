@@ -28,9 +28,9 @@ pub record Work : Type 0 where
   pub classes : List Class
 
 -- the length of the column for the few units of paragraphs of up to n positions, and for the positions at which these
--- begin: one in eight positions at most
+-- begin: one in six positions at most
 abbrev pub few_room : ℕ → ℕ
-few_room n = div_ceil n 4
+few_room n = div_ceil n 3
 
 -- each position that has a level has this one
 abbrev pub StaysAt : ℕ → List (Option ℕ) → Type 0

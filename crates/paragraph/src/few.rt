@@ -51,7 +51,7 @@ fn limit_for(contents: Contents) -> TurnLimit {
 }
 
 /// Makes a column for the few units of paragraphs of up to `n` positions, and for the positions at which these begin:
-/// one in eight positions at most. If there are more, the paragraph is resolved by all its units.
+/// one in six positions at most. If there are more, the paragraph is resolved by all its units.
 pub fn few_column(alloc: Global, n: usize) -> Result<BoxedSlice<Unit>, Memory>
     ensures { IfOk result (λ few. boxed_slice_len few ≡ few_room n) }
 {
@@ -59,7 +59,7 @@ pub fn few_column(alloc: Global, n: usize) -> Result<BoxedSlice<Unit>, Memory>
         class: Class::BN,
         bracket: Bracket::No,
     };
-    Ok(vec![in alloc; unused; n.div_ceil(4)]?.into_boxed_slice())
+    Ok(vec![in alloc; unused; n.div_ceil(3)]?.into_boxed_slice())
 }
 
 /// Applies X1 to I2 to a flat paragraph of this level.
