@@ -137,8 +137,8 @@ pub extern "C" fn bidi_lay_out_classes_with(
     limits: BidiLimits,
     place: &mut u64,
 ) -> u32
-    ensures { ReturnsStatusNaming place_named (ByLimits limits (λ limits. LaysOutWithoutTables (Classes numbers.now) limits
-        direction breaks.now) (contents_at room.old) (contents_at room.new)) result place.old place.new }
+    ensures { ReturnsStatusNaming place_named (ByLimits limits (λ limits. LaysOutWithoutTables (Classes numbers.now)
+        limits direction breaks.now) (contents_at room.old) (contents_at room.new)) result place.old place.new }
 {
     let source = Source::Classes(numbers);
     match limits.allowed() {

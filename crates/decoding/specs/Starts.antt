@@ -41,8 +41,8 @@ pub record IsNarrowed (starts : List ℕ) (at first last : ℕ) : Type 0 where
   pub below : (k : ℕ) → k < first → slice_index starts k ≤ at
   pub above : (k : ℕ) → last ≤ k → k < length starts → at < slice_index starts k
 
--- of the offsets from the index `first` up to `last`, those before the index `count` are at most the offset `at`, and the
--- others are greater
+-- of the offsets from the index `first` up to `last`, those before the index `count` are at most the offset `at`, and
+-- the others are greater
 pub record IsCountedBetween (starts : List ℕ) (at first last count : ℕ) : Type 0 where
   pub from : first ≤ count
   pub to : count ≤ last

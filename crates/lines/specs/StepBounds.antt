@@ -19,7 +19,8 @@ linking_steps = 1 + 3
 abbrev pub order_steps : ℕ
 order_steps = linking_steps + 2
 
--- L2 at most, if a line is known to have one level: its remaining positions are found, and written
+-- L2 at most, if a line is known to have one level, besides one for each part of a long line: its remaining positions
+-- are found, and written
 abbrev pub uniform_order_steps : ℕ
 uniform_order_steps = 1 + 1
 

@@ -157,7 +157,7 @@ fn append_eight_rising(
     count + write_eight_rising(levels, start, &mut order[count..])
 }
 
-/// Writes the remaining positions from `start` up to `end` to the front of `order`, rising, eight at a time, and returns
+/// Writes the remaining positions from `start` up to `end` to the front of `order`, rising, eight at a time. Returns
 /// their number. Takes one step for each position. Never inlined, so that short runs don't pay for it.
 #[inline(never)]
 fn write_eights_rising<L: Ledger>(

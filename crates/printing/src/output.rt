@@ -12,8 +12,8 @@ use std::io::Write;
 /// tried. What is printed over any `Output` can report a failed write only after one of these calls failed. Every
 /// writer is an `Output`.
 pub trait Output: Write {
-    // Whether the last of these calls failed with this error. Of a writer of which nothing is known it holds of every
-    // error.
+    // Whether the last of these calls failed with this error. The code that prints over any writer has to show it,
+    // since nothing else is known there. Of each given writer it holds of every error, and tells the caller nothing.
     ghost failed_with: { Self → Error → Type 0 } = { λ _ _. ⊤ };
 
     /// Writes all of these bytes, as `write_all` does.

@@ -32,7 +32,7 @@ pub struct LineReport {
 }
 
 impl Model for LineReport {
-    ghost use Rattle.std.specs.Prelude.{◌≡◌, ◌≤◌, vec_capacity};
+    ghost use Rattle.std.specs.Prelude.{◌≡◌, vec_capacity};
     ghost use Rattle.lines.specs.Scratches.{room_of};
     ghost use Rattle.bidtests.specs.declared.line_reader.TheConstants.{MOST_UNITS};
     ghost use Rattle.report.specs.Reporting.{LineReporting};
@@ -47,13 +47,13 @@ impl Model for LineReport {
       found = s.found.items;
     } };
 
-    ghost invariant = { λ s. (room_of s.scratch ≡ MOST_UNITS) × (MOST_CASES ≤ vec_capacity s.found) };
+    ghost invariant = { λ s. (room_of s.scratch ≡ MOST_UNITS) × (vec_capacity s.found ≡ MOST_CASES) };
 }
 
 // Returns an empty list with capacity for the wrong cases of a row.
 fn list(alloc: Global) -> Result<Vec<WrongCase>, Memory>
     ensures none { IfOk result (λ list. list.items ≡ []) }
-    ensures room { IfOk result (λ list. MOST_CASES ≤ vec_capacity list) }
+    ensures room { IfOk result (λ list. vec_capacity list ≡ MOST_CASES) }
 {
     Ok(Vec::with_capacity(alloc, MOST_CASES)?)
 }

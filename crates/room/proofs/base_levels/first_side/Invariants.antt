@@ -8,8 +8,8 @@ use Rattle.room.proofs.BaseSides.{side_from}
 use Rattle.room.proofs.base_levels.first_side.Given as goal
 
 -- no separator and no strong class outside of isolates is before the rest; no more isolates are open than there are
--- units before it, and no more steps were taken; the steps and the rest of the paragraph are no more than the paragraph,
--- and the steps and those for the units that are still read are those for all
+-- units before it, and no more steps were taken; the steps and the rest of the paragraph are no more than the
+-- paragraph, and the steps and those for the units that are still read are those for all
 abbrev pub invariant-loop-unit : goal.invariant-loop-unit
 invariant-loop-unit g l = record {
   well_formed : IsWellFormed (source_seen l.rest);
