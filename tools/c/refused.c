@@ -52,12 +52,15 @@ static void report_refused(bidi_tables *tables) {
  * earlier file took memory. */
 static void faulty_refused(const uint8_t *classes, size_t a, const uint8_t *brackets, size_t b) {
   bidi_tables tables = BIDI_NONE; bidi_fault fault = { 0, 0 };
-  const uint8_t bad[] = "X;L\n", later[] = "0041;L\nX;L\n";
+  const uint8_t bad[] = "X;L\n", later[] = "0041;L\nX;L\n", again[] = "0041;L\n0041;R\n";
   IN_TURN_UNTIL(BIDI_CLASS_FILE, "faulty first line",
                 bidi_tables_new(bad, 4, brackets, b, bad, 4, &tables, &fault), false);
   if (fault.line != 1 || tables.made) wrong++;
   IN_TURN_UNTIL(BIDI_CLASS_FILE, "faulty second line",
                 bidi_tables_new(later, 11, brackets, b, bad, 4, &tables, &fault), !tables.made);
+  if (fault.line != 2 || tables.made) wrong++;
+  IN_TURN_UNTIL(BIDI_CLASS_FILE, "stated again in the second line",
+                bidi_tables_new(again, 14, brackets, b, bad, 4, &tables, &fault), !tables.made);
   if (fault.line != 2 || tables.made) wrong++;
   IN_TURN_UNTIL(BIDI_MIRROR_FILE, "faulty last file",
                 bidi_tables_new(classes, a, brackets, b, bad, 4, &tables, &fault), !tables.made);
