@@ -3,8 +3,8 @@
 Two sums are stored for each wrong body. One is over what it is: its own text, and the right code of the functions that
 it changes, or of the files if it changes no function. The other is over all else that decides whether the prover
 rejects it: the kit, and of its crate and of those below what crates.txt says of them, all of specs/, and the
-signatures, contracts, types and constants of the sources. Bodies of other functions, proofs, comments and the files
-that programs run on aren't in it.
+signatures, contracts, types and constants of the sources. The bodies of functions aren't in it, except that of a
+`const fn`, and neither are proofs, comments, blank lines and the files that programs run on.
 
 tools/try_edits.py writes and reads records. The file RECORD in a crate's folder has those of the crate, one on each
 line: the wrong body and its two sums. In place of the second sum, UNTRIED says that it wasn't tried yet.
@@ -24,7 +24,6 @@ UNTRIED = "untried"
 DIGITS = 16
 DRAWN_OF = 10
 FUNCTION = re.compile(r"( *)(?:pub(?:\([a-z]+\))? )?(?:unsafe )?(?:extern \"C\" )?fn \w")
-COMMENT = re.compile(r"\s*(?://|--)")
 
 
 @dataclasses.dataclass(frozen=True)
@@ -40,9 +39,15 @@ def body_begins(line, indent, is_first):
     return line == f"{indent}{{" or (line.endswith(" {") and (is_first or line.startswith(f"{indent})")))
 
 
+def is_before_body(line, indent):
+    """Returns whether a line after the first one of a function at this indentation can belong to its signature and
+    contracts, or begins its body. Lines of a contract may be blank, and may end with `;`."""
+    return line in ("", f"{indent}{{") or line.startswith((f"{indent} ", f"{indent})", f"{indent}where"))
+
+
 def without_bodies(text):
-    """Returns a source text, as `rt fmt` lays it out, without the bodies of its functions. What it doesn't recognize as
-    a body stays, and so does that of a `const fn`, which a constant may use."""
+    """Returns a source text, as `rt fmt` lays it out, without the bodies of its functions. That of a `const fn` stays,
+    since a constant may use it."""
     outside, head, end = [], None, None
     for line in text.split("\n"):
         if end is not None:
@@ -50,17 +55,20 @@ def without_bodies(text):
             continue
         outside.append(line)
         found = FUNCTION.match(line)
-        head = found[1] if found else head
+        if found:
+            head = found[1]
+        elif head is not None and not is_before_body(line, head):
+            head = None
         if head is not None and body_begins(line, head, found):
             head, end = None, f"{head}}}"
-        elif line.endswith((";", "{}")):
-            head = None
     return "\n".join(outside)
 
 
-def without_comments(text):
-    """Returns a text without the lines that are blank or a comment."""
-    return "\n".join(it for it in text.split("\n") if it.strip() and not COMMENT.match(it))
+def without_comments(text, path="lib.rt"):
+    """Returns the text of a file without the lines that are blank or a comment. Of a string literal, lines that look
+    like these go too."""
+    sign = "--" if path.endswith(".antt") else "//"
+    return "\n".join(it for it in text.split("\n") if it.strip() and not it.lstrip().startswith(sign))
 
 
 def digits_of(*texts):
@@ -79,7 +87,7 @@ def seen_of(folder):
         for path in sorted(glob.glob(pattern, root_dir=folder, recursive=True)):
             with open(f"{folder}/{path}", encoding="utf-8") as it:
                 text = it.read()
-            texts += [path, without_comments(without_bodies(text) if path.endswith(".rt") else text)]
+            texts += [path, without_comments(without_bodies(text) if path.endswith(".rt") else text, path)]
     return digits_of(*texts)
 
 
@@ -100,7 +108,7 @@ def sums_of(crate, edit, others):
     """Returns the sums of an edit of a crate, which has this sum of all else."""
     codes = ["::".join(path) + without_comments(edit.functions[path]) for path in sorted(edit.functions)]
     files = sorted({path for path, _, _ in edit.pairs if os.path.isfile(f"{crate.folder}/{path}")})
-    codes = codes or [without_comments(crate.text(it)) for it in files]
+    codes = codes or [without_comments(crate.text(it), it) for it in files]
     return Sums(digits_of(edit.text, *codes), others)
 
 
