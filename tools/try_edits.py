@@ -9,8 +9,8 @@ usage: tools/try_edits.py [--all] [--record] [--here] [--minutes=N] [CRATE | CRA
 An edit is a file that describes a wrong body (docs/CHANGING.md). The tool takes the edits in crates/CRATE/wrong/ and,
 with --all, those in must-fail/ too. A named edit may be in either folder. With --read it checks nothing and lists the
 edits that can't be applied to the files as they are, or that don't parse then. It prints a line for each edit, and the
-last line is 'N passed, M failed, K stale'. The status is 1 if any failed. An edit that was asked for and not tried has
-failed.
+last line is 'N passed, M failed, K stale'. The status is 1 if any failed. An edit that was asked for and isn't decided
+has failed: one that was not tried, or that a check with others didn't reject, so that it was to be tried again.
 
 With --record the tool records each edit of wrong/ that was rejected, as soon as it is (edit_records.py): in the crate's
 folder, with the sum of what the edit is (its text and the functions that it changes) and the sum of what else decides
@@ -18,12 +18,12 @@ whether it is rejected. With --changed the tool tries these edits of wrong/, in 
 
 1. a tenth of all, drawn by the hash of the commit, so that a record that isn't true makes a run fail sooner or later;
 2. those with no record, and those that are something else than what was recorded: these two kinds fail if the time ends
-   before they are tried;
+   before they are decided;
 3. those for which only something else changed since they were recorded, and those that are recorded as untried, in a
-   drawn order of crates. Those that the time doesn't suffice for are stale. The last line counts them, and they don't
-   change the status.
+   drawn order of crates. Those that aren't decided in time are stale. The last line counts them, and they don't change
+   the status. No crate begins with these as long as one hasn't begun with its edits of the first two kinds.
 
-With --minutes=N it starts no check after N minutes.
+With --minutes=N it starts no check after N minutes, and the last that it started may end later.
 
 The tool works in copies of crates/, crates.txt and HANDLES outside the checkout, and uses the commands of the kit
 alone. So the checkout may change meanwhile. A check in a copy proves all crates below its own there. With --here the
@@ -93,7 +93,7 @@ ends_at = float("inf")
 @dataclasses.dataclass
 class Job:
     """Edits of one crate that are tried one after another, and what becomes of each: whether it was rejected. One that
-    was not tried isn't there. `turn` says which jobs come first. In the first two turns each edit must be tried."""
+    isn't decided isn't there. `turn` says which jobs come first. In the first two turns each edit must be decided."""
 
     turn: int
     crate: Crate
@@ -453,9 +453,11 @@ def are_related(crate, other):
 
 
 def startable(left, busy):
-    """Returns the jobs that may start: those whose crate is related to that of no earlier job that hasn't ended."""
-    return [job for at, job in enumerate(left)
-            if not any(are_related(job.crate, it.crate) for it in [*busy, *left[:at]])]
+    """Returns the jobs that may start: those whose crate is related to that of no earlier job that hasn't ended, and
+    none of the last turn as long as one of the first two hasn't started."""
+    first = [it for it in left if it.turn < 2] or left
+    return [job for at, job in enumerate(first)
+            if not any(are_related(job.crate, it.crate) for it in [*busy, *first[:at]])]
 
 
 def try_here(jobs, noted):
@@ -494,12 +496,12 @@ def status_of(jobs):
     for job in jobs:
         for is_well in job.results.values():
             counts[is_well] += 1
-        if (untried := len(job.files) - len(job.results)) and job.turn < 2:
-            counts[False] += untried
-            print(f"{job.crate.name}: {untried} NOT TRIED in time, of those that must be")
-        elif untried:
-            stale += untried
-            print(f"{job.crate.name}: {untried} stale")
+        if (undecided := len(job.files) - len(job.results)) and job.turn < 2:
+            counts[False] += undecided
+            print(f"{job.crate.name}: {undecided} NOT DECIDED in time, of those that must be")
+        elif undecided:
+            stale += undecided
+            print(f"{job.crate.name}: {undecided} stale")
     print(f"{counts[True]} passed, {counts[False]} failed, {stale} stale")
     return 1 if counts[False] else 0
 
