@@ -9,11 +9,16 @@ same as the right code, and one that is rejected only because a proof file cites
 gets a record.
 
 An edit with a record is tried again if its function changed. If its function changed, or if it was drawn, and no time
-is left, the run ends with 1. If only a proof changed, nothing but the draw is tried. If only a contract changed, the
-edit is stale as long as no time is left for it, and the run says so. The draw shows that a false record is false. With
---here the checkout is unchanged afterwards, except for records.
+is left, the run ends with 1. If only a proof changed, nothing but the draw is tried. If only a contract of a crate
+below changed, the edit is stale as long as no time is left for it, and the run says so. The draw shows that a false
+record is false. With --here the checkout is unchanged afterwards, except for records.
+
+The sum of what else decides whether an edit is rejected has all that it is to have, and no body of a function. With
+--here no edit that may be stale starts before one that must be tried. In a repository of git, the options of the gate
+try what the commit draws, and the status is 1 if no time is left for it.
 """
 import dataclasses
+import itertools
 import os
 import pathlib
 import subprocess
@@ -22,6 +27,7 @@ import tempfile
 
 import edit_records
 from edit_files import Crate, read_edit
+from try_edits import Job, startable
 
 TOOL = pathlib.Path(__file__).resolve().parent / "try_edits.py"
 CODE = """//! Numbers.
@@ -84,13 +90,63 @@ pub fn lower(x: usize, y: usize) -> usize
     smaller(x, y)
 }
 """
-MORE = """
-/// Returns no number in particular.
-pub fn some() -> usize
-{
-    7
+SEEN = """/// A text.
+pub const HELP: &str =
+    "Either of \\
+     --these or \\
+     --those";
+
+pub trait Named {
+    /// Returns a name.
+    fn name(&self) -> usize
+        ensures first { result ≡ name_of self.now };
+
+    /// Returns it too.
+    fn again(&self) -> usize;
+}
+
+impl Pair {
+    const fn zero(
+        x: usize,
+    ) -> usize {
+        0
+    }
+
+    /// Returns a pair.
+    pub fn new(
+        x: usize,
+    ) -> Pair
+        ensures made { result ≡ record {
+          x = x;
+
+          y = x;
+        } }
+    {
+        Pair { x, y: x }
+    }
+}
+
+/// Returns a number.
+fn first(pair: Pair) -> usize {
+    pair.x
 }
 """
+SEEN_FILES = {"src/lib.rt": SEEN, "specs/Name.antt": SPEC, "proofs/first/Answers.antt": SAME}
+UNSEEN_CHANGES = {
+    "a body": ("src/lib.rt", "    pair.x\n", "    pair.y\n"),
+    "a body after a contract with `;`": ("src/lib.rt", "Pair { x, y: x }", "Pair { x: 0, y: x }"),
+    "a comment of a source": ("src/lib.rt", "/// Returns a number.", "/// Returns x."),
+    "a comment of a specification": ("specs/Name.antt", "unfoldable pub", "-- The same.\nunfoldable pub"),
+    "a proof": ("proofs/first/Answers.antt", "refl\n", "same_as.self\n"),
+}
+SEEN_CHANGES = {
+    "a definition": ("specs/Name.antt", "same_as x = x", "same_as x = 0"),
+    "a contract of a trait": ("src/lib.rt", "name_of self.now", "name_of self.now + 0"),
+    "a contract with `;`": ("src/lib.rt", "y = x;", "y = 0;"),
+    "a signature after a body": ("src/lib.rt", "fn first(pair: Pair)", "fn first(pair: &Pair)"),
+    "the body of a `const fn`": ("src/lib.rt", "        0\n", "        1\n"),
+    "a line of a text that begins with --": ("src/lib.rt", "--these", "--others"),
+}
 FILES = {
     "crates.txt": "small:\npair: small\n",
     "HANDLES": "Handles allowed: none.\n",
@@ -156,13 +212,6 @@ def records(top):
     well.append(changed(top, "a draw for which no time is left", "0 passed, 1 failed, 0 stale", 1, ["--minutes=0"]))
     put(top / "crates/small/proofs/same/Answers.antt", SAME + "-- More.\n")
     well.append(changed(top, "a change of a proof", "1 passed, 0 failed, 0 stale", 0))
-    put(top / "crates/small/src/lib.rt", CODE + MORE)
-    undrawn = "pair" if drawn(small) else "small"
-    count = 1 if undrawn == "pair" else 3
-    stale, tried = f"0 passed, 0 failed, {count} stale", f"{count} passed, 0 failed, 0 stale"
-    well.append(changed(top, "a change of a contract", stale, 0, ["--minutes=0", undrawn]))
-    well.append(changed(top, "a change of a contract, with time", tried, 0, [undrawn]))
-    put(top / "crates/small/src/lib.rt", CODE)
     known = edit_records.recorded(small)
     edit_records.record(small, {})
     no_time = ["--minutes=0", "small"]
@@ -193,10 +242,11 @@ def crates_at(top):
     return Crate("small", [], set(), str(top)), Crate("pair", ["small"], {"small"}, str(top))
 
 
-def drawn(crate):
-    """Returns the names of those edits of a crate that are drawn outside of a repository of git."""
+def drawn(crate, commit=None):
+    """Returns the names of those good edits of a crate that a commit draws. Without a commit: those that are drawn
+    outside of a repository of git."""
     labels = [f"small/{it}" for it in GOOD] + ["pair/other"]
-    chosen = (it.partition("/") for it in edit_records.drawn(labels, None))
+    chosen = (it.partition("/") for it in edit_records.drawn(labels, commit))
     return {name for of, _, name in chosen if of == crate.name}
 
 
@@ -242,6 +292,76 @@ def here(top):
     return well
 
 
+def commit_that_draws(top, crate):
+    """Commits all files, and empty commits until one draws an edit of this crate. Returns the name of that edit."""
+    git(top, "add", "-A")
+    for number in itertools.count():
+        git(top, "commit", "-q", "--allow-empty", "-m", f"Commit {number}")
+        if names := drawn(crate, git(top, "rev-parse", "HEAD").strip()):
+            return names.pop()
+
+
+def as_in_the_gate(top):
+    """Tries edits with the options of the gate, where all have records that fit. Returns whether each run is as
+    expected."""
+    well = []
+    for crate in crates_at(top):
+        label = f"{crate.name}/{commit_that_draws(top, crate)}"
+        status, lines = ran_with(top, ["--here", "--changed", "--minutes=90"])
+        is_well = status == 0 and any(it.startswith(f"{label}: refused") for it in lines)
+        is_well = is_well and lines[-1] == "1 passed, 0 failed, 0 stale" and git(top, "status", "--porcelain") == ""
+        well.append(is_as_expected(f"the gate, which draws {label}", lines, is_well))
+    no_time = ["--here", "--minutes=0"]
+    well.append(changed(top, "the gate without time", "0 passed, 1 failed, 0 stale", 1, no_time))
+    put(top / "crates/small/src/lib.rt", CODE.replace("    ensures second { result ≤ y }\n", ""))
+    small, _ = crates_at(top)
+    commit_that_draws(top, small)
+    stale, tried = "0 passed, 0 failed, 1 stale", "1 passed, 0 failed, 0 stale"
+    well.append(changed(top, "a contract below that changed, no time", stale, 0, [*no_time, "pair"]))
+    well.append(changed(top, "the same in a copy", stale, 0, ["--minutes=0", "pair"]))
+    well.append(changed(top, "a contract below that changed", tried, 0, ["--here", "--minutes=90", "pair"]))
+    return well
+
+
+def sum_of_others(top, changes):
+    """Returns the sum of what else decides whether an edit of a crate is rejected. The crate is above one that has
+    these changes."""
+    for path, text in SEEN_FILES.items():
+        for file, old, new in changes:
+            text = text.replace(old, new) if file == path else text
+        put(top / "crates/small" / path, text)
+    small, pair = crates_at(top)
+    return edit_records.others_of({"small": small, "pair": pair})["pair"]
+
+
+def sums():
+    """Returns whether the sum of what else decides changes with what it is to have, and with nothing else."""
+    well = []
+    with tempfile.TemporaryDirectory(prefix="try-edits-test-") as room:
+        top = pathlib.Path(room)
+        before = sum_of_others(top, [])
+        for is_seen, changes in ((True, SEEN_CHANGES), (False, UNSEEN_CHANGES)):
+            for name, change in changes.items():
+                is_well = SEEN_FILES[change[0]].count(change[1]) == 1
+                is_well = is_well and (sum_of_others(top, [change]) != before) == is_seen
+                well.append(is_as_expected(f"{'a' if is_seen else 'no'} change of the sum: {name}", before, is_well))
+    return well
+
+
+def order():
+    """Returns whether edits that may be stale wait until all that must be tried have started."""
+    small, pair = crates_at(".")
+    other = Crate("other", [], set())
+    must, waits, last = Job(1, pair, ["a"]), Job(1, small, ["b"]), Job(2, other, ["c"])
+    cases = {
+        "one that must be tried is first": startable([must, waits, last], []) == [must],
+        "one that must be tried waits": startable([waits, last], [must]) == [],
+        "the last that must be tried runs": startable([last], [waits]) == [last],
+        "all that must be tried has ended": startable([last], []) == [last],
+    }
+    return [is_as_expected(name, "another order", is_well) for name, is_well in cases.items()]
+
+
 def main():
     with tempfile.TemporaryDirectory(prefix="try-edits-test-") as room:
         top = pathlib.Path(room)
@@ -251,7 +371,7 @@ def main():
         status, lines = tried(top, GOOD)
         joint = sum(": refused (joint): " in it for it in lines)
         is_well = status == 0 and joint == 3 and lines[-1] == "3 passed, 0 failed, 0 stale"
-        well = [is_as_expected("good edits", lines, is_well)]
+        well = [*sums(), *order(), is_as_expected("good edits", lines, is_well)]
         for name, (_, _, output) in BAD.items():
             status, lines = tried(top, [name])
             is_well = lines[0].startswith(f"small/{name}: {output}") and lines[-1] == "0 passed, 1 failed, 0 stale"
@@ -261,6 +381,7 @@ def main():
         well.append(is_as_expected("a round with one that doesn't compile", lines, is_well))
         well += records(top)
         well += here(top)
+        well += as_in_the_gate(top)
     return 0 if all(well) else 1
 
 
