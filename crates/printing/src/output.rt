@@ -13,7 +13,7 @@ use std::io::Write;
 /// writer is an `Output`.
 pub trait Output: Write {
     // Whether the last of these calls failed with this error. The code that prints over any writer has to show it,
-    // since nothing else is known there. Of each given writer it holds of every error, and tells the caller nothing.
+    // since nothing else is known there. Of each given writer it holds of every error, so callers learn nothing by it.
     ghost failed_with: { Self → Error → Type 0 } = { λ _ _. ⊤ };
 
     /// Writes all of these bytes, as `write_all` does.
