@@ -1,11 +1,12 @@
 #!/usr/bin/env python3
-"""Runs the steps of the gate one after another and prints how long each took.
+"""Runs the steps of the gate one after another and writes how long each took.
 
-usage: tools/gate_minutes.py STEP ..      (a step is a command with its words in one argument, as 'rt ci')
+usage: tools/gate_minutes.py [--table=FILE] STEP ..      (a step is a command with its words in one argument: 'rt ci')
 
-Each step prints its own output as it runs. The tool stops at the first step that fails, and returns its status. Then it
-prints a table with the processor minutes and the minutes of each step. The system counts the processor time of a step
-with all processes that it waited for. The last line is 'N processor minutes in M', the sums over all steps.
+Each step prints its own output as it runs. The tool stops at the first step that fails, and returns its status. It
+writes a table with the processor minutes and the minutes of each step: to FILE as soon as a step has ended, or at the
+end to standard output. The system counts the processor time of a step with all processes that it waited for. The last
+line is 'N processor minutes in M', the sums over all steps.
 """
 import resource
 import shlex
@@ -30,18 +31,27 @@ def timed(step):
     return status, taken_by_children() - taken, (time.monotonic() - began) / 60
 
 
-def main(steps):
+def table_of(rows):
+    """Returns the table of these steps, each with its processor minutes and its minutes."""
+    lines = ["| step | processor minutes | minutes |", "|---|---|---|"]
+    lines += [f"| `{step}` | {processor:.1f} | {minutes:.1f} |" for step, processor, minutes in rows]
+    processor, minutes = (sum(row[at] for row in rows) for at in (1, 2))
+    return "\n".join([*lines, "", f"{processor:.0f} processor minutes in {minutes:.0f}", ""])
+
+
+def main(words):
+    tables = [it.removeprefix("--table=") for it in words if it.startswith("--table=")]
     rows, status = [], 0
-    for step in steps:
+    for step in (it for it in words if not it.startswith("--table=")):
         status, processor, minutes = timed(step)
         rows.append((step, processor, minutes))
+        for table in tables:
+            with open(table, "w", encoding="utf-8") as it:
+                it.write(table_of(rows))
         if status:
             break
-    print("| step | processor minutes | minutes |\n|---|---|---|")
-    for step, processor, minutes in rows:
-        print(f"| `{step}` | {processor:.1f} | {minutes:.1f} |")
-    processor, minutes = (sum(row[at] for row in rows) for at in (1, 2))
-    print(f"{processor:.0f} processor minutes in {minutes:.0f}", flush=True)
+    if not tables:
+        print(table_of(rows), end="", flush=True)
     return status if status >= 0 else 128 - status
 
 
