@@ -1,0 +1,118 @@
+//! What comes out of each rule of a sequence by itself (W1 to W7, N1 and N2, I1 and I2), from the classes of a sequence.
+ghost use Rattle.std.specs.Prelude.{◌≡◌, length, IfOk};
+
+use crate::found::one_sequence;
+use crate::given::{Given, classes_of};
+use anyhow::{Result, bail};
+use resolve::implicit::{implicit, resolve_levels};
+use resolve::neutral::neutral;
+use resolve::weak::weak;
+use row_files::shown::{push_classes, push_levels};
+use row_files::words::push_word;
+use rule_columns::weak::{w1, w2, w3, w4, w5, w6, w7, weak_types};
+use sequences::sequence::Sequence;
+use sequences::sequences::Sequences;
+use std::alloc::{AllocError, Global};
+use std::sync::ledger::Ledger;
+use units::bracket::{Bracket, Unit};
+use units::class::Class;
+use units::level::Level;
+use units::steps::Steps;
+
+/// The columns that come out of a rule.
+#[derive(Clone, Copy)]
+enum Changed {
+    Classes,
+    Levels,
+    Both,
+}
+
+/// Applies the rule, or the rules, with this name to a sequence. Returns which columns it gives.
+fn apply<L: Ledger>(
+    rule: &str,
+    s: &Sequence,
+    classes: &mut [Class],
+    levels: &mut [Option<Level>],
+    steps: &mut Steps<L>,
+) -> Result<Changed>
+    requires classes { length classes.old ≡ s.now.extent }
+    requires levels { length levels.old ≡ s.now.extent }
+{
+    match rule {
+        "W1" => w1(s, classes, steps),
+        "W2" => w2(s, classes, steps),
+        "W3" => w3(s, classes, steps),
+        "W4" => w4(s, classes, steps),
+        "W5" => w5(s, classes, steps),
+        "W6" => w6(s, classes, steps),
+        "W7" => w7(s, classes, steps),
+        "W1 to W7" => weak_types(s, classes, steps),
+        "weak" => weak(s, classes, steps),
+        "N1, N2" => neutral(s, classes, steps),
+        "I1, I2" => {
+            implicit(s, classes, levels, steps);
+            return Ok(Changed::Levels);
+        }
+        "N1 to I2" => {
+            resolve_levels(s, classes, levels, steps);
+            return Ok(Changed::Both);
+        }
+        _ => bail!("no verb is {rule}"),
+    }
+    Ok(Changed::Classes)
+}
+
+/// Returns the sequence of a paragraph of as many units, each of class ON, so that it has all positions.
+fn neutral_sequence<L: Ledger>(
+    alloc: Global,
+    given: &Given,
+    steps: &mut Steps<L>,
+) -> Result<Sequences>
+    ensures extent { IfOk result (λ sequences. sequences.extent ≡ length given.now.units.items) }
+    ensures one { IfOk result (λ sequences. length sequences.all ≡ 1) }
+{
+    let unit = Unit {
+        class: Class::ON,
+        bracket: Bracket::No,
+    };
+    let neutral = Given {
+        units: vec![in alloc; unit; given.units.len()]?,
+        direction: given.direction,
+        limits: given.limits,
+    };
+    one_sequence(alloc, &neutral, steps)
+}
+
+/// Appends the columns that came out, with `|` between both.
+fn push_columns(
+    out: &mut String,
+    changed: Changed,
+    classes: &[Class],
+    levels: &[Option<Level>],
+) -> Result<(), AllocError> {
+    match changed {
+        Changed::Classes => push_classes(out, classes),
+        Changed::Levels => push_levels(out, levels),
+        Changed::Both => {
+            push_classes(out, classes)?;
+            push_word(out, "|")?;
+            push_levels(out, levels)
+        }
+    }
+}
+
+/// Appends what a rule gives for the classes of a sequence.
+pub fn push_rule<L: Ledger>(
+    alloc: Global,
+    rule: &str,
+    given: &Given,
+    out: &mut String,
+    steps: &mut Steps<L>,
+) -> Result<()> {
+    let sequences = neutral_sequence(alloc, given, steps)?;
+    let mut classes = classes_of(alloc, &given.units)?;
+    let mut levels = vec![in alloc; None; given.units.len()]?;
+    let changed = apply(rule, &sequences.get(0), &mut classes, &mut levels, steps)?;
+    push_columns(out, changed, &classes, &levels)?;
+    Ok(())
+}
