@@ -1,0 +1,137 @@
+#!/usr/bin/env python3
+"""Says in which file of rows each test of before stands, and checks that none is lost.
+
+usage: tools/rows_of_before.py
+
+What a test states was code, in crates of tests alone; now it is rows of files, which the programs that end in _rows
+check. TABLE has for each crate of before a line for each of its tests:
+
+    MODULE::TEST -> CRATE/FILE NUMBER, ..      rows of crates/CRATE/data/FILE have what its NUMBER rows or assertions said
+    MODULE::TEST stays: REASON                 it is still a test of that crate
+
+The script prints each test of these crates that COMMIT has and TABLE hasn't, and the reverse; each file that is missing
+or has fewer rows than the tests before; each test that stays and isn't there, or has moved and is there still. It ends
+with 0 if it prints none.
+"""
+
+import collections
+import itertools
+import pathlib
+import re
+import subprocess
+import sys
+
+TOP = pathlib.Path(__file__).resolve().parent.parent
+COMMIT = "4e36d724"
+TABLE = {}
+
+TABLE["engine_tests"] = """
+cutting_rows::cuts_after_separators -> rule_rows/paragraphs.txt 1
+explicit_rows::finds_levels_and_current_classes -> rule_rows/explicit.txt 14, rule_rows/paragraphs.txt 14
+implicit_rows::implicit_levels -> rule_rows/implicit.txt 6
+implicit_rows::neutrals_and_implicit_levels -> rule_rows/neutral.txt 6
+isolate_rows::finds_partners -> rule_rows/isolates.txt 1
+order_rows::rules_one_after_another -> rule_rows/levels.txt 8
+paragraph_rows::weak_types -> rule_rows/levels.txt 5
+paragraph_rows::removed_in_flat_paragraphs -> rule_rows/levels.txt 4
+paragraph_rows::pairs_by_contents -> rule_rows/levels.txt 5
+paragraph_rows::marks_after_brackets -> rule_rows/levels.txt 3
+paragraph_rows::full_stack -> rule_rows/levels.txt 2
+paragraph_rows::given_limits -> rule_rows/levels.txt 6
+resolve_rows::closers -> rule_rows/brackets.txt 4
+rooms::rooms_of_any_size_are_made stays: it is about buffers, whatever is in them, and makes those of the test below
+rooms::too_much_room stays: the same
+rooms::says_that_memory_was_refused stays: it is run with each allocation failing in turn (tools/refused_growths.sh)
+rule_rows::each_rule_by_itself -> rule_rows/weak.txt 17, rule_rows/neutral.txt 2
+sequence_rows::finds_sequences -> rule_rows/sequences.txt 6
+"""
+
+
+def of_git(*words):
+    """Returns what git prints."""
+    return subprocess.run(["git", "-C", TOP, *words], check=True, capture_output=True, text=True).stdout
+
+
+def tests_in(folder, source, text):
+    """Returns the names of the tests of a source file below a folder."""
+    module = "::".join(source.relative_to(folder).with_suffix("").parts)
+    found = re.findall(r"^#\[test\]\n(?:#\[.*\]\n|//.*\n)*fn (\w+)", text, re.MULTILINE)
+    return {f"{module}::{name}" for name in found}
+
+
+def tests_before(crate):
+    """Returns the names of the tests that a crate had."""
+    folder = pathlib.PurePath("crates", crate, "src")
+    names = of_git("ls-tree", "-r", "--name-only", COMMIT, f"{folder}/").split()
+    sources = [pathlib.PurePath(name) for name in names if name.endswith(".rt")]
+    return set().union(*(tests_in(folder, source, of_git("show", f"{COMMIT}:{source}")) for source in sources))
+
+
+def tests_now(crate):
+    """Returns the names of the tests that a crate has."""
+    folder = TOP / "crates" / crate / "src"
+    return set().union(*(tests_in(folder, source, source.read_text()) for source in folder.rglob("*.rt")))
+
+
+def is_row(line):
+    """Returns whether a line of a file is a row, neither blank nor a comment."""
+    return bool(line.strip()) and not line.lstrip().startswith("#")
+
+
+def places_of(crate, table):
+    """Returns the rows of each test that moved, as pairs of file and number, and the tests that stay."""
+    moved, stay = {}, set()
+    for line in table.strip().splitlines():
+        if match := re.fullmatch(r"(\S+) -> (.+)", line):
+            places = [place.split() for place in match[2].split(", ")]
+            moved_to = [(file, int(number)) for file, number in places]
+        elif match := re.fullmatch(r"(\S+) stays: .+", line):
+            moved_to = None
+        else:
+            sys.exit(f"no line of a table: {line}")
+        test = match[1]
+        if test in moved or test in stay:
+            sys.exit(f"twice: {crate} {test}")
+        if moved_to is None:
+            stay.add(test)
+        else:
+            moved[test] = moved_to
+    return moved, stay
+
+
+def faults_of_files(needed):
+    """Returns what is missing of the files that must have these numbers of rows."""
+    for file, number in sorted(needed.items()):
+        crate, name = file.split("/")
+        path = TOP / "crates" / crate / "data" / name
+        if not path.is_file():
+            yield f"no file: {file}"
+            continue
+        rows = sum(map(is_row, path.read_text().splitlines()))
+        if rows < number:
+            yield f"{file} has {rows} rows, and the tests before had {number}"
+
+
+def faults():
+    """Returns what is missing, a line each."""
+    needed = collections.Counter()
+    for crate, table in TABLE.items():
+        moved, stay = places_of(crate, table)
+        before, now = tests_before(crate), tests_now(crate)
+        yield from (f"not in the table: {crate} {test}" for test in sorted(before - set(moved) - stay))
+        yield from (f"no test of before: {crate} {test}" for test in sorted((set(moved) | stay) - before))
+        yield from (f"does not stay: {crate} {test}" for test in sorted(stay - now))
+        yield from (f"is still a test: {crate} {test}" for test in sorted(set(moved) & now))
+        for file, number in itertools.chain.from_iterable(moved.values()):
+            needed[file] += number
+    yield from faults_of_files(needed)
+
+
+def main():
+    found = list(faults())
+    print("\n".join(found), end="\n" if found else "")
+    return int(bool(found))
+
+
+if __name__ == "__main__":
+    sys.exit(main())
