@@ -44,10 +44,15 @@ struct Place<'a> {
     line: usize,
 }
 
-/// Returns the fields of a row.
+/// Returns the fields of a row. A `;` between quotation marks separates none.
 fn fields_of(alloc: Global, row: &str) -> Result<Vec<&str>, AllocError> {
     let mut fields = Vec::new(alloc);
-    for field in row.split(';') {
+    let mut is_quoted = false;
+    let ends_field = |c: char| {
+        is_quoted ^= c == '"';
+        c == ';' && !is_quoted
+    };
+    for field in row.split(ends_field) {
         fields.push(field.trim())?;
     }
     Ok(fields)

@@ -3,12 +3,15 @@
 //!
 //! A file is text in UTF-8. A line that begins with `#` is a comment, and blank lines are skipped. Any other line is a
 //! row: fields with `;` between them. The first field is the verb, the last one says what must come out, and the
-//! fields between are the inputs of the verb.
+//! fields between are the inputs of the verb. A `;` between quotation marks is part of its field.
 //!
 //! The words of a field have blanks between them. `WORD*COUNT` stands for COUNT times WORD, and `A,B*COUNT` for COUNT
 //! times A B. What comes out is text too, and is compared word by word.
+//!
+//! A field that states bytes has texts in quotation marks (`bytes`).
 #![tactic(auto)]
 
+pub mod bytes;
 pub mod files;
 pub mod shown;
 pub mod words;
