@@ -46,6 +46,30 @@ rule_rows::each_rule_by_itself -> rule_rows/weak.txt 17, rule_rows/neutral.txt 2
 sequence_rows::finds_sequences -> rule_rows/sequences.txt 6
 """
 
+TABLE["table_tests"] = """
+arbitrary_tables::arbitrary_bytes_state_no_table -> table_rows/sources.txt 3
+kit_classes::new_characters_differ_as_listed -> table_rows/standard.txt 7
+kit_classes::older_characters_differ_as_listed -> table_rows/standard.txt 1
+large_tables::as_many_classes_as_allowed -> table_rows/limits.txt 1
+large_tables::as_many_brackets_as_allowed -> table_rows/limits.txt 2
+large_tables::as_many_mirror_images_as_allowed -> table_rows/limits.txt 2
+large_tables::characters_of_an_earlier_line -> table_rows/limits.txt 12
+standard_tables::standard_tables_are_those_of_unicode -> table_rows/standard.txt 4
+table_faults::faults_of_classes -> table_rows/classes.txt 9
+table_faults::too_many_data_lines -> table_rows/limits.txt 1
+table_faults::too_many_default_lines -> table_rows/limits.txt 1
+table_faults::over_long_lines -> table_rows/limits.txt 3
+table_faults::sources_that_fail -> table_rows/sources.txt 6
+table_faults::says_that_memory_was_refused stays: it is run with each allocation failing (tools/refused_growths.sh)
+table_faults::a_source_that_had_failed stays: the same
+table_faults::texts_of_faults -> table_rows/texts.txt 11, table_rows/classes.txt 1, table_rows/sources.txt 1
+table_rows::states_classes -> table_rows/classes.txt 7
+table_rows::states_brackets -> table_rows/brackets.txt 4
+table_rows::states_mirrors -> table_rows/mirrors.txt 2
+table_rows::closing_brackets_have_their_own_keys -> table_rows/brackets.txt 1
+table_rows::units_of_tables -> table_rows/together.txt 3
+"""
+
 
 def of_git(*words):
     """Returns what git prints."""
