@@ -6,8 +6,8 @@
 # usage: tools/try_tests.sh [CRATE ..]    (with no name: each crate that has tests or the stored output of a program)
 #
 # It leaves out the tests of the crates in LEFT_OUT, which make and fill large rooms, and names them: unproved they take
-# minutes each. Each test may take SECONDS_OF_A_TEST, in place of the minute that `rt try` gives it. As many crates run
-# at once as there are processors, or as RT_JOBS says.
+# minutes each. Each test and each program may take SECONDS_OF_A_TEST, in place of the minute that `rt try` gives it. As
+# many crates run at once as there are processors, or as RT_JOBS says.
 set -u
 cd "$(dirname "$0")/.." || exit 2
 LEFT_OUT=(room_tests)
@@ -28,7 +28,8 @@ try_crate() {
         done
         [ -e stdin ] && input=$PWD/stdin
         [ -e status ] && wanted=$(cat status)
-        rt try "${data[@]}" -- "${words[@]}" < "$input" > "$work/$crate.out" 2> "$work/$crate.err"
+        rt try --seconds "$SECONDS_OF_A_TEST" "${data[@]}" -- "${words[@]}" < "$input" > "$work/$crate.out" \
+            2> "$work/$crate.err"
         status=$?
         [ "$status" -eq "$wanted" ] && cmp "$work/$crate.out" stdout >> "$work/$crate.err" 2>&1
     else
