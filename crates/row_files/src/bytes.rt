@@ -9,7 +9,10 @@ use std::io::Write;
 
 /// Appends what a backslash before this text stands for, and the rest of the text.
 fn push_escaped(bytes: &mut Vec<u8>, text: &str) -> Result<()> {
-    let (byte, rest) = match text.strip_prefix('x').and_then(|text| text.split_at_checked(2)) {
+    let (byte, rest) = match text
+        .strip_prefix('x')
+        .and_then(|text| text.split_at_checked(2))
+    {
         Some((digits, rest)) => (u8::from_str_radix(digits, 16)?, rest),
         None => (b'\n', text.strip_prefix('n').context("no such escape")?),
     };
@@ -55,7 +58,10 @@ fn push_counted(bytes: &mut Vec<u8>, text: &str, turn: u32) -> Result<()> {
 fn push_repeated(bytes: &mut Vec<u8>, text: &str, following: &str) -> Result<()> {
     let count = match following.trim() {
         "" => 1,
-        count => count.strip_prefix('*').context("no `*` is before a count")?.parse()?,
+        count => count
+            .strip_prefix('*')
+            .context("no `*` is before a count")?
+            .parse()?,
     };
     for turn in 0..count {
         push_counted(bytes, text, turn)?;
@@ -65,7 +71,9 @@ fn push_repeated(bytes: &mut Vec<u8>, text: &str, following: &str) -> Result<()>
 
 /// Returns the bytes that a field states. Fails if it is not written so.
 pub fn bytes_of(alloc: Global, field: &str) -> Result<Vec<u8>> {
-    let texts = field.strip_prefix('"').context("no quotation mark is before a text")?;
+    let texts = field
+        .strip_prefix('"')
+        .context("no quotation mark is before a text")?;
     let mut bytes = Vec::new(alloc);
     let mut text = None;
     for part in texts.split('"') {

@@ -11,6 +11,11 @@ pub trait Check {
     /// Does what a row asks for, and appends the words that come out. `fields` are its verb and its inputs. Fails if
     /// they can't be read.
     fn come_out(&self, alloc: Global, fields: &[&str], out: &mut String) -> Result<()>;
+
+    /// Returns how many fields a row has at most before its last one. Further `;` are in the last of these fields.
+    fn most_fields(&self) -> usize {
+        usize::MAX
+    }
 }
 
 /// How many rows there are, and how many of them passed.
@@ -44,15 +49,15 @@ struct Place<'a> {
     line: usize,
 }
 
-/// Returns the fields of a row. A `;` between quotation marks separates none.
-fn fields_of(alloc: Global, row: &str) -> Result<Vec<&str>, AllocError> {
+/// Returns the fields of a row without its last one, at most `most`. A `;` between quotation marks separates none.
+fn fields_of(alloc: Global, row: &str, most: usize) -> Result<Vec<&str>, AllocError> {
     let mut fields = Vec::new(alloc);
     let mut is_quoted = false;
     let ends_field = |c: char| {
         is_quoted ^= c == '"';
         c == ';' && !is_quoted
     };
-    for field in row.split(ends_field) {
+    for field in row.splitn(most, ends_field) {
         fields.push(field.trim())?;
     }
     Ok(fields)
@@ -60,11 +65,11 @@ fn fields_of(alloc: Global, row: &str) -> Result<Vec<&str>, AllocError> {
 
 /// Does what a row asks for. Returns the words that came out, and those of its last field.
 fn results_of<C: Check>(alloc: Global, check: &C, row: &str) -> Result<(String, String)> {
-    let mut fields = fields_of(alloc, row)?;
-    let expected = words_of(alloc, fields.pop().unwrap_or(""))?;
-    if fields.is_empty() {
-        bail!("no field says what must come out");
-    }
+    let (front, last) = row
+        .rsplit_once(';')
+        .context("no field says what must come out")?;
+    let expected = words_of(alloc, last)?;
+    let fields = fields_of(alloc, front, check.most_fields())?;
     let mut out = String::new(alloc);
     check.come_out(alloc, &fields, &mut out)?;
     Ok((out, expected))
