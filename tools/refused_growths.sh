@@ -133,7 +133,7 @@ for crate in ${*:-table_tests file_tests engine_tests layout_tests text_tests co
                 table_faults::says_that_memory_was_refused table_faults::a_source_that_had_failed ;;
         file_tests)
             tests_of file_tests 'both kinds of judge, and files judged after it' \
-                growths::a_judge_of_classes growths::a_judge_of_characters ;;
+                judging::no_growth_comes_after_making characters_rows::no_growth_comes_after_making ;;
         engine_tests)
             tests_of engine_tests \
                 'IsolateMap and Explicit of explicit, Sequences of sequences, Pairs of resolve, Resolver' \

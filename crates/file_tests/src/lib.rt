@@ -3,4 +3,6 @@
 #![tactic(auto)]
 
 #[cfg(test)]
-mod growths;
+mod characters_rows;
+#[cfg(test)]
+mod judging;

@@ -5,7 +5,7 @@ use crate::bytes::bytes_of;
 use crate::options::{Coming, Options};
 use anyhow::{Context, Result, bail};
 use bidtests::judge::Judge;
-use bidtests::kind::StoredKind;
+use bidtests::kind::{Kind, StoredKind};
 use bidtests::reader::judge_reader;
 use bidtests::verdict::Verdict;
 use bidtests::verdict_line::print_verdict;
@@ -60,7 +60,8 @@ impl Outcomes {
 #[derive(Clone, Copy)]
 struct File<'a> {
     alloc: Global,
-    options: &'a Options<'a>,
+    kind: Kind<'a>,
+    options: &'a Options,
     bytes: &'a [u8],
 }
 
@@ -105,13 +106,13 @@ fn reported(mut report: Report<'_>, bytes: &[u8]) -> Verdict {
 impl File<'_> {
     /// Makes a judge of the file.
     fn judge(&self) -> Result<Judge<'_>, AllocError> {
-        let kind = StoredKind::Borrowed(self.options.kind);
+        let kind = StoredKind::Borrowed(self.kind);
         Judge::new(self.alloc, kind, self.options.limits).map_err(|_| AllocError)
     }
 
     /// Makes a report on the file.
     fn report(&self) -> Result<Report<'_>, AllocError> {
-        let kind = StoredKind::Borrowed(self.options.kind);
+        let kind = StoredKind::Borrowed(self.kind);
         let terms = Terms::strict(self.options.limits);
         Report::new(self.alloc, kind, terms).map_err(|_| AllocError)
     }
@@ -199,13 +200,15 @@ pub fn push_verdict(alloc: Global, out: &mut String, verdict: &Verdict) -> Resul
 /// Appends the verdict on the file that a field writes, if it is the same in each way that the options ask for.
 pub fn comes_out(
     alloc: Global,
-    options: &Options<'_>,
+    kind: Kind<'_>,
+    options: &Options,
     field: &str,
     out: &mut String,
 ) -> Result<()> {
     let bytes = &bytes_of(alloc, field)?;
     let file = File {
         alloc,
+        kind,
         options,
         bytes,
     };

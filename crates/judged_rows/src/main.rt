@@ -62,20 +62,24 @@ fn limits_come_out(alloc: Global, field: &str, out: &mut String) -> Result<()> {
     push_limits(out, u8::try_from(depth)?, u8::try_from(brackets)?)
 }
 
-/// Appends what comes out of a verb with options.
-fn come_out_of(
-    alloc: Global,
-    verb: &str,
-    options: &Options<'_>,
-    input: &str,
-    out: &mut String,
-) -> Result<()> {
-    match verb {
-        "judge" => judging::comes_out(alloc, options, input, out),
-        "report" => reporting::comes_out(alloc, options, input, out),
-        "print" => printing_verdicts::comes_out(alloc, options, input, out),
-        "read" => reading::comes_out(alloc, options, input, out),
-        _ => bail!("no verb is named {verb}"),
+impl Judged {
+    /// Appends what comes out of a verb with options.
+    fn with_options(
+        &self,
+        alloc: Global,
+        verb: &str,
+        options: &Options,
+        input: &str,
+        out: &mut String,
+    ) -> Result<()> {
+        let kind = options.kind(&self.tables);
+        match verb {
+            "judge" => judging::comes_out(alloc, kind, options, input, out),
+            "report" => reporting::comes_out(alloc, kind, options, input, out),
+            "print" => printing_verdicts::comes_out(alloc, options, input, out),
+            "read" => reading::comes_out(alloc, options, input, out),
+            _ => bail!("no verb is named {verb}"),
+        }
     }
 }
 
@@ -84,8 +88,8 @@ impl Check for Judged {
         match *fields {
             ["limits", numbers] => limits_come_out(alloc, numbers, out),
             [verb, options, input] => {
-                let options = Options::of_field(options, &self.tables)?;
-                come_out_of(alloc, verb, &options, input, out)
+                let options = Options::of_field(options)?;
+                self.with_options(alloc, verb, &options, input, out)
             }
             _ => bail!("no verb has these fields"),
         }

@@ -43,9 +43,9 @@ pub enum Coming {
 
 /// The options of a row.
 #[derive(Clone, Copy)]
-pub struct Options<'t> {
-    /// The kind of the file: `classes` or `characters`.
-    pub kind: Kind<'t>,
+pub struct Options {
+    /// Whether the file is one of characters: `characters`, or `classes`.
+    pub has_characters: bool,
     /// The limits of the layouts: `depth N` and `brackets N`.
     pub limits: Limits,
     /// What a report compares: `order` and `shown`, as the options of the command.
@@ -86,12 +86,21 @@ fn limits_of(depth: usize, brackets: usize) -> Result<Limits> {
     }
 }
 
-impl<'t> Options<'t> {
+impl Options {
+    /// Returns the kind of the file. These tables give the units of characters.
+    pub fn kind<'t>(&self, tables: &'t Tables) -> Kind<'t> {
+        if self.has_characters {
+            Kind::Characters(tables)
+        } else {
+            Kind::Classes
+        }
+    }
+
     /// Returns the options of a row that names none.
-    fn new() -> Options<'t> {
+    fn new() -> Options {
         let limits = Limits::standard();
         Options {
-            kind: Kind::Classes,
+            has_characters: false,
             limits,
             leniency: Terms::strict(limits).leniency,
             coming: Coming::Whole,
@@ -109,10 +118,10 @@ impl<'t> Options<'t> {
     }
 
     /// Takes an option without a value.
-    fn take_flag(&mut self, name: &str, tables: &'t Tables) -> Result<()> {
+    fn take_flag(&mut self, name: &str) -> Result<()> {
         match name {
-            "" | "classes" => {}
-            "characters" => self.kind = Kind::Characters(tables),
+            "" | "classes" => self.has_characters = false,
+            "characters" => self.has_characters = true,
             "order" => self.leniency.parts = Parts::OrderAlone,
             "shown" => self.leniency.positions = Positions::Shown,
             _ => bail!("no option is named {name}"),
@@ -120,8 +129,8 @@ impl<'t> Options<'t> {
         Ok(())
     }
 
-    /// Takes an option with a value. Returns whether there is one with this name.
-    fn take_value(&mut self, name: &str, value: &str) -> Result<bool> {
+    /// Takes an option with a value.
+    fn take_value(&mut self, name: &str, value: &str) -> Result<()> {
         match name {
             "depth" => self.limits = limits_of(number_of(value)?, self.limits.brackets() as usize)?,
             "brackets" => self.limits = limits_of(self.limits.depth() as usize, number_of(value)?)?,
@@ -132,24 +141,24 @@ impl<'t> Options<'t> {
             "write error" => self.write_error = Some(error_kind_of(value)?),
             "buffer" => self.buffer = Some(number_of(value)?),
             "reads" => self.reads = number_of(value)?,
-            _ => return Ok(false),
+            _ => bail!("no option is named {name}"),
         }
-        Ok(true)
+        Ok(())
     }
 
     /// Takes an option.
-    fn take(&mut self, option: &str, tables: &'t Tables) -> Result<()> {
+    fn take(&mut self, option: &str) -> Result<()> {
         match option.rsplit_once(' ') {
-            Some((name, value)) if self.take_value(name, value)? => Ok(()),
-            _ => self.take_flag(option, tables),
+            Some((name, value)) => self.take_value(name, value),
+            None => self.take_flag(option),
         }
     }
 
-    /// Reads the options in a field; a file of characters has units by these tables.
-    pub fn of_field(field: &str, tables: &'t Tables) -> Result<Options<'t>> {
+    /// Reads the options in a field.
+    pub fn of_field(field: &str) -> Result<Options> {
         let mut options = Options::new();
         for option in field.split(',') {
-            options.take(option.trim(), tables)?;
+            options.take(option.trim())?;
         }
         Ok(options)
     }

@@ -3,7 +3,7 @@
 
 use crate::judging::push_verdict;
 use crate::options::Options;
-use anyhow::{Result, bail};
+use anyhow::{Context, Result, bail};
 use bidtests::verdict::{Cause, Place, Verdict};
 use bidtests::verdict_line::print_verdict;
 use row_files::words::{direction_of, number_of};
@@ -49,20 +49,18 @@ fn verdict_of(alloc: Global, field: &str) -> Result<Verdict> {
     }
 }
 
-/// Appends the line of a verdict, or that a write failed if there is too little room for it.
-pub fn comes_out(
-    alloc: Global,
-    options: &Options<'_>,
-    field: &str,
-    out: &mut String,
-) -> Result<()> {
-    let verdict = verdict_of(alloc, field)?;
+/// Returns whether the line of a verdict is written to a buffer of this size.
+fn has_room(verdict: &Verdict, size: usize) -> Result<bool> {
     let mut bytes = [0; 64];
-    if let Some(mut room) = options.buffer.and_then(|size| bytes.get_mut(..size)) {
-        if print_verdict(&mut room, &verdict).is_err() {
-            out.push_str("a write failed")?;
-            return Ok(());
-        }
+    let mut buffer = bytes.get_mut(..size).context("the buffer is too large")?;
+    Ok(print_verdict(&mut buffer, verdict).is_ok())
+}
+
+/// Appends the line of a verdict, or that a write failed if there is too little room for it.
+pub fn comes_out(alloc: Global, options: &Options, field: &str, out: &mut String) -> Result<()> {
+    let verdict = verdict_of(alloc, field)?;
+    match options.buffer {
+        Some(size) if !has_room(&verdict, size)? => Ok(out.push_str("a write failed")?),
+        _ => push_verdict(alloc, out, &verdict),
     }
-    push_verdict(alloc, out, &verdict)
 }

@@ -57,12 +57,7 @@ fn push_failures(
 }
 
 /// Appends what the source of a reader with these steps returns, and whether it has failed.
-pub fn comes_out(
-    alloc: Global,
-    options: &Options<'_>,
-    field: &str,
-    out: &mut String,
-) -> Result<()> {
+pub fn comes_out(alloc: Global, options: &Options, field: &str, out: &mut String) -> Result<()> {
     let steps = steps_of(alloc, field)?;
     let limit = match options.coming {
         Coming::AtMost => options.numbers.first as u64,

@@ -4,7 +4,7 @@ use crate::bytes::bytes_of;
 use crate::failing::FailingWriter;
 use crate::options::{Coming, Options};
 use anyhow::{Result, bail};
-use bidtests::kind::StoredKind;
+use bidtests::kind::{Kind, StoredKind};
 use printing::output::Output;
 use printing::written::Written;
 use report::print::{ReportFault, print_report};
@@ -55,7 +55,7 @@ impl<S: ByteSource + Drop> Reporting<'_, S> {
     }
 
     /// Prints the report to the writer that the options name, and appends what comes out.
-    fn come_out(self, alloc: Global, options: &Options<'_>, out: &mut String) -> Result<()> {
+    fn come_out(self, alloc: Global, options: &Options, out: &mut String) -> Result<()> {
         if let Some(kind) = options.write_error {
             return Ok(self.print(&mut FailingWriter { kind }, out)?);
         }
@@ -71,26 +71,25 @@ impl<S: ByteSource + Drop> Reporting<'_, S> {
 /// Appends the report on the file that a field writes, or why it broke off.
 pub fn comes_out(
     alloc: Global,
-    options: &Options<'_>,
+    kind: Kind<'_>,
+    options: &Options,
     field: &str,
     out: &mut String,
 ) -> Result<()> {
     let bytes = &bytes_of(alloc, field)?;
-    let Options {
-        limits,
-        leniency,
-        ..
-    } = *options;
-    let kind = StoredKind::Borrowed(options.kind);
-    let terms = Terms { limits, leniency };
-    let report = Report::new(alloc, kind, terms).map_err(|_| AllocError)?;
+    let terms = Terms {
+        limits: options.limits,
+        leniency: options.leniency,
+    };
+    let report = Report::new(alloc, StoredKind::Borrowed(kind), terms).map_err(|_| AllocError)?;
+    let count = options.numbers.first;
     match options.coming {
         Coming::Whole => {
             let source = SliceSource::new(bytes);
             Reporting { report, source }.come_out(alloc, options, out)
         }
-        Coming::FailingAfter if options.numbers.first <= bytes.len() => {
-            let source = CutSource::new(bytes, options.numbers.first);
+        Coming::FailingAfter if count <= bytes.len() => {
+            let source = CutSource::new(bytes, count);
             Reporting { report, source }.come_out(alloc, options, out)
         }
         _ => bail!("no report is made so"),
