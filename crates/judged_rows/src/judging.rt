@@ -164,14 +164,28 @@ impl File<'_> {
         Ok(outcomes.add(way, text)?)
     }
 
+    /// Adds what comes out in each of these ways.
+    fn add_each(&self, outcomes: &mut Outcomes, ways: &[Way]) -> Result<()> {
+        for way in ways {
+            self.add(outcomes, *way)?;
+        }
+        Ok(())
+    }
+
     /// Adds what comes out in pieces of several sizes, from a source and by a report.
     fn add_usual(&self, outcomes: &mut Outcomes) -> Result<()> {
         let whole = Way::Pieces(self.bytes.len());
-        let [one, four, seven] = [1, 4, 7].map(Way::Pieces);
-        for way in [whole, one, four, seven, Way::Source, Way::Report] {
-            self.add(outcomes, way)?;
-        }
-        Ok(())
+        let [one, four, seven] = [Way::Pieces(1), Way::Pieces(4), Way::Pieces(7)];
+        self.add_each(
+            outcomes,
+            &[whole, one, four, seven, Way::Source, Way::Report],
+        )
+    }
+
+    /// Adds what comes out in pieces of three sizes: making a judge takes longer than judging a few bytes.
+    fn add_in_pieces(&self, outcomes: &mut Outcomes) -> Result<()> {
+        let whole = Way::Pieces(self.bytes.len());
+        self.add_each(outcomes, &[whole, Way::Pieces(1), Way::Pieces(7)])
     }
 
     /// Adds what comes out if the bytes come as the options say, with this number.
@@ -183,7 +197,7 @@ impl File<'_> {
             Coming::AtMost => self.add(outcomes, Way::AtMost(number)),
             Coming::ArbitraryFrom => {
                 let bytes = &arbitrary(u8::try_from(number)?);
-                File { bytes, ..*self }.add_usual(outcomes)
+                File { bytes, ..*self }.add_in_pieces(outcomes)
             }
         }
     }

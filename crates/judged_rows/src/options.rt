@@ -24,6 +24,14 @@ impl Span {
             last: number_of(last)?,
         })
     }
+
+    /// Returns the number, if it is only one.
+    pub fn one(self) -> Result<usize> {
+        if self.first != self.last {
+            bail!("this verb takes one number, not several");
+        }
+        Ok(self.first)
+    }
 }
 
 /// How the bytes of a file come, by a number.

@@ -60,7 +60,7 @@ fn push_failures(
 pub fn comes_out(alloc: Global, options: &Options, field: &str, out: &mut String) -> Result<()> {
     let steps = steps_of(alloc, field)?;
     let limit = match options.coming {
-        Coming::AtMost => options.numbers.first as u64,
+        Coming::AtMost => options.numbers.one()? as u64,
         _ => u64::MAX,
     };
     let mut source = ReaderSource::new(SteppingReader { steps: &steps }, limit);

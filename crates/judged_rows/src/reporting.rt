@@ -82,7 +82,7 @@ pub fn comes_out(
         leniency: options.leniency,
     };
     let report = Report::new(alloc, StoredKind::Borrowed(kind), terms).map_err(|_| AllocError)?;
-    let count = options.numbers.first;
+    let count = options.numbers.one()?;
     match options.coming {
         Coming::Whole => {
             let source = SliceSource::new(bytes);
