@@ -6,8 +6,8 @@ usage: tools/rows_of_before.py
 What a test states was code, in crates of tests alone; now it is rows of files, which the programs that end in _rows
 check. TABLE has for each crate of before a line for each of its tests:
 
-    MODULE::TEST -> CRATE/FILE NUMBER, ..      rows of crates/CRATE/data/FILE have what its NUMBER rows or assertions said
-    MODULE::TEST stays: REASON                 it is still a test of that crate
+    MODULE::TEST -> CRATE/FILE NUMBER, ..    NUMBER rows of crates/CRATE/data/FILE say what it said
+    MODULE::TEST stays: REASON               it is still a test of that crate
 
 The script prints each test of these crates that COMMIT has and TABLE hasn't, and the reverse; each file that is missing
 or has fewer rows than the tests before; each test that stays and isn't there, or has moved and is there still. It ends

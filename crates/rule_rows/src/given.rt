@@ -37,7 +37,8 @@ fn bracket(bracket: Bracket) -> Unit {
     }
 }
 
-/// Returns the unit with this name: a bracket of one of two kinds, or the short name of a class. Fails if there is none.
+/// Returns the unit with this name: a bracket of one of two kinds, or the short name of a class. Fails if there is
+/// none.
 fn unit_of(name: &str) -> Result<Unit> {
     match name {
         "(" => Ok(bracket(Bracket::Open(Key::new(1)))),

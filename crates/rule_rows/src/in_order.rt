@@ -16,55 +16,42 @@ use row_files::shown::{push_levels, push_position};
 use sequences::sequence::Sequence;
 use std::alloc::{AllocError, Global};
 use std::sync::ledger::Ledger;
+use units::bracket::Unit;
 use units::class::Class;
 use units::level::Level;
+use units::limits::Limits;
 use units::steps::Steps;
 
-/// The columns of a paragraph that the rules work on.
-#[derive(Drop)]
-struct Columns {
-    /// The classes before W1.
-    before: Vec<Class>,
-    /// The classes after the last rule.
-    classes: Vec<Class>,
-    /// The bracket pairs (BD16).
-    pairs: Pairs,
-    /// The resolved levels.
-    levels: Vec<Option<Level>>,
+/// The units of a paragraph, their classes before W1, and the limits that hold.
+#[derive(Clone, Copy)]
+struct Classed<'a> {
+    units: &'a [Unit],
+    classes: &'a [Class],
+    limits: Limits,
 }
 
-/// Makes the columns of these units, before W1.
-fn columns_of(alloc: Global, given: &Given) -> Result<Columns>
-    ensures before { IfOk result (λ columns. columns.before.items ≡ classes_of given.now.units.items) }
-    ensures copy { IfOk result (λ columns. columns.classes.items ≡ classes_of given.now.units.items) }
-    ensures pairs { IfOk result (λ columns. length columns.pairs ≡ length given.now.units.items) }
-    ensures levels { IfOk result (λ columns. length columns.levels.items ≡ length given.now.units.items) }
+/// Makes bracket pairs for `n` positions, without any.
+fn pairs_room(alloc: Global, n: usize) -> Result<Pairs>
+    ensures { IfOk result (λ pairs. length pairs ≡ n) }
 {
-    let n = given.units.len();
-    Ok(Columns {
-        before: classes_of(alloc, &given.units)?,
-        classes: classes_of(alloc, &given.units)?,
-        pairs: Pairs::with_room(alloc, n).map_err(out_of_memory)?,
-        levels: vec![in alloc; None; n]?,
-    })
+    Pairs::with_room(alloc, n).map_err(out_of_memory)
 }
 
 /// Finds the bracket pairs of a sequence from the classes after W7.
-fn find_pairs<L: Ledger>(s: &Sequence, given: &Given, columns: &mut Columns, steps: &mut Steps<L>)
-    requires units { length given.now.units.items ≡ s.now.extent }
-    requires classes { length columns.old.classes.items ≡ s.now.extent }
-    requires pairs { s.now.extent ≤ length columns.old.pairs }
-    ensures room { length columns.new.pairs ≡ length columns.old.pairs }
+fn find_pairs<L: Ledger>(
+    s: &Sequence,
+    para: &Classed,
+    classes: &mut [Class],
+    pairs: &mut Pairs,
+    steps: &mut Steps<L>,
+)
+    requires units { length para.now.units.now ≡ s.now.extent }
+    requires classes { length classes.old ≡ s.now.extent }
+    requires room { s.now.extent ≤ length pairs.old }
+    ensures room { length pairs.new ≡ length pairs.old }
 {
-    weak(s, &mut columns.classes, steps);
-    bracket_pairs(
-        s,
-        &given.units,
-        &columns.classes,
-        given.limits,
-        &mut columns.pairs,
-        steps,
-    );
+    weak(s, classes, steps);
+    bracket_pairs(s, para.units, classes, para.limits, pairs, steps);
 }
 
 /// Appends the closing bracket of each of `n` positions, or `-` if no pair begins there.
@@ -85,39 +72,43 @@ pub fn push_pairs<L: Ledger>(
     steps: &mut Steps<L>,
 ) -> Result<()> {
     let sequences = one_sequence(alloc, given, steps)?;
-    let mut columns = columns_of(alloc, given)?;
-    find_pairs(&sequences.get(0), given, &mut columns, steps);
-    push_closers(out, &columns.pairs, given.units.len())?;
+    let before = classes_of(alloc, &given.units)?;
+    let mut classes = Vec::from_slice(alloc, &before)?;
+    let mut pairs = pairs_room(alloc, given.units.len())?;
+    let para = Classed {
+        units: &given.units,
+        classes: &before,
+        limits: given.limits,
+    };
+    find_pairs(&sequences.get(0), &para, &mut classes, &mut pairs, steps);
+    push_closers(out, &pairs, given.units.len())?;
     Ok(())
 }
 
-/// Applies W1 to I2 to a sequence, rule by rule.
+/// Applies W1 to I2 to a sequence, rule by rule. `classes` are those of its paragraph before W1.
 fn resolve_in_order<L: Ledger>(
     s: &Sequence,
-    given: &Given,
-    columns: &mut Columns,
+    para: &Classed,
+    pairs: &mut Pairs,
+    classes: &mut [Class],
+    levels: &mut [Option<Level>],
     steps: &mut Steps<L>,
 )
-    requires units { length given.now.units.items ≡ s.now.extent }
-    requires before { columns.old.before.items ≡ classes_of given.now.units.items }
-    requires copy { columns.old.classes.items ≡ columns.old.before.items }
-    requires pairs { s.now.extent ≤ length columns.old.pairs }
-    requires levels { length columns.old.levels.items ≡ s.now.extent }
-    ensures levels { HasLevels given.now.limits.brackets s.now given.now.units.items columns.old.before.items
-        columns.new.levels.items }
-    ensures other_levels { KeepsOtherLevels s.now.positions columns.old.levels.items columns.new.levels.items }
+    requires units { length para.now.units.now ≡ s.now.extent }
+    requires before { para.now.classes.now ≡ classes_of para.now.units.now }
+    requires classes { length classes.old ≡ s.now.extent }
+    requires levels { length levels.old ≡ s.now.extent }
+    requires room { s.now.extent ≤ length pairs.old }
+    requires copy { classes.old ≡ para.now.classes.now }
+    ensures levels { HasLevels para.now.limits.brackets s.now para.now.units.now para.now.classes.now levels.new }
+    ensures other_levels { KeepsOtherLevels s.now.positions levels.old levels.new }
 {
     rules_in_order();
-    find_pairs(s, given, columns, steps);
-    paired(
-        s,
-        &columns.before,
-        &columns.pairs,
-        &mut columns.classes,
-        steps,
-    );
-    neutral(s, &mut columns.classes, steps);
-    implicit(s, &columns.classes, &mut columns.levels, steps);
+    weak(s, classes, steps);
+    bracket_pairs(s, para.units, classes, para.limits, pairs, steps);
+    paired(s, para.classes, pairs, classes, steps);
+    neutral(s, classes, steps);
+    implicit(s, classes, levels, steps);
 }
 
 /// Appends the levels of a paragraph's one sequence after W1 to I2.
@@ -128,8 +119,23 @@ pub fn push_in_order<L: Ledger>(
     steps: &mut Steps<L>,
 ) -> Result<()> {
     let sequences = one_sequence(alloc, given, steps)?;
-    let mut columns = columns_of(alloc, given)?;
-    resolve_in_order(&sequences.get(0), given, &mut columns, steps);
-    push_levels(out, &columns.levels)?;
+    let before = classes_of(alloc, &given.units)?;
+    let mut classes = Vec::from_slice(alloc, &before)?;
+    let mut pairs = pairs_room(alloc, given.units.len())?;
+    let mut levels = vec![in alloc; None; given.units.len()]?;
+    let para = Classed {
+        units: &given.units,
+        classes: &before,
+        limits: given.limits,
+    };
+    resolve_in_order(
+        &sequences.get(0),
+        &para,
+        &mut pairs,
+        &mut classes,
+        &mut levels,
+        steps,
+    );
+    push_levels(out, &levels)?;
     Ok(())
 }

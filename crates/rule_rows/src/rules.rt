@@ -1,4 +1,5 @@
-//! What comes out of each rule of a sequence by itself (W1 to W7, N1 and N2, I1 and I2), from the classes of a sequence.
+//! What comes out of each rule of a sequence by itself (W1 to W7, N1 and N2, I1 and I2), from the classes of a
+//! sequence.
 ghost use Rattle.std.specs.Prelude.{◌≡◌, length, IfOk};
 
 use crate::found::one_sequence;
