@@ -110,13 +110,16 @@ fn push_counting<L: Ledger>(
     push_result(alloc, verb, given, out, &mut Steps::<L>::new(blank))
 }
 
+/// Appends what comes out of a row with these inputs.
+fn push_for(alloc: Global, verb: &str, inputs: &[&str], out: &mut String) -> Result<()> {
+    let given = given_of(alloc, inputs)?;
+    push_counting::<Brand>(alloc, verb, &given, out, Blank::new(1))
+}
+
 impl Check for RuleRows {
     fn come_out(&self, alloc: Global, fields: &[&str], out: &mut String) -> Result<()> {
         match fields {
-            [verb, inputs @ ..] => {
-                let given = given_of(alloc, inputs)?;
-                push_counting::<Brand>(alloc, verb, &given, out, Blank::new(1))
-            }
+            [verb, inputs @ ..] => push_for(alloc, verb, inputs, out),
             [] => bail!("no verb"),
         }
     }
