@@ -10,6 +10,7 @@ mod found;
 mod given;
 mod in_order;
 mod rules;
+mod verb;
 
 use anyhow::{Result, bail};
 use before::{push_explicit, push_paragraphs, push_partners, push_sequences, push_successors};
@@ -26,6 +27,7 @@ use std::marker::Brand;
 use std::process::ExitCode;
 use std::sync::ledger::{Blank, Ledger};
 use units::steps::Steps;
+use verb::Verb;
 
 /// Rows of rules.
 #[derive(Clone, Copy)]
@@ -34,7 +36,7 @@ struct RuleRows;
 /// Appends a result before the rules of a sequence.
 fn push_found<L: Ledger>(
     alloc: Global,
-    verb: &str,
+    verb: Verb,
     given: &Given,
     out: &mut String,
     steps: &mut Steps<L>,
@@ -42,10 +44,10 @@ fn push_found<L: Ledger>(
     let n = given.units.len();
     let found = found_in(alloc, given, steps)?;
     match verb {
-        "level" => push_word(out, found.level.level().get())?,
-        "partners" => push_partners(out, &found.map, n)?,
-        "explicit" => push_explicit(out, &found.explicit, n)?,
-        "sequences" => push_sequences(out, &found.sequences)?,
+        Verb::Level => push_word(out, found.level.level().get())?,
+        Verb::Partners => push_partners(out, &found.map, n)?,
+        Verb::Explicit => push_explicit(out, &found.explicit, n)?,
+        Verb::Sequences => push_sequences(out, &found.sequences)?,
         _ => push_successors(out, &found.sequences)?,
     }
     Ok(())
@@ -78,27 +80,26 @@ fn push_resolved<L: Ledger>(
 /// Appends what comes out of a row.
 fn push_result<L: Ledger>(
     alloc: Global,
-    verb: &str,
+    verb: Verb,
     given: &Given,
     out: &mut String,
     steps: &mut Steps<L>,
 ) -> Result<()> {
     match verb {
-        "paragraphs" => Ok(push_paragraphs(out, &given.units)?),
-        "level" | "partners" | "explicit" | "sequences" | "successors" => {
-            push_found(alloc, verb, given, out, steps)
-        }
-        "pairs" => push_pairs(alloc, given, out, steps),
-        "W1 to I2" => push_in_order(alloc, given, out, steps),
-        "levels" => push_resolved(alloc, given, out, steps),
-        rule => push_rule(alloc, rule, given, out, steps),
+        Verb::Paragraphs => Ok(push_paragraphs(out, &given.units)?),
+        Verb::Level | Verb::Partners | Verb::Explicit | Verb::Sequences | Verb::Successors =>
+            push_found(alloc, verb, given, out, steps),
+        Verb::Pairs => push_pairs(alloc, given, out, steps),
+        Verb::InOrder => push_in_order(alloc, given, out, steps),
+        Verb::Levels => push_resolved(alloc, given, out, steps),
+        Verb::Rule(rule) => push_rule(alloc, rule, given, out, steps),
     }
 }
 
 /// Appends what comes out of a row, and counts steps from the blank.
 fn push_counting<L: Ledger>(
     alloc: Global,
-    verb: &str,
+    verb: Verb,
     given: &Given,
     out: &mut String,
     blank: Blank,
@@ -111,7 +112,7 @@ fn push_counting<L: Ledger>(
 }
 
 /// Appends what comes out of a row with these inputs.
-fn push_for(alloc: Global, verb: &str, inputs: &[&str], out: &mut String) -> Result<()> {
+fn push_for(alloc: Global, verb: Verb, inputs: &[&str], out: &mut String) -> Result<()> {
     let given = given_of(alloc, inputs)?;
     push_counting::<Brand>(alloc, verb, &given, out, Blank::new(1))
 }
@@ -119,7 +120,7 @@ fn push_for(alloc: Global, verb: &str, inputs: &[&str], out: &mut String) -> Res
 impl Check for RuleRows {
     fn come_out(&self, alloc: Global, fields: &[&str], out: &mut String) -> Result<()> {
         match fields {
-            [verb, inputs @ ..] => push_for(alloc, verb, inputs, out),
+            [verb, inputs @ ..] => push_for(alloc, Verb::of(verb)?, inputs, out),
             [] => bail!("no verb"),
         }
     }

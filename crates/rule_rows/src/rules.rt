@@ -4,7 +4,8 @@ ghost use Rattle.std.specs.Prelude.{◌≡◌, length, IfOk};
 
 use crate::found::one_sequence;
 use crate::given::{Given, classes_of};
-use anyhow::{Result, bail};
+use crate::verb::Rule;
+use anyhow::Result;
 use resolve::implicit::{implicit, resolve_levels};
 use resolve::neutral::neutral;
 use resolve::weak::weak;
@@ -28,39 +29,38 @@ enum Changed {
     Both,
 }
 
-/// Applies the rule, or the rules, with this name to a sequence. Returns which columns it gives.
+/// Applies a rule to a sequence. Returns which columns it gives.
 fn apply<L: Ledger>(
-    rule: &str,
+    rule: Rule,
     s: &Sequence,
     classes: &mut [Class],
     levels: &mut [Option<Level>],
     steps: &mut Steps<L>,
-) -> Result<Changed>
+) -> Changed
     requires classes { length classes.old ≡ s.now.extent }
     requires levels { length levels.old ≡ s.now.extent }
 {
     match rule {
-        "W1" => w1(s, classes, steps),
-        "W2" => w2(s, classes, steps),
-        "W3" => w3(s, classes, steps),
-        "W4" => w4(s, classes, steps),
-        "W5" => w5(s, classes, steps),
-        "W6" => w6(s, classes, steps),
-        "W7" => w7(s, classes, steps),
-        "W1 to W7" => weak_types(s, classes, steps),
-        "weak" => weak(s, classes, steps),
-        "N1, N2" => neutral(s, classes, steps),
-        "I1, I2" => {
+        Rule::W1 => w1(s, classes, steps),
+        Rule::W2 => w2(s, classes, steps),
+        Rule::W3 => w3(s, classes, steps),
+        Rule::W4 => w4(s, classes, steps),
+        Rule::W5 => w5(s, classes, steps),
+        Rule::W6 => w6(s, classes, steps),
+        Rule::W7 => w7(s, classes, steps),
+        Rule::EachWeak => weak_types(s, classes, steps),
+        Rule::Weak => weak(s, classes, steps),
+        Rule::Neutral => neutral(s, classes, steps),
+        Rule::Implicit => {
             implicit(s, classes, levels, steps);
-            return Ok(Changed::Levels);
+            return Changed::Levels;
         }
-        "N1 to I2" => {
+        Rule::NeutralToImplicit => {
             resolve_levels(s, classes, levels, steps);
-            return Ok(Changed::Both);
+            return Changed::Both;
         }
-        _ => bail!("no verb is {rule}"),
     }
-    Ok(Changed::Classes)
+    Changed::Classes
 }
 
 /// Returns the sequence of a paragraph of as many units, each of class ON, so that it has all positions.
@@ -105,7 +105,7 @@ fn push_columns(
 /// Appends what a rule gives for the classes of a sequence.
 pub fn push_rule<L: Ledger>(
     alloc: Global,
-    rule: &str,
+    rule: Rule,
     given: &Given,
     out: &mut String,
     steps: &mut Steps<L>,
@@ -113,7 +113,7 @@ pub fn push_rule<L: Ledger>(
     let sequences = neutral_sequence(alloc, given, steps)?;
     let mut classes = classes_of(alloc, &given.units)?;
     let mut levels = vec![in alloc; None; given.units.len()]?;
-    let changed = apply(rule, &sequences.get(0), &mut classes, &mut levels, steps)?;
+    let changed = apply(rule, &sequences.get(0), &mut classes, &mut levels, steps);
     push_columns(out, changed, &classes, &levels)?;
     Ok(())
 }
