@@ -1,5 +1,5 @@
 #!/usr/bin/env python3
-"""Says in which file of rows each test of before stands, and checks that none is lost.
+"""Says in which file of rows each test of before is, and checks that none is lost.
 
 usage: tools/rows_of_before.py
 

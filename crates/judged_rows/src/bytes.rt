@@ -1,7 +1,7 @@
 //! The bytes that a field of a row writes.
 //!
-//! `\n`, `\r` and `\t` are LF, CR and TAB, and `\xHH` is the byte with these hexadecimal digits. `{TEXT}*COUNT` stands
-//! for COUNT times TEXT. Any other character is its bytes in UTF-8.
+//! `\n`, `\r` and `\t` are LF, CR and TAB, and `\xHH` is the byte with these hexadecimal digits. `{TEXT}*COUNT` means
+//! COUNT times TEXT. Any other character is its bytes in UTF-8.
 
 use anyhow::{Context, Result, bail};
 use row_files::words::number_of;

@@ -3,8 +3,8 @@ ghost use Rattle.std.specs.Prelude.{◌≡◌, ◌≤◌, ◌<◌, length, IfOk}
 ghost use Rattle.units.specs.Classes.{classes_of};
 ghost use Rattle.resolve.specs.Resolved.{HasLevels, KeepsOtherLevels};
 
-use crate::found::one_sequence;
 use crate::given::{Given, classes_of, out_of_memory};
+use crate::results::one_sequence;
 use anyhow::Result;
 use resolve::implicit::implicit;
 use resolve::neutral::neutral;

@@ -6,18 +6,18 @@
 ghost use Rattle.std.specs.Prelude.{◌≡◌, ◌<◌};
 
 mod before;
-mod found;
 mod given;
 mod in_order;
+mod results;
 mod rules;
 mod verb;
 
 use anyhow::{Result, bail};
 use before::{push_explicit, push_paragraphs, push_partners, push_sequences, push_successors};
-use found::{Found, found_in};
 use given::{Given, given_of, is_paragraph, out_of_memory};
 use in_order::{push_in_order, push_pairs};
 use paragraph::resolver::Resolver;
+use results::{Results, results_in};
 use row_files::files::{Check, check_files};
 use row_files::shown::push_levels;
 use row_files::words::push_word;
@@ -34,7 +34,7 @@ use verb::Verb;
 struct RuleRows;
 
 /// Appends a result before the rules of a sequence.
-fn push_found<L: Ledger>(
+fn push_results<L: Ledger>(
     alloc: Global,
     verb: Verb,
     given: &Given,
@@ -42,7 +42,7 @@ fn push_found<L: Ledger>(
     steps: &mut Steps<L>,
 ) -> Result<()> {
     let n = given.units.len();
-    let found = found_in(alloc, given, steps)?;
+    let found = results_in(alloc, given, steps)?;
     match verb {
         Verb::Level => push_word(out, found.level.level().get())?,
         Verb::Partners => push_partners(out, &found.map, n)?,
@@ -88,7 +88,7 @@ fn push_result<L: Ledger>(
     match verb {
         Verb::Paragraphs => Ok(push_paragraphs(out, &given.units)?),
         Verb::Level | Verb::Partners | Verb::Explicit | Verb::Sequences | Verb::Successors =>
-            push_found(alloc, verb, given, out, steps),
+            push_results(alloc, verb, given, out, steps),
         Verb::Pairs => push_pairs(alloc, given, out, steps),
         Verb::InOrder => push_in_order(alloc, given, out, steps),
         Verb::Levels => push_resolved(alloc, given, out, steps),

@@ -2,8 +2,8 @@
 //! sequence.
 ghost use Rattle.std.specs.Prelude.{◌≡◌, length, IfOk};
 
-use crate::found::one_sequence;
 use crate::given::{Given, classes_of};
+use crate::results::one_sequence;
 use crate::verb::Rule;
 use anyhow::Result;
 use resolve::implicit::{implicit, resolve_levels};

@@ -20,7 +20,7 @@ use units::steps::Steps;
 
 /// The results for a paragraph before the rules of its sequences.
 #[derive(Drop)]
-pub struct Found {
+pub struct Results {
     /// The isolates (BD9).
     pub map: IsolateMap,
     /// The paragraph's level (P2, P3).
@@ -32,12 +32,12 @@ pub struct Found {
 }
 
 /// Makes the buffers for a paragraph of `n` positions, without results.
-fn rooms(alloc: Global, n: usize) -> Result<Found, Memory>
+fn rooms(alloc: Global, n: usize) -> Result<Results, Memory>
     ensures map { IfOk result (λ found. room found.map ≡ n) }
     ensures explicit { IfOk result (λ found. length found.explicit ≡ n) }
     ensures sequences { IfOk result (λ found. found.sequences.room ≡ n) }
 {
-    Ok(Found {
+    Ok(Results {
         map: IsolateMap::with_room(alloc, n)?,
         level: ParaLevel::Zero,
         explicit: Explicit::with_room(alloc, n)?,
@@ -47,7 +47,7 @@ fn rooms(alloc: Global, n: usize) -> Result<Found, Memory>
 
 /// Finds all these results. The buffers must have the capacity for the paragraph.
 fn fill<L: Ledger>(
-    found: &mut Found,
+    found: &mut Results,
     para: &[Unit],
     direction: Direction,
     limits: Limits,
@@ -77,7 +77,7 @@ fn fill<L: Ledger>(
 }
 
 /// Returns the results for these units. Fails if they are not one paragraph.
-pub fn found_in<L: Ledger>(alloc: Global, given: &Given, steps: &mut Steps<L>) -> Result<Found>
+pub fn results_in<L: Ledger>(alloc: Global, given: &Given, steps: &mut Steps<L>) -> Result<Results>
     ensures map { IfOk result (λ found. room found.map ≡ length given.now.units.items) }
     ensures explicit { IfOk result (λ found. length found.explicit ≡ length given.now.units.items) }
     ensures sequences { IfOk result (λ found. found.sequences.extent ≡ length given.now.units.items) }
@@ -105,7 +105,7 @@ pub fn one_sequence<L: Ledger>(
     ensures extent { IfOk result (λ sequences. sequences.extent ≡ length given.now.units.items) }
     ensures one { IfOk result (λ sequences. length sequences.all ≡ 1) }
 {
-    let Found { sequences, .. } = found_in(alloc, given, steps)?;
+    let Results { sequences, .. } = results_in(alloc, given, steps)?;
     if sequences.count() != 1 {
         bail!("the units are not one sequence");
     }
