@@ -46,6 +46,53 @@ rule_rows::each_rule_by_itself -> rule_rows/weak.txt 17, rule_rows/neutral.txt 2
 sequence_rows::finds_sequences -> rule_rows/sequences.txt 6
 """
 
+TABLE["file_tests"] = """
+arbitrary_rows::arbitrary_bytes_1_of_8 -> judged_rows/arbitrary.txt 22
+arbitrary_rows::arbitrary_bytes_2_of_8 -> judged_rows/arbitrary.txt 19
+arbitrary_rows::arbitrary_bytes_3_of_8 -> judged_rows/arbitrary.txt 12
+arbitrary_rows::arbitrary_bytes_4_of_8 -> judged_rows/arbitrary.txt 14
+arbitrary_rows::arbitrary_bytes_5_of_8 -> judged_rows/arbitrary.txt 18
+arbitrary_rows::arbitrary_bytes_6_of_8 -> judged_rows/arbitrary.txt 15
+arbitrary_rows::arbitrary_bytes_7_of_8 -> judged_rows/arbitrary.txt 11
+arbitrary_rows::arbitrary_bytes_8_of_8 -> judged_rows/arbitrary.txt 15
+characters_rows::rows_that_are_right -> judged_rows/characters.txt 9
+characters_rows::lines_that_are_malformed -> judged_rows/characters.txt 8
+characters_rows::rows_that_are_wrong -> judged_rows/characters.txt 6
+characters_rows::the_given_number_of_open_brackets_is_used -> judged_rows/characters.txt 2
+characters_rows::sources_are_read_to_the_end -> judged_rows/pieces.txt 1
+characters_rows::making_a_judge_succeeds -> judged_rows/pieces.txt 1
+characters_rows::no_growth_comes_after_making stays: it is run with each allocation failing in turn (tools/refused_growths.sh)
+classes_rows::rows_that_are_right -> judged_rows/classes.txt 6
+classes_rows::rows_by_rule -> judged_rows/classes.txt 12
+classes_rows::the_deepest_levels -> judged_rows/classes.txt 3
+classes_rows::the_given_depth_is_used -> judged_rows/classes.txt 4
+classes_rows::the_nearest_lists_are_in_force -> judged_rows/classes.txt 1
+classes_rows::rows_that_are_wrong -> judged_rows/classes.txt 7
+classes_rows::lines_that_are_malformed -> judged_rows/classes.txt 14
+judging::pieces_may_begin_anywhere -> judged_rows/pieces.txt 1
+judging::lines_up_to_the_longest -> judged_rows/classes.txt 4
+judging::a_line_without_end -> judged_rows/classes.txt 1
+judging::sources_are_read_to_the_end -> judged_rows/pieces.txt 1
+judging::a_failed_read_leaves_no_verdict -> judged_rows/pieces.txt 1
+judging::making_a_judge_succeeds -> judged_rows/pieces.txt 1
+judging::no_growth_comes_after_making stays: it is run with each allocation failing in turn (tools/refused_growths.sh)
+limit_rows::a_depth_from_1_to_125_and_up_to_63_brackets_are_allowed -> judged_rows/limits.txt 2
+limit_rows::a_depth_that_is_not_allowed_is_reported_before_too_many_brackets -> judged_rows/limits.txt 3
+reading::a_reader_is_read_up_to_its_limit -> judged_rows/pieces.txt 2
+reading::a_failed_read_leaves_no_verdict_on_characters -> judged_rows/pieces.txt 1
+report_faults::says_first_that_the_source_failed -> judged_rows/reports.txt 9
+report_faults::says_whether_all_was_written_before_the_source_failed -> judged_rows/reports.txt 5
+report_faults::says_else_that_a_write_failed -> judged_rows/reports.txt 6
+report_faults::reads_no_further_where_nobody_reads -> judged_rows/reports.txt 1
+sources::a_reader_of_as_many_bytes_as_allowed_is_read_to_its_end -> judged_rows/readers.txt 1
+sources::a_byte_past_the_limit_is_a_failure -> judged_rows/readers.txt 1
+sources::an_error_of_the_reader_says_why_it_failed -> judged_rows/readers.txt 5
+sources::an_error_of_the_reader_is_a_failure_for_good -> judged_rows/readers.txt 2
+verdict_line::prints_each_form_of_verdict -> judged_rows/verdicts.txt 4
+verdict_line::prints_verdicts_of_any_numbers -> judged_rows/verdicts.txt 39
+verdict_line::says_that_a_write_failed -> judged_rows/verdicts.txt 3
+"""
+
 TABLE["table_tests"] = """
 arbitrary_tables::arbitrary_bytes_state_no_table -> table_rows/sources.txt 3
 kit_classes::new_characters_differ_as_listed -> table_rows/standard.txt 7

@@ -203,11 +203,12 @@ impl File<'_> {
     }
 }
 
-/// Appends the line of a verdict.
+/// Appends the line of a verdict, without its LF. Fails if no LF ends it.
 pub fn push_verdict(alloc: Global, out: &mut String, verdict: &Verdict) -> Result<()> {
-    let mut line = Vec::new(alloc);
-    print_verdict(&mut line, verdict)?;
-    out.push_str(str::from_utf8(&line)?.trim())?;
+    let mut printed = Vec::new(alloc);
+    print_verdict(&mut printed, verdict)?;
+    let line = str::from_utf8(&printed)?.strip_suffix("\n");
+    out.push_str(line.context("no LF ends the line of a verdict")?)?;
     Ok(())
 }
 

@@ -2,13 +2,14 @@
 
 use crate::fault_words::push_fault;
 use crate::stated::{push_brackets, push_classes, push_images};
-use anyhow::{Result, bail};
+use anyhow::{Context, Result, bail};
 use row_files::bytes::arbitrary;
 use row_files::words::push_word;
 use std::alloc::{AllocError, Global};
 use std::io::{self, Read};
 use ucdfiles::bracket_table::BracketTable;
 use ucdfiles::class_table::ClassTable;
+use ucdfiles::fault::TableFault;
 use ucdfiles::mirror_table::MirrorTable;
 use units::cut_source::CutSource;
 use units::reader_source::ReaderSource;
@@ -33,29 +34,56 @@ pub fn kind_of(name: &str) -> Result<TableKind> {
     }
 }
 
-/// Appends what the file of a source states for these characters, or its fault.
-fn push_read<S: ByteSource>(
+/// Appends what the bytes of a file state for these characters, or their fault.
+pub fn push_outcome(
     alloc: Global,
     kind: TableKind,
-    source: &mut S,
+    bytes: &[u8],
     chars: &[char],
     out: &mut String,
 ) -> Result<(), AllocError> {
-    let fault = match kind {
-        TableKind::Classes => match ClassTable::read(alloc, source) {
-            Ok(table) => return push_classes(&table, chars, out),
-            Err(fault) => fault,
+    let mut source = SliceSource::new(bytes);
+    match kind {
+        TableKind::Classes => match ClassTable::read(alloc, &mut source) {
+            Ok(table) => push_classes(&table, chars, out),
+            Err(fault) => push_fault(out, fault),
         },
-        TableKind::Brackets => match BracketTable::read(alloc, source) {
-            Ok(table) => return push_brackets(alloc, &table, chars, out),
-            Err(fault) => fault,
+        TableKind::Brackets => match BracketTable::read(alloc, &mut source) {
+            Ok(table) => push_brackets(alloc, &table, chars, out),
+            Err(fault) => push_fault(out, fault),
         },
-        TableKind::Mirrors => match MirrorTable::read(alloc, source) {
-            Ok(table) => return push_images(&table, chars, out),
-            Err(fault) => fault,
+        TableKind::Mirrors => match MirrorTable::read(alloc, &mut source) {
+            Ok(table) => push_images(&table, chars, out),
+            Err(fault) => push_fault(out, fault),
         },
-    };
-    push_fault(out, fault)
+    }
+}
+
+/// Returns the fault of the file of a source.
+fn fault_in<S: ByteSource>(alloc: Global, kind: TableKind, source: &mut S) -> Option<TableFault> {
+    match kind {
+        TableKind::Classes => ClassTable::read(alloc, source).err(),
+        TableKind::Brackets => BracketTable::read(alloc, source).err(),
+        TableKind::Mirrors => MirrorTable::read(alloc, source).err(),
+    }
+}
+
+/// Appends the fault of a file whose source fails after these bytes. Fails if there is none, or if the fault is another
+/// than `Read` when the source fails earlier.
+pub fn push_cut_outcome(
+    alloc: Global,
+    kind: TableKind,
+    bytes: &[u8],
+    out: &mut String,
+) -> Result<()> {
+    for count in 0..bytes.len() {
+        if fault_in(alloc, kind, &mut CutSource::new(bytes, count)) != Some(TableFault::Read) {
+            bail!("the fault is not Read if the source fails after {count} bytes");
+        }
+    }
+    let fault = fault_in(alloc, kind, &mut CutSource::new(bytes, bytes.len()));
+    push_fault(out, fault.context("no fault comes of a source that fails")?)?;
+    Ok(())
 }
 
 /// Gives the bytes of a slice, at most `most` in each read.
@@ -75,61 +103,16 @@ impl Read for Pieces<'_> {
     }
 }
 
-/// Appends what the bytes of a file state for these characters, or their fault.
-pub fn push_outcome(
-    alloc: Global,
-    kind: TableKind,
-    bytes: &[u8],
-    chars: &[char],
-    out: &mut String,
-) -> Result<(), AllocError> {
-    push_read(alloc, kind, &mut SliceSource::new(bytes), chars, out)
-}
-
-/// Appends the fault of a file whose source fails after these bytes. Fails if one that fails earlier has another fault
-/// than `Read`.
-pub fn push_cut_outcome(
-    alloc: Global,
-    kind: TableKind,
-    bytes: &[u8],
-    out: &mut String,
-) -> Result<()> {
-    for count in 0..bytes.len() {
-        let mut before = String::new(alloc);
-        push_read(
-            alloc,
-            kind,
-            &mut CutSource::new(bytes, count),
-            &[],
-            &mut before,
-        )?;
-        if before.as_str() != "Read" {
-            bail!("{before} and not Read after {count} bytes");
-        }
-    }
-    push_read(
-        alloc,
-        kind,
-        &mut CutSource::new(bytes, bytes.len()),
-        &[],
-        out,
-    )?;
-    Ok(())
-}
-
 /// Returns whether these bytes have a fault with a line. Fails if they have another one in pieces.
 fn is_faulty(alloc: Global, kind: TableKind, bytes: &[u8]) -> Result<bool> {
-    let mut fault = String::new(alloc);
-    push_outcome(alloc, kind, bytes, &[], &mut fault)?;
+    let fault = fault_in(alloc, kind, &mut SliceSource::new(bytes));
     for most in [1, 7] {
         let mut source = ReaderSource::new(Pieces { bytes, most }, u64::MAX);
-        let mut again = String::new(alloc);
-        push_read(alloc, kind, &mut source, &[], &mut again)?;
-        if again.as_str() != fault.as_str() {
-            bail!("in pieces of {most} bytes {again}, but at once {fault}");
+        if fault_in(alloc, kind, &mut source) != fault {
+            bail!("the fault is another in pieces of {most} bytes");
         }
     }
-    Ok(fault.as_str().contains(' '))
+    Ok(fault.and_then(|fault| fault.line()).is_some())
 }
 
 /// Appends how many of 256 arbitrary files, one for each first byte, have a fault with a line.
