@@ -5,12 +5,13 @@
 #
 # usage: tools/try_tests.sh [CRATE ..]    (with no name: each crate that has tests or the stored output of a program)
 #
-# It leaves out the tests of the crates in LEFT_OUT, which make and fill large rooms, and names them: unproved they take
-# minutes each. Each test and each program may take SECONDS_OF_A_TEST, in place of the minute that `rt try` gives it. As
-# many crates run at once as there are processors, or as RT_JOBS says.
+# It leaves out the crates in LEFT_OUT, and names them. room_tests makes and fills large rooms, and takes minutes
+# unproved. judged_rows makes some judges for each row; unproved it doesn't end in the time that `rt try` gives it, and
+# its proved program takes seconds. Each test and each program may take SECONDS_OF_A_TEST, in place of the minute that
+# `rt try` gives it. As many crates run at once as there are processors, or as RT_JOBS says.
 set -u
 cd "$(dirname "$0")/.." || exit 2
-LEFT_OUT=(room_tests)
+LEFT_OUT=(room_tests judged_rows)
 SECONDS_OF_A_TEST=900
 work=$(mktemp -d) || exit 2
 trap 'rm -r "$work"' EXIT
@@ -56,7 +57,7 @@ fi
 asked=()
 for crate in "${crates[@]}"; do
     if [ $# -eq 0 ] && [[ " ${LEFT_OUT[*]} " == *" $crate "* ]]; then
-        echo "$crate: left out, it takes minutes (tools/try_tests.sh $crate)"
+        echo "$crate: left out, it takes long (see $0)"
     else
         asked+=("$crate")
     fi
