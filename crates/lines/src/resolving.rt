@@ -171,7 +171,7 @@ fn resolve_paragraph<L: Ledger>(
     let levels = &mut columns.levels;
     match resolve_uniform(text, contents, direction, levels, steps) {
         Some(level) => {
-            steps.add(PARAGRAPH_AND_LINE);
+            steps.add(2);
             write_paragraph(level, text.len(), columns, bounds);
             true
         }
