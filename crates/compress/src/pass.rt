@@ -666,8 +666,8 @@ fn next_remaining<L: Ledger>(para: &[Unit], start: usize, steps: &mut Steps<L>) 
     p
 }
 
-/// How many turns the pass may make before it gives up. It also gives up if there is no room for the chosen units, or if
-/// turns become too frequent for the rest of the paragraph.
+/// How many turns the pass may make before it gives up. It also gives up if there is no room for the chosen units, or
+/// if turns become too frequent for the rest of the paragraph.
 #[derive(Clone, Copy)]
 pub enum TurnLimit {
     /// At first one for twelve units: for texts that take few instructions in any case.
@@ -695,8 +695,8 @@ const UNASKED: Granted = Granted {
     asked: 0,
 };
 
-/// Returns how many turns the pass may have made at this position. Later these are more than the units for which there
-/// is room, since not every turn chooses one.
+/// Returns how many turns the pass may have made at this position. At the end of a paragraph these are some ten more
+/// than the units for which there is room, since not every turn chooses one.
 fn most_turns(limit: TurnLimit, p: usize) -> usize
     ensures { (n : ℕ) → p ≤ n → result ≤ n + 10 }
 {
