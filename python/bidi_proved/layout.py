@@ -145,7 +145,7 @@ class AnyRoom:
 
 
 class Room(AnyRoom):
-    """Memory for texts of up to `size` characters, 90 bytes for each, and for the layout of the last one.
+    """Memory for texts of up to `size` characters, 100 bytes for each, and for the layout of the last one.
 
     A program that lays out many texts makes one for each thread. A layout of it can be used until the room lays out the
     next text or breaks this one into other lines, and raises StaleLayout from then on. A call waits while another

@@ -22,7 +22,7 @@ def _call_for(errors: str) -> typing.Any:
 
 
 class Utf8Room(AnyRoom):
-    """Memory for texts of up to `size` bytes of UTF-8, 118 bytes for each, and for the layout of the last one.
+    """Memory for texts of up to `size` bytes of UTF-8, 128 bytes for each, and for the layout of the last one.
 
     A program that lays out many texts makes one for each thread. A layout of it can be used until the room lays out the
     next text or breaks this one into other lines, and raises StaleLayout from then on. A call waits while another

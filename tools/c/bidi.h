@@ -166,7 +166,7 @@ uint32_t bidi_is_left_to_right_utf8(const bidi_tables *tables, const uint8_t *te
 uint32_t bidi_is_left_to_right_utf16(const bidi_tables *tables, const uint16_t *text, size_t n, uint8_t *stays,
                                      uint64_t *place);
 
-/* Makes a room for texts of up to n code points, 90 bytes for each. What `room` contained before is freed after
+/* Makes a room for texts of up to n code points, 100 bytes for each. What `room` contained before is freed after
  * that. */
 uint32_t bidi_room_new(size_t n, bidi_room *room);
 void bidi_room_free(bidi_room *room);
@@ -233,7 +233,7 @@ size_t bidi_shown(const bidi_room *room, const bidi_tables *tables, const uint32
 
 /* Texts in UTF-8 and UTF-16, in offsets: the number of code units (bytes, or 16 bits) before something. */
 
-/* Makes a room for such texts of up to n code units, 118 bytes for each. It takes only texts in code units, and the
+/* Makes a room for such texts of up to n code units, 128 bytes for each. It takes only texts in code units, and the
  * rooms above take none. bidi_set_lines and bidi_line_of take no such room. All look-ups above do, and count in
  * characters. */
 uint32_t bidi_room_new_encoded(size_t n, bidi_room *room);

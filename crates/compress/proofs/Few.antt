@@ -95,14 +95,14 @@ module _ (ok : Class → Bool) (l : ok L ≡ true) (en : ok EN ≡ true) (es : o
       ok_onto back (top.0 ∷ us) p.1 (join_parts (ok top.0.class) (list_all ok_unit us) p.0 g)
 
 -- a class that remains and begins nothing
-abbrev fine : Class → Bool
+abbrev pub fine : Class → Bool
 fine c = is_flat c && is_remaining c
 
-abbrev fine_unit : BidiUnit → Bool
+abbrev pub fine_unit : BidiUnit → Bool
 fine_unit u = fine u.class
 
 -- flat, and by a test
-remaining_fine : (us : List BidiUnit) → IsFlat (classes_of us) → list_all fine_unit (remaining_units us) ≡ true
+pub remaining_fine : (us : List BidiUnit) → IsFlat (classes_of us) → list_all fine_unit (remaining_units us) ≡ true
 remaining_fine [] flat = refl
 remaining_fine (u ∷ us) flat =
     let here : is_flat u.class ≡ true = flat 0 L (omega arith) in
@@ -120,7 +120,7 @@ fine_flat (u ∷ us) h zero d lt = (both_parts (is_flat u.class) (is_remaining u
 fine_flat (u ∷ us) h (suc k) d lt = fine_flat us (both_parts (fine u.class) (list_all fine_unit us) h).1 k d (omega arith)
 
 -- where all remain
-fine_remain : (us : List BidiUnit) → list_all fine_unit us ≡ true → remaining_units us ≡ us
+pub fine_remain : (us : List BidiUnit) → list_all fine_unit us ≡ true → remaining_units us ≡ us
 fine_remain [] h = refl
 fine_remain (u ∷ us) h =
     let p = both_parts (fine u.class) (list_all fine_unit us) h in
@@ -142,12 +142,12 @@ map-copies : (w : ℕ) (l : ℕ) (ls : List ℕ) → map (λ l. Some l) (copies 
 map-copies zero l ls = refl
 map-copies (suc w) l ls = ap (λ vs. Some l ∷ vs) (map-copies w l ls)
 
-map-spread : (ws ls : List ℕ) → spread ws (map (λ l. Some l) ls) ≡ map (λ l. Some l) (spread ws ls)
+pub map-spread : (ws ls : List ℕ) → spread ws (map (λ l. Some l) ls) ≡ map (λ l. Some l) (spread ws ls)
 map-spread [] ls = refl
 map-spread (w ∷ ws) [] = refl
 map-spread (w ∷ ws) (l ∷ ls) = ap (λ vs. copies w (Some l) ++ vs) (map-spread ws ls) ∙ sym (map-copies w l (spread ws ls))
 
-placed-some : (us : List BidiUnit) (ls : List ℕ) → placed us (map (λ l. Some l) ls) ≡ by_remaining us ls
+pub placed-some : (us : List BidiUnit) (ls : List ℕ) → placed us (map (λ l. Some l) ls) ≡ by_remaining us ls
 placed-some [] ls = refl
 placed-some (u ∷ us) [] =
     ap (λ vs. if stays u then (None ∷ vs) else None ∷ placed us []) (placed-some us [])

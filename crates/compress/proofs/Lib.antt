@@ -22,7 +22,9 @@ pub mod Counting
 pub mod Passing
 pub mod Laying
 pub mod Runs
+pub mod Leading
 pub mod Placing
+pub mod Resolved
 pub mod Separators
 pub mod Knowing
 pub mod Unchanged

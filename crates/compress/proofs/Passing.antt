@@ -1,7 +1,6 @@
 -- Units that are passed after the one that was chosen last, and what leads on to the whole stack.
 use Rattle.std.specs.Prelude.{ℕ, zero, suc, ◌+◌, ◌-◌, ◌<◌, ◌≤◌, Bool, true, false, not, ◌&&◌, ◌||◌, ◌≡◌, List, [], ◌∷◌, length, drop, if◌then◌else◌, refl}
 use Rattle.std.proofs.Common.{arith, ap, sym, subst, ◌∙◌, inl, inr}
-use Rattle.std.proofs.lemmas.List.{drop_all}
 use Rattle.std.proofs.lemmas.Bool.{both_ways, cases_Bool, cond-true, cond-false}
 use Rattle.units.specs.Classes.{is_nonspacing, is_removed, is_strong}
 use Rattle.units.specs.declared.bracket.Unit.{Unit as BidiUnit}
@@ -375,10 +374,6 @@ next_for-unchanged sos (c ∷ back) u n s e h =
 
 pub next_for-plain : (sos : Class) (stack : Stack) (u : BidiUnit) (n : Class) → is_number_or_sign u.class ≡ false → u ≡ next_for sos stack u n
 next_for-plain sos stack u n h = next_for-unchanged sos stack u n (known_after sos stack).strong refl (plain_needs-none (known_after sos stack).strong u.class h)
-
--- nothing is tail at the end
-pub leads_to_end : (d : Class) (us : List BidiUnit) (stack : Stack) (p : ℕ) → length us ≤ p → LeadsOn d us stack p → stack ≡ squeezed d d [] (remaining_units us)
-leads_to_end d us stack p ge way = sym (ap (λ ws. squeezed d d stack (remaining_units ws)) (drop_all p us ge)) ∙ way
 
 -- the same of a run of units without brackets, whose classes are in a set
 pub run_leads : (d : Class) (us chosen starts : List BidiUnit) (k p e : ℕ) (top : BidiUnit) (has : Class → Bool) → top ≡ at chosen k →

@@ -1,26 +1,24 @@
 -- The levels of the few units, spread over the paragraph.
-use Rattle.std.specs.Prelude.{Option, None, ℕ, zero, suc, ◌+◌, ◌-◌, ◌<◌, ◌≤◌, ◌≡◌, ltb, Bool, true, false, not, List, [], ◌∷◌, ◌++◌, length, take, drop, slice_index_or, if◌then◌else◌, refl}
+use Rattle.std.specs.Prelude.{Option, None, ℕ, zero, suc, ◌+◌, ◌-◌, ◌<◌, ◌≤◌, ◌≡◌, ltb, Bool, true, false, List, [], ◌∷◌, ◌++◌, length, take, drop, slice_index_or, if◌then◌else◌, refl}
 use Rattle.std.proofs.Common.{arith, ap, sym, subst, ◌∙◌, inl, inr}
-use Rattle.std.proofs.lemmas.Bool.{cases_Bool, cases_lt, cond-true, cond-false, lt-ltb, le-ltb}
-use Rattle.std.proofs.lemmas.List.{drop_more, take_more, append_assoc, append-nil, get_or-take, ext_get_or, length-take-le}
+use Rattle.std.proofs.lemmas.Bool.{cases_lt, cond-true, cond-false, lt-ltb, le-ltb}
+use Rattle.std.proofs.lemmas.List.{drop_more}
 use Rattle.units.specs.Classes.{is_removed}
-use Rattle.units.specs.Layout.{no_unit, resolved_levels}
-use Rattle.units.specs.Runs.{direction_of}
 use Rattle.units.specs.declared.bracket.Unit.{Unit as BidiUnit}
-use Rattle.compress.specs.Laid.{start_at, remaining_before, stack_of, bottom_of, AreRising, IsLaid, AreFew, level_by, ResolvesFrom}
-use Rattle.compress.specs.Paragraph.{head_of, tail_of, placed, few_units, few_counts}
+use Rattle.compress.specs.Laid.{start_at, remaining_before, stack_of, bottom_of, AreRising, IsLaid, level_by}
+use Rattle.compress.specs.Paragraph.{head_of, tail_of, placed}
 use Rattle.compress.specs.Remaining.{stays, remaining_units}
 use Rattle.compress.specs.Spread.{copies, spread}
-use Rattle.compress.specs.Squeeze.{Stack, units_onto, counts_onto}
+use Rattle.compress.specs.Squeeze.{counts_onto}
 use Rattle.compress.proofs.Counting.{at, remaining_chosen, remaining_up_to}
-use Rattle.compress.proofs.Few.{resolves_by_few}
 
--- the levels from `end` on are written, those of the last chosen units after the first k
-pub record IsSpread (us starts : List BidiUnit) (m : ℕ) (old levels : List (Option ℕ)) (end k : ℕ) : Type 0 where
+-- the levels from `end` up to `stop` are written, those of the last chosen units after the first k
+pub record IsSpread (us starts : List BidiUnit) (m stop : ℕ) (old levels : List (Option ℕ)) (end k : ℕ) : Type 0 where
   pub few : k ≤ m
   pub rising : AreRising starts k end
-  pub within : end ≤ length us
-  pub done : (p : ℕ) → end ≤ p → p < length us → slice_index_or levels p None ≡ level_by us starts old m p
+  pub within : end ≤ stop
+  pub done : (p : ℕ) → end ≤ p → p < stop → slice_index_or levels p None ≡ level_by us starts old m p
+  pub kept : (p : ℕ) → stop ≤ p → slice_index_or levels p None ≡ slice_index_or old p None
   pub rest : (p : ℕ) → p < k → slice_index_or levels p None ≡ slice_index_or old p None
   pub lower : (p : ℕ) → p < end → level_by us starts old m p ≡ level_by us starts old k p
 
@@ -42,12 +40,12 @@ not_before starts m end (suc k) r lt =
     let g = r.rise k lt in
     omega arith
 
-spread_next : (us starts : List BidiUnit) (m : ℕ) (old levels new : List (Option ℕ)) (end start j : ℕ) (level : Option ℕ) →
-    IsSpread us starts m old levels end (suc j) → start ≡ start_at starts j → level ≡ slice_index_or levels j None →
+spread_next : (us starts : List BidiUnit) (m stop : ℕ) (old levels new : List (Option ℕ)) (end start j : ℕ) (level : Option ℕ) →
+    IsSpread us starts m stop old levels end (suc j) → start ≡ start_at starts j → level ≡ slice_index_or levels j None →
     ((p : ℕ) → start ≤ p → p < end → slice_index_or new p None ≡ (if is_removed (at us p).class then None else level)) →
     ((p : ℕ) → p < j → slice_index_or new p None ≡ slice_index_or levels p None) →
-    ((p : ℕ) → end ≤ p → slice_index_or new p None ≡ slice_index_or levels p None) → IsSpread us starts m old new start j
-spread_next us starts m old levels new end start j level s e v inside below above =
+    ((p : ℕ) → end ≤ p → slice_index_or new p None ≡ slice_index_or levels p None) → IsSpread us starts m stop old new start j
+spread_next us starts m stop old levels new end start j level s e v inside below above =
     let low = s.rising.low j (omega arith) in
     let number = not_before starts (suc j) end j s.rising (omega arith) in
     let within = s.within in
@@ -70,6 +68,7 @@ spread_next us starts m old levels new end start j level s e v inside below abov
             (if is_removed (at us p).class then None else slice_index_or old j None) t))
         | inr there ↦ above p there ∙ s.done p there lt
       ];
+      kept = λ p ge. above p (omega arith) ∙ s.kept p ge;
       rest = λ p lt. below p lt ∙ s.rest p (omega arith);
       lower = λ p lt.
           (let t : ltb p (start_at starts j) ≡ true = lt-ltb p (start_at starts j) (omega arith) in
@@ -78,34 +77,35 @@ spread_next us starts m old levels new end start j level s e v inside below abov
           (if is_removed (at us p).class then None else slice_index_or old j None) t);
     }
 
-pub spread_one : (us starts : List BidiUnit) (m : ℕ) (old levels new : List (Option ℕ)) (end start k : ℕ) (level : Option ℕ) → 0 < k →
-    IsSpread us starts m old levels end k → start ≡ start_at starts (k - 1) → level ≡ slice_index_or levels (k - 1) None →
+pub spread_one : (us starts : List BidiUnit) (m stop : ℕ) (old levels new : List (Option ℕ)) (end start k : ℕ) (level : Option ℕ) → 0 < k →
+    IsSpread us starts m stop old levels end k → start ≡ start_at starts (k - 1) → level ≡ slice_index_or levels (k - 1) None →
     ((p : ℕ) → start ≤ p → p < end → slice_index_or new p None ≡ (if is_removed (at us p).class then None else level)) →
     ((p : ℕ) → p < k - 1 → slice_index_or new p None ≡ slice_index_or levels p None) →
-    ((p : ℕ) → end ≤ p → slice_index_or new p None ≡ slice_index_or levels p None) → IsSpread us starts m old new start (k - 1)
-spread_one us starts m old levels new end start zero level lt s e v inside below above = absurd (omega arith)
-spread_one us starts m old levels new end start (suc j) level lt s e v inside below above =
+    ((p : ℕ) → end ≤ p → slice_index_or new p None ≡ slice_index_or levels p None) → IsSpread us starts m stop old new start (k - 1)
+spread_one us starts m stop old levels new end start zero level lt s e v inside below above = absurd (omega arith)
+spread_one us starts m stop old levels new end start (suc j) level lt s e v inside below above =
     let one : suc j - 1 ≡ j = omega arith in
-    subst (λ i. IsSpread us starts m old new start i) (sym one)
-    (spread_next us starts m old levels new end start j level s (e ∙ ap (start_at starts) one) (v ∙ ap (λ i. slice_index_or levels i None) one) inside
+    subst (λ i. IsSpread us starts m stop old new start i) (sym one)
+    (spread_next us starts m stop old levels new end start j level s (e ∙ ap (start_at starts) one) (v ∙ ap (λ i. slice_index_or levels i None) one) inside
     (λ p lt. below p (omega (arith, lt))) above)
 
 -- the next one begins no earlier than its number
-pub starts_above : (us starts : List BidiUnit) (m : ℕ) (old levels : List (Option ℕ)) (end k : ℕ) → 0 < k → IsSpread us starts m old levels end k →
+pub starts_above : (us starts : List BidiUnit) (m stop : ℕ) (old levels : List (Option ℕ)) (end k : ℕ) → 0 < k → IsSpread us starts m stop old levels end k →
     k - 1 ≤ start_at starts (k - 1)
-starts_above us starts m old levels end k lt s = not_before starts k end (k - 1) s.rising (omega arith)
+starts_above us starts m stop old levels end k lt s = not_before starts k end (k - 1) s.rising (omega arith)
 
 -- and before the end
-pub starts_below : (us starts : List BidiUnit) (m : ℕ) (old levels : List (Option ℕ)) (end k : ℕ) → 0 < k → IsSpread us starts m old levels end k →
+pub starts_below : (us starts : List BidiUnit) (m stop : ℕ) (old levels : List (Option ℕ)) (end k : ℕ) → 0 < k → IsSpread us starts m stop old levels end k →
     start_at starts (k - 1) < end
-starts_below us starts m old levels end k lt s = s.rising.low (k - 1) (omega arith)
+starts_below us starts m stop old levels end k lt s = s.rising.low (k - 1) (omega arith)
 
-pub spread_none : (us starts : List BidiUnit) (m : ℕ) (old : List (Option ℕ)) → IsLaid us starts m (length us) → IsSpread us starts m old old (length us) m
-spread_none us starts m old laid = record {
+pub spread_none : (us starts : List BidiUnit) (m stop : ℕ) (old : List (Option ℕ)) → IsLaid us starts m stop → IsSpread us starts m stop old old stop m
+spread_none us starts m stop old laid = record {
   few = omega arith;
   rising = laid.rising;
   within = omega arith;
   done = λ p le lt. absurd (omega arith);
+  kept = λ p ge. refl;
   rest = λ p lt. refl;
   lower = λ p lt. refl;
 }
@@ -115,15 +115,21 @@ none_either true = refl
 none_either false = refl
 
 -- all are written once what is before the first has no level
-pub spread_all : (us starts : List BidiUnit) (m : ℕ) (old levels new : List (Option ℕ)) (end : ℕ) → IsSpread us starts m old levels end 0 →
+pub spread_all : (us starts : List BidiUnit) (m stop : ℕ) (old levels new : List (Option ℕ)) (end : ℕ) → IsSpread us starts m stop old levels end 0 →
     ((p : ℕ) → 0 ≤ p → p < end → slice_index_or new p None ≡ (if is_removed (at us p).class then None else None)) →
     ((p : ℕ) → end ≤ p → slice_index_or new p None ≡ slice_index_or levels p None) →
-    (p : ℕ) → p < length us → slice_index_or new p None ≡ level_by us starts old m p
-spread_all us starts m old levels new end s inside above p lt =
+    (p : ℕ) → p < stop → slice_index_or new p None ≡ level_by us starts old m p
+spread_all us starts m stop old levels new end s inside above p lt =
     elim (cases_lt p end) [
       | inl here ↦ inside p (omega arith) here ∙ none_either (is_removed (at us p).class) ∙ sym (s.lower p here)
       | inr there ↦ above p there ∙ s.done p there lt
     ]
+
+-- and what is after these is as it was
+pub spread_kept : (us starts : List BidiUnit) (m stop : ℕ) (old levels new : List (Option ℕ)) (end : ℕ) → IsSpread us starts m stop old levels end 0 →
+    ((p : ℕ) → end ≤ p → slice_index_or new p None ≡ slice_index_or levels p None) →
+    (p : ℕ) → stop ≤ p → slice_index_or new p None ≡ slice_index_or old p None
+spread_kept us starts m stop old levels new end s above p ge = let within = s.within in above p (omega arith) ∙ s.kept p ge
 
 -- by position
 get-copies : (w : ℕ) (x : Option ℕ) (xs : List (Option ℕ)) (r : ℕ) → r < w → slice_index_or (copies w x ++ xs) r None ≡ x
@@ -159,7 +165,7 @@ placed_later true u us vs q h =
     h (tail_of vs) ∙ ap (λ (o : Option ℕ). if stays (at us q) then o else None) (tail_is vs (remaining_before us q) ∙ ap (λ i. slice_index_or vs i None) z)
 placed_later false u us vs q h = h vs
 
-placed_at : (us : List BidiUnit) (vs : List (Option ℕ)) (p : ℕ) → p < length us →
+pub placed_at : (us : List BidiUnit) (vs : List (Option ℕ)) (p : ℕ) → p < length us →
     slice_index_or (placed us vs) p None ≡ (if stays (at us p) then slice_index_or vs (remaining_before us p) None else None)
 placed_at [] vs p lt = absurd (omega arith)
 placed_at (u ∷ us) vs zero lt = placed_first (stays u) us vs
@@ -170,7 +176,7 @@ placed_length : (b : Bool) (us : List BidiUnit) (vs : List (Option ℕ)) → ((w
 placed_length true us vs h = ap (λ n. suc n) (h (tail_of vs))
 placed_length false us vs h = ap (λ n. suc n) (h vs)
 
-length-placed : (us : List BidiUnit) (vs : List (Option ℕ)) → length (placed us vs) ≡ length us
+pub length-placed : (us : List BidiUnit) (vs : List (Option ℕ)) → length (placed us vs) ≡ length us
 length-placed [] vs = refl
 length-placed (u ∷ us) vs = placed_length (stays u) us vs (λ ws. length-placed us ws)
 
@@ -182,11 +188,11 @@ module _ (us chosen starts : List BidiUnit) (few : List (Option ℕ)) where
   spread_of m end ws = spread (counts_onto (stack_of us chosen starts m end) ws) few
 
   -- the first m begin at these, below the end
-  record IsBelow (m end : ℕ) : Type 0 where
-    low : (k : ℕ) → k < m → start_at starts k < end
-    rise : (k : ℕ) → suc k < m → start_at starts k < start_at starts (suc k)
-    within : end ≤ length us
-    none : before (bottom_of starts m end) ≡ 0
+  pub record IsBelow (m end : ℕ) : Type 0 where
+    pub low : (k : ℕ) → k < m → start_at starts k < end
+    pub rise : (k : ℕ) → suc k < m → start_at starts k < start_at starts (suc k)
+    pub within : end ≤ length us
+    pub none : before (bottom_of starts m end) ≡ 0
 
   below_less : (m end : ℕ) → IsBelow (suc m) end → IsBelow m (start_at starts m)
   below_less zero end b = let low = b.low 0 (omega arith) in let within = b.within in record {
@@ -203,7 +209,7 @@ module _ (us chosen starts : List BidiUnit) (few : List (Option ℕ)) where
   }
 
   -- what is counted after them
-  spread_beyond : (m end : ℕ) (ws : List ℕ) (r : ℕ) → m ≤ length few → IsBelow m end →
+  pub spread_beyond : (m end : ℕ) (ws : List ℕ) (r : ℕ) → m ≤ length few → IsBelow m end →
       slice_index_or (spread_of m end ws) (before end + r) None ≡ slice_index_or (spread ws (drop m few)) r None
   spread_beyond zero end ws r le b =
       let none = b.none in
@@ -232,7 +238,7 @@ module _ (us chosen starts : List BidiUnit) (few : List (Option ℕ)) where
       ∙ ap (λ xs. slice_index_or (spread (w ∷ ws) xs) r None) (drop_more few m None le)
       ∙ get-copies w (slice_index_or few m None) (spread ws (drop (m + 1) few)) r lt
 
-  spread_at : (m end : ℕ) (ws : List ℕ) (p : ℕ) → m ≤ length few → IsBelow m end → p < end → is_removed (at us p).class ≡ false →
+  pub spread_at : (m end : ℕ) (ws : List ℕ) (p : ℕ) → m ≤ length few → IsBelow m end → p < end → is_removed (at us p).class ≡ false →
       slice_index_or (spread_of m end ws) (before p) None ≡ level_by us starts few m p
   spread_at zero end ws p le b lt f =
       let within = b.within in
@@ -265,53 +271,7 @@ module _ (us chosen starts : List BidiUnit) (few : List (Option ℕ)) where
   level_removed true r x y h t = h
   level_removed false r x y h t = cond-true r None y t
 
-  level_by-removed : (m p : ℕ) → is_removed (at us p).class ≡ true → level_by us starts few m p ≡ None
+  pub level_by-removed : (m p : ℕ) → is_removed (at us p).class ≡ true → level_by us starts few m p ≡ None
   level_by-removed zero p t = refl
   level_by-removed (suc m) p t =
       level_removed (ltb p (start_at starts m)) (is_removed (at us p).class) (level_by us starts few m p) (slice_index_or few m None) (level_by-removed m p t) t
-
-  -- all levels
-  levels_placed : (m : ℕ) (levels : List (Option ℕ)) → m ≤ length few → IsBelow m (length us) → length levels ≡ length us →
-      ((p : ℕ) → p < length us → slice_index_or levels p None ≡ level_by us starts few m p) → levels ≡ placed us (spread_of m (length us) [])
-  levels_placed m levels le b n h =
-      let all : List (Option ℕ) = spread_of m (length us) [] in
-      let k = length-placed us (spread_of m (length us) []) in
-      ext_get_or None levels (placed us all) (omega arith) (λ p lt.
-      let inside : p < length us = omega arith in
-      h p inside ∙ sym (placed_at us all p inside ∙ elim (cases_Bool (is_removed (at us p).class)) [
-        | inl t ↦ cond-false (stays (at us p)) (slice_index_or all (before p) None) None (ap not t) ∙ sym (level_by-removed m p t)
-        | inr f ↦ cond-true (stays (at us p)) (slice_index_or all (before p) None) None (ap not f) ∙ spread_at m (length us) [] p le b inside f
-      ]))
-
--- the few, in order
-units_onto-taken : (us chosen starts : List BidiUnit) (m end : ℕ) (after : List BidiUnit) → m ≤ length chosen → units_onto (stack_of us chosen starts m end) after ≡ take m chosen ++ after
-units_onto-taken us chosen starts zero end after le = refl
-units_onto-taken us chosen starts (suc m) end after le =
-    let more : suc m ≡ m + 1 = omega arith in
-    units_onto-taken us chosen starts m (start_at starts m) (at chosen m ∷ after) (omega arith)
-    ∙ sym (ap (λ n. take n chosen ++ after) more ∙ ap (λ xs. xs ++ after) (take_more chosen m no_unit le) ∙ append_assoc (take m chosen) (at chosen m ∷ []) after)
-
-pub few_are : (us chosen starts : List BidiUnit) (m para : ℕ) → AreFew (direction_of para) us chosen starts m → take m chosen ≡ few_units us para
-few_are us chosen starts m para few =
-    sym (append-nil (take m chosen)) ∙ sym (units_onto-taken us chosen starts m (length us) [] few.fits) ∙ ap (λ (st : Stack). units_onto st []) few.stack
-
-level_by-taken : (us starts : List BidiUnit) (old : List (Option ℕ)) (m k p : ℕ) → k ≤ m → level_by us starts old k p ≡ level_by us starts (take m old) k p
-level_by-taken us starts old m zero p le = refl
-level_by-taken us starts old m (suc k) p le =
-    ap (λ (o : Option ℕ). if ltb p (start_at starts k) then o else (if is_removed (at us p).class then None else slice_index_or old k None)) (level_by-taken us starts old m k p (omega arith))
-    ∙ ap (λ (o : Option ℕ). if ltb p (start_at starts k) then level_by us starts (take m old) k p else (if is_removed (at us p).class then None else o)) (sym (get_or-take m old k None (omega arith)))
-
-pub spread_resolves : (us starts : List BidiUnit) (m : ℕ) (old levels : List (Option ℕ)) → m ≤ length old → length levels ≡ length us →
-    ((p : ℕ) → p < length us → slice_index_or levels p None ≡ level_by us starts old m p) → ResolvesFrom us starts m old levels
-spread_resolves us starts m old levels le n h limits para chosen flat few is =
-    let short : length (take m old) ≡ m = length-take-le m old le in
-    let below : IsBelow us chosen starts (take m old) m (length us) = record {
-      low = few.laid.rising.low;
-      rise = few.laid.rising.rise;
-      within = omega arith;
-      none = few.laid.none_before;
-    } in
-    levels_placed us chosen starts (take m old) m levels (omega arith) below n (λ p lt. h p lt ∙ level_by-taken us starts old m m p (omega arith))
-    ∙ ap (λ (st : Stack). placed us (spread (counts_onto st []) (take m old))) few.stack
-    ∙ ap (λ vs. placed us (spread (few_counts us para) vs)) (is ∙ ap (λ ws. resolved_levels limits ws para) (few_are us chosen starts m para few))
-    ∙ sym (resolves_by_few limits us para flat)

@@ -36,16 +36,21 @@ Spreads F all now ws = F all ≡ spread ws (F now)
 abbrev pub Drops : {A B : Type 0} → (List A → List B) → ℕ → A → List A → Type 0
 Drops F k d now = F (put k d now) ≡ twice k (F now)
 
+-- the same of any items
+pub spread_less : {A B : Type 0} (F : List A → List B) (ys : List B) (now : List A) (ws : List ℕ) (k : ℕ) (d : A) → ys ≡ spread ws (F (put k d now)) → Drops F k d now →
+    ys ≡ spread (merged k ws) (F now)
+spread_less F ys now ws k d s e = s ∙ ap (spread ws) e ∙ spread-twice ws k (F now)
+
 -- one more is dropped
 pub spreads_less : {A B : Type 0} (F : List A → List B) (all now : List A) (ws : List ℕ) (k : ℕ) (d : A) → Spreads F all (put k d now) ws → Drops F k d now →
     Spreads F all now (merged k ws)
-spreads_less F all now ws k d s e = s ∙ ap (spread ws) e ∙ spread-twice ws k (F now)
+spreads_less F all now ws k d s e = spread_less F (F all) now ws k d s e
 
-spread-ones : {B : Type 0} (ys : List B) → spread (ones ys) ys ≡ ys
+pub spread-ones : {B : Type 0} (ys : List B) → spread (ones ys) ys ≡ ys
 spread-ones [] = refl
 spread-ones (y ∷ ys) = ap (λ zs. y ∷ zs) (spread-ones ys)
 
-ones-length : {A B : Type 0} (xs : List A) (ys : List B) → length xs ≡ length ys → ones xs ≡ ones ys
+pub ones-length : {A B : Type 0} (xs : List A) (ys : List B) → length xs ≡ length ys → ones xs ≡ ones ys
 ones-length [] [] e = refl
 ones-length [] (y ∷ ys) e = absurd (omega arith)
 ones-length (x ∷ xs) [] e = absurd (omega arith)

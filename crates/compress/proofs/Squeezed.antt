@@ -1,5 +1,5 @@
 -- The pass that leaves units out: the levels of all units are those of the ones chosen, each as often as it counts.
-use Rattle.std.specs.Prelude.{ℕ, suc, ◌+◌, ◌<◌, Bool, true, false, ◌&&◌, ◌||◌, not, ◌≡◌, List, [], ◌∷◌, length, if◌then◌else◌, refl}
+use Rattle.std.specs.Prelude.{ℕ, suc, ◌+◌, ◌<◌, Bool, true, false, ◌&&◌, ◌||◌, not, ◌≡◌, List, [], ◌∷◌, length, drop, if◌then◌else◌, refl}
 use Rattle.std.proofs.Common.{arith, ap, sym, subst, ◌∙◌, ◌⊎◌, inl, inr}
 use Rattle.std.proofs.lemmas.Bool.{cases_Bool, cond-true, cond-false}
 use Rattle.std.proofs.lemmas.List.{length-map}
@@ -16,6 +16,7 @@ use Rattle.units.specs.declared.class.Class.TheVariants.{L, R, AL, EN, ES, ET, A
 use Rattle.units.proofs.Lengths.{length-after_weak, length-after_paired, length-after_neutral, length-classes_of}
 use Rattle.explicit.specs.Flat.{IsFlat}
 use Rattle.resolve.specs.declared.preceding.Preceding.{Preceding}
+use Rattle.compress.specs.Laid.{LeadsOn}
 use Rattle.compress.specs.Remaining.{remaining_units, by_remaining, at_level}
 use Rattle.compress.specs.Spread.{put, spread, merged, ones, may_repeat, is_space, is_quiet, is_firm, is_still, is_apart, is_no_number}
 use Rattle.compress.specs.Squeeze.{Stack, is_bare, repeats, is_directed, is_one_way, joins, is_between, comma_between, class_for, unit_for, known_after, popped, added, next_for, turned, first_unit, squeezed, units_onto, counts_onto}
@@ -25,7 +26,7 @@ use Rattle.compress.proofs.ByUnits.{unit_at, class_of-unit, mark_lemma, repeat_l
 use Rattle.compress.proofs.Removed.{resolved_levels-remaining}
 use Rattle.compress.proofs.Replacing.{known_past, separator_is_neutral, separator_ends, terminator_is_neutral, number_is_letter, separator_joins_en, separator_joins_an}
 use Rattle.compress.proofs.Sound.{both_parts}
-use Rattle.compress.proofs.Spreading.{Drops, spreads_start, spreads_less}
+use Rattle.compress.proofs.Spreading.{Drops, spreads_start, spread_less}
 use Rattle.compress.proofs.Swapping.{unit_swaps}
 
 -- a stack of units before others
@@ -237,11 +238,15 @@ class_for-mark s c u n = refl
 pub length-unit_levels : (most : ℕ) (s : SequenceView) (us : List BidiUnit) → length (unit_levels most s us) ≡ length us
 length-unit_levels most s us = grind (arith, length-map, length-after_neutral, length-after_paired, length-after_weak, length-classes_of)
 
--- so far: the levels of all are those of the ones chosen and of the ones that are tail
-abbrev pub Squeezing : ℕ → SequenceView → List BidiUnit → Stack → List BidiUnit → Type 0
-Squeezing most s all stack tail = unit_levels most s all ≡ spread (counts_onto stack (ones tail)) (unit_levels most s (units_onto stack tail))
+-- the levels of the ones chosen and of the ones that are tail, each as often as it counts
+abbrev pub levels_by : ℕ → SequenceView → Stack → List BidiUnit → List ℕ
+levels_by most s stack tail = spread (counts_onto stack (ones tail)) (unit_levels most s (units_onto stack tail))
 
-module _ (most : ℕ) (s : SequenceView) (all : List BidiUnit) where
+-- so far: these levels are those
+abbrev pub Squeezing : ℕ → SequenceView → List ℕ → Stack → List BidiUnit → Type 0
+Squeezing most s all stack tail = all ≡ levels_by most s stack tail
+
+module _ (most : ℕ) (s : SequenceView) (all : List ℕ) where
   abbrev F : List BidiUnit → List ℕ
   F = unit_levels most s
 
@@ -360,10 +365,10 @@ module _ (most : ℕ) (s : SequenceView) (all : List BidiUnit) where
 
   -- one less
   squeezing_less : (back : Stack) (c d : BidiUnit) (v w : ℕ) (tail : List BidiUnit) →
-      unit_levels most s all ≡ spread (counts_onto back (v ∷ w ∷ ones tail)) (unit_levels most s (units_onto back (c ∷ d ∷ tail))) →
+      all ≡ spread (counts_onto back (v ∷ w ∷ ones tail)) (unit_levels most s (units_onto back (c ∷ d ∷ tail))) →
       Drops (unit_levels most s) (length back) d (units_onto back (c ∷ tail)) → Squeezing most s all ((c, v + w) ∷ back) tail
   squeezing_less back c d v w tail q drops =
-      spreads_less (unit_levels most s) all (units_onto back (c ∷ tail)) (counts_onto back (v ∷ w ∷ ones tail)) (length back) d
+      spread_less (unit_levels most s) all (units_onto back (c ∷ tail)) (counts_onto back (v ∷ w ∷ ones tail)) (length back) d
       (q ∙ ap (λ us. spread (counts_onto back (v ∷ w ∷ ones tail)) (unit_levels most s us)) (sym (top_put back c d tail))) drops
       ∙ ap (λ ws. spread ws (unit_levels most s (units_onto back (c ∷ tail)))) (top_merged back v w (ones tail))
 
@@ -396,8 +401,16 @@ module _ (most : ℕ) (s : SequenceView) (all : List BidiUnit) where
   squeezing_ends stack [] q = q
   squeezing_ends stack (u ∷ tail) q = squeezing_ends (turned direction s.sos stack u (first_unit tail).class) tail (squeezing_turns stack u tail q)
 
-  pub squeezed_levels : unit_levels most s all ≡ spread (counts_onto (squeezed (direction_of s.level) s.sos [] all) []) (unit_levels most s (units_onto (squeezed (direction_of s.level) s.sos [] all) []))
-  squeezed_levels = squeezing_ends [] all (spreads_start (unit_levels most s) all (length-unit_levels most s all))
+pub squeezed_levels : (most : ℕ) (s : SequenceView) (all : List BidiUnit) → unit_levels most s all ≡ levels_by most s (squeezed (direction_of s.level) s.sos [] all) []
+squeezed_levels most s all =
+    squeezing_ends most s (unit_levels most s all) [] all (spreads_start (unit_levels most s) all (length-unit_levels most s all))
+
+-- units after a stack that lead to the stack of all: all have the levels of the ones chosen and of these
+pub leading_levels : (most : ℕ) (s : SequenceView) (all : List BidiUnit) (stack : Stack) (tail : List BidiUnit) →
+    squeezed (direction_of s.level) s.sos stack tail ≡ squeezed (direction_of s.level) s.sos [] all → unit_levels most s all ≡ levels_by most s stack tail
+leading_levels most s all stack tail leads =
+    squeezed_levels most s all ∙ ap (λ (st : Stack). levels_by most s st []) (sym leads)
+    ∙ sym (squeezing_ends most s (levels_by most s stack tail) stack tail refl)
 
 -- a flat paragraph
 pub squeezed_paragraph : (limits : LimitsOf) (us : List BidiUnit) (para : ℕ) → IsFlat (classes_of us) →
@@ -406,3 +419,11 @@ pub squeezed_paragraph : (limits : LimitsOf) (us : List BidiUnit) (para : ℕ) �
     (unit_levels limits.brackets (at_level para) (units_onto (squeezed (direction_of para) (direction_of para) [] (remaining_units us)) [])))
 squeezed_paragraph limits us para flat =
     resolved_levels-remaining limits us para flat ∙ ap (by_remaining us) (squeezed_levels limits.brackets (at_level para) (remaining_units us))
+
+-- the same, by what was chosen before a position and by all units that remain from it on
+pub leading_paragraph : (limits : LimitsOf) (us : List BidiUnit) (para : ℕ) (stack : Stack) (end : ℕ) → IsFlat (classes_of us) →
+    LeadsOn (direction_of para) us stack end →
+    resolved_levels limits us para ≡ by_remaining us (levels_by limits.brackets (at_level para) stack (remaining_units (drop end us)))
+leading_paragraph limits us para stack end flat leads =
+    resolved_levels-remaining limits us para flat
+    ∙ ap (by_remaining us) (leading_levels limits.brackets (at_level para) (remaining_units us) stack (remaining_units (drop end us)) leads)

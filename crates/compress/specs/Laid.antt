@@ -1,5 +1,5 @@
 -- The stack of the pass, as two columns contain it: the units that are chosen, and the position at which each begins.
-use Rattle.std.specs.Prelude.{Option, None, false, ◌&&◌, ◌||◌, ltb, if◌then◌else◌, ℕ, true, ◌+◌, zero, suc, ◌-◌, ◌<◌, ◌≤◌, ◌≡◌, List, [], ◌∷◌, length, take, drop, slice_index_or}
+use Rattle.std.specs.Prelude.{Option, None, false, ◌&&◌, ◌||◌, ltb, if◌then◌else◌, ℕ, true, ◌+◌, zero, suc, ◌-◌, ◌<◌, ◌≤◌, ◌≡◌, List, [], ◌∷◌, ◌++◌, length, take, drop, slice_index_or}
 use Rattle.units.specs.Classes.{classes_of, is_removed}
 use Rattle.units.specs.Layout.{no_unit, resolved_levels}
 use Rattle.units.specs.Limits.{LimitsOf}
@@ -99,21 +99,16 @@ pub record IsStateAt (known : Known) (us chosen starts : List BidiUnit) (m p : �
   pub strong : known.strong ≡ (known_after known.direction (stack_of us chosen starts m p)).strong
   pub apart : IsApart known.direction chosen m (slice_index_or us p no_unit)
 
--- the pass has come to this position: the first m chosen units are those of the units before it
-pub record HasPassed (direction : Class) (us chosen starts : List BidiUnit) (p : ℕ) : Type 0 where
-  pub m : ℕ
-  pub laid : IsLaid us starts m p
-  pub leads : LeadsOn direction us (stack_of us chosen starts m p) p
-
 -- from this index on, both columns are as they were
 pub record AreUnchangedFrom (k : ℕ) (chosen starts chosen2 starts2 : List BidiUnit) : Type 0 where
   pub units : drop k chosen2 ≡ drop k chosen
   pub positions : drop k starts2 ≡ drop k starts
 
--- the first m chosen units are those of the whole paragraph
-pub record AreFew (direction : Class) (us chosen starts : List BidiUnit) (m : ℕ) : Type 0 where
-  pub laid : IsLaid us starts m (length us)
-  pub stack : stack_of us chosen starts m (length us) ≡ squeezed direction direction [] (remaining_units us)
+-- the first m chosen units are those of the units before this position, and with the units from it on they lead to
+-- those of the whole paragraph
+pub record AreFew (direction : Class) (us chosen starts : List BidiUnit) (m end : ℕ) : Type 0 where
+  pub laid : IsLaid us starts m end
+  pub leads : LeadsOn direction us (stack_of us chosen starts m end) end
   pub fits : m ≤ length chosen
   pub starts_fit : m ≤ length starts
 
@@ -125,13 +120,23 @@ level_by us starts few (suc m) p =
     if ltb p (start_at starts m) then level_by us starts few m p
     else (if is_removed (slice_index_or us p no_unit).class then None else slice_index_or few m None)
 
--- X1 to I2: if the first m chosen units have these levels as a paragraph of their own, at the level of the paragraph of
--- which they are the few, then these are its resolved levels
-abbrev pub ResolvesFrom : List BidiUnit → List BidiUnit → ℕ → List (Option ℕ) → List (Option ℕ) → Type 0
-ResolvesFrom us starts m few levels =
+-- these levels of a paragraph are those of the first m chosen units before this position, and of all units from it on
+pub record AreSpread (us starts : List BidiUnit) (m end : ℕ) (few levels : List (Option ℕ)) : Type 0 where
+  pub before : (p : ℕ) → p < end → slice_index_or levels p None ≡ level_by us starts few m p
+  pub after : (p : ℕ) → end ≤ p → p < length us → slice_index_or levels p None ≡ slice_index_or few (m + (p - end)) None
+
+-- the first m chosen units, and all units of the paragraph from this position on
+abbrev pub few_and_rest : List BidiUnit → List BidiUnit → ℕ → ℕ → List BidiUnit
+few_and_rest us chosen m end = take m chosen ++ drop end us
+
+-- X1 to I2: if the first m chosen units and those from this position on have these levels as a paragraph of their own, at
+-- the level of the paragraph of which they are the few, then these are its resolved levels
+abbrev pub ResolvesFrom : List BidiUnit → List BidiUnit → ℕ → ℕ → List (Option ℕ) → List (Option ℕ) → Type 0
+ResolvesFrom us starts m end few levels =
     (limits : LimitsOf) (para_level : ℕ) (chosen : List BidiUnit) → IsFlat (classes_of us) →
-    AreFew (direction_of para_level) us chosen starts m →
-    take m few ≡ resolved_levels limits (take m chosen) para_level → levels ≡ resolved_levels limits us para_level
+    AreFew (direction_of para_level) us chosen starts m end →
+    take (m + (length us - end)) few ≡ resolved_levels limits (few_and_rest us chosen m end) para_level →
+    levels ≡ resolved_levels limits us para_level
 
 -- X9: all units remain
 abbrev pub RemainAll : List BidiUnit → Type 0

@@ -3,9 +3,9 @@ ghost use Rattle.std.specs.Prelude.{◌≡◌, ℕ, List, true, false, ◌+◌, 
 ghost use Rattle.units.specs.Classes.{is_removed};
 ghost use Rattle.units.specs.Layout.{no_unit};
 ghost use Rattle.units.specs.declared.bracket.Unit.{Unit as BidiUnit};
-ghost use Rattle.compress.specs.Laid.{IsLaid, IsRun, IsRunAfter, RemainAll, ResolvesFrom};
+ghost use Rattle.compress.specs.Laid.{IsLaid, IsRun, IsRunAfter, RemainAll, ResolvesFrom, level_by};
 
-use crate::pass::start_of;
+use crate::pass::{Few, start_of};
 use crate::passed_set::PassedSet;
 use std::sync::ledger::Ledger;
 use units::bracket::Unit;
@@ -204,24 +204,28 @@ pub struct FlatPara<'a> {
     pub all_remain: bool,
 }
 
-/// Writes the levels of a paragraph of which all units remain, as `spread` does.
+/// Writes the levels of the first `end` units of a paragraph of which all units remain, by those of the first `m` chosen
+/// ones.
 #[inline(never)]
 fn spread_all<L: Ledger>(
     para: &[Unit],
     starts: &[Unit],
-    m: usize,
+    few: Few,
     levels: &mut [Option<Level>],
     steps: &mut Steps<L>,
 )
     requires all_remain { RemainAll para.now }
-    requires laid { IsLaid para.now starts.now m (length para.now) }
-    requires starts { m ≤ length starts.now }
+    requires laid { IsLaid para.now starts.now few.chosen few.end }
+    requires starts { few.chosen ≤ length starts.now }
     requires levels { length levels.old ≡ length para.now }
-    ensures resolved { ResolvesFrom para.now starts.now m levels.old levels.new }
-    ensures steps { steps.new ≡ steps.old + length para.now }
+    ensures written { (p : ℕ) → p < few.end
+        → slice_index_or levels.new p None ≡ level_by para.now starts.now levels.old few.chosen p }
+    ensures kept { (p : ℕ) → few.end ≤ p
+        → slice_index_or levels.new p None ≡ slice_index_or levels.old p None }
+    ensures steps { steps.new ≡ steps.old + few.end }
 {
-    let mut end = para.len();
-    for k in (0..m).rev() {
+    let mut end = few.end;
+    for k in (0..few.chosen).rev() {
         let start = start_of(starts[k]);
         let level = levels[k];
         write_run(k, start, end, &level, levels, steps);
@@ -230,23 +234,26 @@ fn spread_all<L: Ledger>(
     write_all(0, end, &None, levels, steps);
 }
 
-/// X9: Writes the levels of any paragraph, as `spread` does.
+/// X9: Does what `spread_all` does, for any paragraph.
 #[inline(never)]
 fn spread_remaining<L: Ledger>(
     para: &[Unit],
     starts: &[Unit],
-    m: usize,
+    few: Few,
     levels: &mut [Option<Level>],
     steps: &mut Steps<L>,
 )
-    requires laid { IsLaid para.now starts.now m (length para.now) }
-    requires starts { m ≤ length starts.now }
+    requires laid { IsLaid para.now starts.now few.chosen few.end }
+    requires starts { few.chosen ≤ length starts.now }
     requires levels { length levels.old ≡ length para.now }
-    ensures resolved { ResolvesFrom para.now starts.now m levels.old levels.new }
-    ensures steps { steps.new ≡ steps.old + length para.now }
+    ensures written { (p : ℕ) → p < few.end
+        → slice_index_or levels.new p None ≡ level_by para.now starts.now levels.old few.chosen p }
+    ensures kept { (p : ℕ) → few.end ≤ p
+        → slice_index_or levels.new p None ≡ slice_index_or levels.old p None }
+    ensures steps { steps.new ≡ steps.old + few.end }
 {
-    let mut end = para.len();
-    for k in (0..m).rev() {
+    let mut end = few.end;
+    for k in (0..few.chosen).rev() {
         let start = start_of(starts[k]);
         let level = levels[k];
         write_run_remaining(para, start, end, &level, levels, steps);
@@ -255,25 +262,28 @@ fn spread_remaining<L: Ledger>(
     write_remaining(para, 0, end, &None, levels, steps);
 }
 
-/// Writes the levels of a paragraph, of which the first `m` levels are those of the chosen units. `starts` are the
-/// positions at which these begin. Each position is a step.
+/// Writes the levels of a paragraph, of which the first levels are those of the chosen units and of all units from
+/// `few.end` on. `starts` are the positions at which the chosen ones begin. Each position is a step.
 pub fn spread<L: Ledger>(
     para: &FlatPara,
     starts: &[Unit],
-    m: usize,
+    few: Few,
     levels: &mut [Option<Level>],
     steps: &mut Steps<L>,
 )
     requires all_remain { para.now.all_remain ≡ true → RemainAll para.now.units.now }
-    requires laid { IsLaid para.now.units.now starts.now m (length para.now.units.now) }
-    requires starts { m ≤ length starts.now }
+    requires laid { IsLaid para.now.units.now starts.now few.chosen few.end }
+    requires starts { few.chosen ≤ length starts.now }
     requires levels { length levels.old ≡ length para.now.units.now }
-    ensures resolved { ResolvesFrom para.now.units.now starts.now m levels.old levels.new }
+    ensures resolved { ResolvesFrom para.now.units.now starts.now few.chosen few.end levels.old levels.new }
     ensures steps { steps.new ≡ steps.old + length para.now.units.now }
 {
+    let rest = para.units.len() - few.end;
+    steps.add(rest);
+    levels.copy_within(few.chosen..few.chosen + rest, few.end);
     if para.all_remain {
-        spread_all(para.units, starts, m, levels, steps);
+        spread_all(para.units, starts, few, levels, steps);
     } else {
-        spread_remaining(para.units, starts, m, levels, steps);
+        spread_remaining(para.units, starts, few, levels, steps);
     }
 }

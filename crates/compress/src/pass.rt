@@ -1,10 +1,10 @@
 //! The pass that compresses a flat paragraph.
-ghost use Rattle.std.specs.Prelude.{suc, ◌&&◌, ◌||◌, ◌≡◌, ℕ, ◌+◌, ◌<◌, ◌≤◌, ◌^◌, true, false, List, IfSome, length, drop, slice_index_or, if◌then◌else◌};
+ghost use Rattle.std.specs.Prelude.{suc, ◌&&◌, ◌||◌, ◌≡◌, ℕ, ◌+◌, ◌<◌, ◌≤◌, ◌^◌, true, false, List, ◌++◌, IfSome, IsNone, length, take, drop, slice_index_or, if◌then◌else◌};
 ghost use Rattle.units.specs.Classes.{is_removed, is_strong};
 ghost use Rattle.units.specs.Layout.{no_unit};
 ghost use Rattle.units.specs.declared.bracket.Unit.{Unit as BidiUnit};
 ghost use Rattle.units.specs.declared.class.Class.{Class as BidiClass};
-ghost use Rattle.compress.specs.Laid.{start_of, stack_of, class_after, BecomesLetter, IsLaid, IsNextAt, IsApart, IsStateAt, LeadsOn, HasPassed, AreFew, AreUnchangedFrom};
+ghost use Rattle.compress.specs.Laid.{start_of, stack_of, class_after, BecomesLetter, IsLaid, IsNextAt, IsApart, IsStateAt, LeadsOn, AreFew, AreUnchangedFrom};
 ghost use Rattle.compress.specs.PassedSets.{has};
 ghost use Rattle.compress.specs.Remaining.{remaining_units};
 ghost use Rattle.compress.specs.Squeeze.{Stack, is_bare, is_open_letter, passes_after, popped, added, next_for, turned, first_unit, known_after};
@@ -666,21 +666,23 @@ fn next_remaining<L: Ledger>(para: &[Unit], start: usize, steps: &mut Steps<L>) 
     p
 }
 
-/// How many turns the pass may make before it gives up. It also gives up if there is no room for the chosen units, or
-/// if turns become too frequent for the rest of the paragraph.
+/// How many turns the pass may make near the start of a paragraph before it ends.
 #[derive(Clone, Copy)]
 pub enum TurnLimit {
-    /// At first one for twelve units: for texts that take few instructions in any case.
+    /// One for twelve units: for texts that take few instructions in any case.
     Strict,
-    /// At first one for eight units: for texts that take more.
+    /// One for eight units: for texts that take more.
     Lenient,
 }
 
-/// Before this position few turns are allowed, so that the pass gives up early if directions change often.
+/// Before this position few turns are allowed, so that the pass ends early if directions change often.
 const EARLY: usize = 256;
 
 /// How many turns after `EARLY` the pass makes before it asks again.
 const WINDOW: usize = 24;
+
+/// How many units so many turns pass at least. In a text with more turns, the pass saves nothing.
+const LEAST_PASSED: usize = 3 * WINDOW;
 
 /// How many turns the pass may still make before it asks again, and the position at which it asked last.
 #[derive(Clone, Copy)]
@@ -695,99 +697,68 @@ const UNASKED: Granted = Granted {
     asked: 0,
 };
 
-/// Returns how many turns the pass may have made at this position. At the end of a paragraph these are some ten more
-/// than the units for which there is room, since not every turn chooses one.
+/// Returns how many turns the pass may have made at this position near the start.
 fn most_turns(limit: TurnLimit, p: usize) -> usize
-    ensures { (n : ℕ) → p ≤ n → result ≤ n + 10 }
+    ensures { result ≤ p + 3 }
 {
-    if p >= EARLY {
-        return p / 6 + 10;
-    }
     match limit {
         TurnLimit::Strict => p / 12 + 2,
         TurnLimit::Lenient => p / 8 + 3,
     }
 }
 
-/// Returns whether turns have become so frequent since the pass asked last that, if this goes on, `room` units are too
-/// few for the `rest` of the paragraph, or more turns are made up to its end than are allowed there. A long stretch
-/// without turns before them says nothing of what follows.
-fn are_frequent(
-    limit: TurnLimit,
-    asked: usize,
-    p: usize,
-    turns: usize,
-    rest: usize,
-    room: usize,
-) -> bool
+/// Returns how many turns the pass may make from the position `p` on, after so many turns, before it asks again: none if
+/// there were too many, near the start or since it asked last.
+fn more_turns(limit: TurnLimit, asked: usize, p: usize, turns: usize) -> usize
     requires asked { asked ≤ p }
-    requires turns { turns ≤ p }
-    requires short { p + rest < 2 ^ 32 }
+    requires short { p < 2 ^ 32 }
 {
-    let passed = (p - asked).max(1);
-    if asked < EARLY || passed >= 3 * WINDOW {
-        return false;
+    if p < EARLY {
+        return (most_turns(limit, p) + 1).saturating_sub(turns);
     }
-    let more = rest * WINDOW / passed;
-    more > room || turns + more > most_turns(limit, p + rest)
+    if asked >= EARLY && p - asked < LEAST_PASSED {
+        return 0;
+    }
+    WINDOW
 }
 
-/// Returns what is granted at the position `p` after so many turns, before the `rest` of the paragraph: none if these
-/// are too many. Not more than `room` units can be chosen.
-#[inline(never)]
-fn granted_at(
-    limit: TurnLimit,
-    asked: usize,
-    p: usize,
-    turns: usize,
-    rest: usize,
-    room: usize,
-) -> Granted
-    requires asked { asked ≤ p }
-    requires turns { turns ≤ p }
-    requires short { p + rest < 2 ^ 32 }
-    ensures within { result.remaining ≤ room }
-    ensures asked { result.asked ≤ p }
-{
-    let most = most_turns(limit, p);
-    if turns > most || are_frequent(limit, asked, p, turns, rest, room) {
-        return Granted {
-            remaining: 0,
-            asked: p,
-        };
-    }
-    let more = if p < EARLY { most - turns + 1 } else { WINDOW };
-    Granted {
-        remaining: room.min(more),
-        asked: p,
-    }
-}
-
-/// Returns what is granted at the position `p`: what remains, or more if no turn does.
+/// Returns what is granted at the position `p`: what remains, or more if no turn does. Not more than `room` units can be
+/// chosen.
 fn granted_or_more(
     granted: Granted,
     limit: TurnLimit,
     p: usize,
     turns: usize,
-    rest: usize,
     room: usize,
 ) -> Granted
     requires asked { granted.asked ≤ p }
-    requires turns { turns ≤ p }
-    requires short { p + rest < 2 ^ 32 }
+    requires short { p < 2 ^ 32 }
     ensures within { granted.remaining ≤ room → result.remaining ≤ room }
     ensures asked { result.asked ≤ p }
 {
     if granted.remaining > 0 {
-        granted
-    } else {
-        granted_at(limit, granted.asked, p, turns, rest, room)
+        return granted;
+    }
+    Granted {
+        remaining: room.min(more_turns(limit, granted.asked, p, turns)),
+        asked: p,
     }
 }
 
+/// The few units that are resolved in place of a paragraph: how many of them were chosen, and the position up to which
+/// the pass chose them. All units from there on are resolved too.
+#[derive(Clone, Copy)]
+pub struct Few {
+    /// How many units were chosen.
+    pub chosen: usize,
+    /// The position up to which the pass came.
+    pub end: usize,
+}
+
 /// Chooses the few units that are to be resolved in place of this paragraph, in a sequence of this direction, and the
-/// position at which each begins. Returns how many these are, or `None` if there is no room for them, if the pass makes
-/// more turns than `limit` says, or if turns become too frequent for the rest of the paragraph.
+/// position at which each begins. Ends before the paragraph does if there is no room for more, if the pass makes more
+/// turns than `limit` says near the start, or if turns become so frequent that it saves nothing. Each position up to
+/// that end is a step.
 #[inline(never)]
 pub fn squeeze<L: Ledger>(
     para: &[Unit],
@@ -796,15 +767,11 @@ pub fn squeeze<L: Ledger>(
     chosen: &mut [Unit],
     starts: &mut [Unit],
     steps: &mut Steps<L>,
-) -> Option<usize>
+) -> Few
     requires short { length para.now < 2 ^ 32 }
-    ensures few { IfSome result (λ m. AreFew direction para.now chosen.new starts.new m) }
-    ensures all { IfSome result (λ m. steps.new ≡ steps.old + length para.now) }
-    ensures counted { (p : ℕ) → steps.new ≡ steps.old + p → HasPassed direction para.now chosen.new starts.new p }
-    ensures unchanged { (p : ℕ) → steps.new ≡ steps.old + p
-        → AreUnchangedFrom p chosen.old starts.old chosen.new starts.new }
-    ensures at_least { steps.old ≤ steps.new }
-    ensures at_most { steps.new ≤ steps.old + length para.now }
+    ensures few { AreFew direction para.now chosen.new starts.new result.chosen result.end }
+    ensures steps { steps.new ≡ steps.old + result.end }
+    ensures unchanged { AreUnchangedFrom result.end chosen.old starts.old chosen.new starts.new }
 {
     let room = chosen.len().min(starts.len());
     let mut granted = UNASKED;
@@ -813,9 +780,9 @@ pub fn squeeze<L: Ledger>(
     let mut strong = direction;
     let mut p = next_remaining(para, 0, steps);
     while p < para.len() {
-        granted = granted_or_more(granted, limit, p, turns, para.len() - p, room - m);
+        granted = granted_or_more(granted, limit, p, turns, room - m);
         if granted.remaining == 0 {
-            return None;
+            return Few { chosen: m, end: p };
         }
         granted.remaining -= 1;
         turns += 1;
@@ -826,5 +793,31 @@ pub fn squeeze<L: Ledger>(
         strong = now.strong;
         p = pass_on(direction, chosen[m - 1], para, now.end, steps);
     }
-    Some(m)
+    Few { chosen: m, end: p }
+}
+
+/// Appends the units that the pass did not come to, `rest`, to the first `m` chosen ones. Returns how many there are
+/// then, or `None` if there is no room for them. Each of them is a step.
+pub fn append_rest<L: Ledger>(
+    chosen: &mut [Unit],
+    m: usize,
+    rest: &[Unit],
+    steps: &mut Steps<L>,
+) -> Option<usize>
+    requires { m ≤ length chosen.old }
+    ensures count { IfSome result (λ count. count ≡ m + length rest.now) }
+    ensures appended { IfSome result (λ count. take count chosen.new ≡ take m chosen.old ++ rest.now) }
+    ensures within { IfSome result (λ count. count ≤ length chosen.new) }
+    ensures none { IsNone result → length chosen.old < m + length rest.now }
+    ensures unchanged { IsNone result → chosen.new ≡ chosen.old }
+    ensures steps { IfSome result (λ _. steps.new ≡ steps.old + length rest.now) }
+    ensures no_steps { IsNone result → steps.new ≡ steps.old }
+{
+    if chosen.len() - m < rest.len() {
+        return None;
+    }
+    let count = m + rest.len();
+    steps.add(rest.len());
+    chosen[m..count].copy_from_slice(rest);
+    Some(count)
 }

@@ -38,7 +38,7 @@ impl RoomForC {
     ghost use Rattle.for_c.specs.RoomCalls.{LaysOut, PutsLineOf, RejectsCapacity, SetsLines};
 
     /// Makes a room for texts of up to `n` units, at most 16,777,216, with the layout of an empty text. If `encodes`,
-    /// it has offsets, and texts may be in code units. It takes 90 bytes for each unit, and 118 with offsets.
+    /// it has offsets, and texts may be in code units. It takes 100 bytes for each unit, and 128 with offsets.
     pub fn with_room(alloc: Global, n: usize, encodes: bool) -> Result<RoomForC, CallError>
         ensures made { IfOk result (λ room. room ≡ new_room n encodes) }
         ensures reason { IfErr result (RejectsCapacity n) }

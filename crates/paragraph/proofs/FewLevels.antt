@@ -13,5 +13,5 @@ pub all_remain : (us : List BidiUnit) → has_none is_removed (classes_of us) �
 all_remain us none p lt = unit_remains us p lt (none_from is_removed (classes_of us) none)
 
 -- the levels of the few units are the first of a paragraph's column
-pub few_levels : (m : ℕ) (few rest levels : List (Option ℕ)) → length few ≡ m → few ≡ levels → take m (few ++ rest) ≡ levels
-few_levels m few rest levels long e = ap (λ k. take k (few ++ rest)) (sym long) ∙ take-append_seam few rest ∙ e
+pub few_levels : (m n : ℕ) (few rest levels : List (Option ℕ)) → m ≡ n → length few ≡ m → few ≡ levels → take n (few ++ rest) ≡ levels
+few_levels m n few rest levels same long e = ap (λ k. take k (few ++ rest)) (sym (long ∙ same)) ∙ take-append_seam few rest ∙ e

@@ -1,5 +1,5 @@
 -- The resolution of paragraphs: its buffers, and the known properties of a resolved paragraph or of one unit alone.
-use Rattle.std.specs.Prelude.{Option, Some, None, ℕ, ◌≡◌, Bool, true, List, [], ◌∷◌, slice_index_or}
+use Rattle.std.specs.Prelude.{Option, Some, None, ℕ, ◌+◌, ◌≡◌, Bool, true, List, [], ◌∷◌, slice_index_or}
 use Rattle.std.specs.Int.{div_ceil}
 use Rattle.units.specs.Classes.{classes_of}
 use Rattle.units.specs.Isolates.{level_of_para, para_level_of}
@@ -27,10 +27,10 @@ pub record Work : Type 0 where
   pub before : List Class
   pub classes : List Class
 
--- the length of the column for the few units of paragraphs of up to n positions, and for the positions at which these
--- begin: one in six positions at most
+-- the length of the column for the few units of paragraphs of up to n positions, of which the last may be all that
+-- follow a position, and for the positions at which the others begin: one in six positions at most
 abbrev pub few_room : ℕ → ℕ
-few_room n = div_ceil n 3
+few_room n = n + div_ceil n 6
 
 -- each position that has a level has this one
 abbrev pub StaysAt : ℕ → List (Option ℕ) → Type 0

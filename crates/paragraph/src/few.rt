@@ -12,7 +12,7 @@ use crate::contents::Contents;
 use crate::found::{KnownParagraph, resolve_sequences};
 use crate::rooms::{RoomToFind, RoomToResolve};
 use compress::levels::{FlatPara, spread};
-use compress::pass::{TurnLimit, squeeze};
+use compress::pass::{Few, TurnLimit, append_rest, squeeze};
 use std::alloc::Global;
 use std::boxed::BoxedSlice;
 use std::sync::ledger::Ledger;
@@ -41,7 +41,7 @@ fn may_save(contents: Contents, n: usize) -> bool {
     n >= LEAST && (n >= LEAST_REMAINING || !contents.all_remain())
 }
 
-/// Returns how long the search for few units goes on: longer in paragraphs that take more without it.
+/// Returns how long the search for few units goes on near the start: longer in paragraphs that take more without it.
 fn limit_for(contents: Contents) -> TurnLimit {
     if contents.is_mixed() || !contents.all_remain() {
         TurnLimit::Lenient
@@ -50,8 +50,8 @@ fn limit_for(contents: Contents) -> TurnLimit {
     }
 }
 
-/// Makes a column for the few units of paragraphs of up to `n` positions, and for the positions at which these begin:
-/// one in six positions at most. If there are more, the paragraph is resolved by all its units.
+/// Makes a column for the few units of paragraphs of up to `n` positions, of which the last may be all that follow a
+/// position, and for the positions at which the others begin: one in six positions at most.
 pub fn few_column(alloc: Global, n: usize) -> Result<BoxedSlice<Unit>, Memory>
     ensures { IfOk result (λ few. boxed_slice_len few ≡ few_room n) }
 {
@@ -59,7 +59,8 @@ pub fn few_column(alloc: Global, n: usize) -> Result<BoxedSlice<Unit>, Memory>
         class: Class::BN,
         bracket: Bracket::No,
     };
-    Ok(vec![in alloc; unused; n.div_ceil(3)]?.into_boxed_slice())
+    let len = n.checked_add(n.div_ceil(6)).ok_or(Memory)?;
+    Ok(vec![in alloc; unused; len]?.into_boxed_slice())
 }
 
 /// Applies X1 to I2 to a flat paragraph of this level.
@@ -89,13 +90,21 @@ fn resolve_flat<L: Ledger>(
     resolve_sequences(para, found, work, levels, steps);
 }
 
+/// Returns whether so many fewer units are resolved that it takes less time, although the others are copied.
+fn saves(few: Few, n: usize) -> bool
+    requires { few.chosen ≤ few.end }
+{
+    few.end - few.chosen >= n / 8
+}
+
 /// Applies X1 to I2 to a flat paragraph of this level by few of its units: resolves these as a paragraph of their own,
-/// and gives their levels to the units after them. Returns whether it did so; it didn't if the units aren't few.
+/// and gives their levels to the units after them. Where the search for few units ended, all units from there on are
+/// among them. Returns whether it did so; it didn't if the units aren't few.
 #[inline(never)]
 fn resolve_by_few<L: Ledger>(
     para: &KnownParagraph,
     level: ParaLevel,
-    few: &mut [Unit],
+    column: &mut [Unit],
     found: &mut RoomToFind,
     work: &mut RoomToResolve,
     levels: &mut [Option<Level>],
@@ -117,28 +126,33 @@ fn resolve_by_few<L: Ledger>(
     ensures if_many { result ≡ false → steps.old ≤ steps.new }
     ensures if_many_at_most { result ≡ false → steps.new ≤ steps.old + 2 * length para.now.units.now }
 {
-    let (chosen, starts) = few.split_at_mut(few.len() / 2);
+    let n = para.units.len();
+    let (chosen, starts) = column.split_at_mut(n.min(column.len()));
     let direction = level.level().direction();
     let limit = limit_for(para.contents);
-    let Some(m) = squeeze(para.units, direction, limit, chosen, starts, steps) else {
+    let few = squeeze(para.units, direction, limit, chosen, starts, steps);
+    if !saves(few, n) {
+        return false;
+    }
+    let Some(count) = append_rest(chosen, few.chosen, &para.units[few.end..], steps) else {
         return false;
     };
-    let units = &chosen[..m];
+    let units = &chosen[..count];
     let contents = Contents::of_units(units, steps);
     if !contents.is_flat() {
         return false;
     }
-    let chosen_para = KnownParagraph {
+    let few_para = KnownParagraph {
         units,
         contents,
         limits: para.limits,
     };
-    resolve_flat(&chosen_para, level, found, work, &mut levels[..m], steps);
+    resolve_flat(&few_para, level, found, work, &mut levels[..count], steps);
     let flat = FlatPara {
         units: para.units,
         all_remain: para.contents.all_remain(),
     };
-    spread(&flat, starts, m, levels, steps);
+    spread(&flat, starts, few, levels, steps);
     true
 }
 

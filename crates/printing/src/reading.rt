@@ -217,7 +217,7 @@ fn read_text<S: ByteSource, W: Output>(
 
 /// Reads the source to its end and writes its text, which is in UTF-8, in this form (`printed_as`). Each paragraph is
 /// written and flushed as soon as the character that ends it is read, and the last one at the end. The source may give
-/// up to 16,777,216 bytes. The function reads at most 4,096 bytes at a time, and allocates about 90 bytes for each
+/// up to 16,777,216 bytes. The function reads at most 4,096 bytes at a time, and allocates about 100 bytes for each
 /// character of the longest paragraph.
 ///
 /// Returns the first of these faults, also if a write failed before it:

@@ -6,7 +6,7 @@ use crate::numbers::{Direction, Limits};
 use crate::tables::Tables;
 use std::cell::UnsafeCell;
 
-/// Memory for texts of up to a number of code units, 118 bytes for each, and for the layout of the last one.
+/// Memory for texts of up to a number of code units, 128 bytes for each, and for the layout of the last one.
 ///
 /// Laying out takes no memory of the library beyond it. Whoever lays out many texts makes one room for each thread.
 #[derive(Debug)]

@@ -1,23 +1,23 @@
 use Rattle.std.proofs.Common.{arith, None, ◌-◌, ◌∙◌, ◌≡◌, subst}
 use Rattle.std.proofs.lemmas.List.{get_or_default}
-use Rattle.compress.proofs.Placing.{IsSpread, starts_above, starts_below, spread_none, spread_one, spread_all, spread_resolves}
+use Rattle.compress.proofs.Placing.{IsSpread, starts_above, starts_below, spread_none, spread_one, spread_all, spread_kept}
 use Rattle.compress.proofs.levels.spread_all.Goals as goal
 
 pub loop-k-init : goal.loop-k-init
 loop-k-init g c = record {
-  spread = spread_none c.args.para.now c.args.starts.now c.args.m c.args.levels.now c.requires.laid;
+  spread = spread_none c.args.para.now c.args.starts.now c.args.few.chosen c.args.few.end c.args.levels.now c.requires.laid;
   steps = omega arith;
 }
 
 pub write_run-requires-clause-lowest : goal.write_run-requires-clause-lowest
 write_run-requires-clause-lowest g c =
-    let low = starts_above c.args.para.now c.args.starts.now c.args.m c.args.levels.now c.loop-k.levels c.loop-k.end c.loop-k.k c.loop-k-test.true
+    let low = starts_above c.args.para.now c.args.starts.now c.args.few.chosen c.args.few.end c.args.levels.now c.loop-k.levels c.loop-k.end c.loop-k.k c.loop-k-test.true
     c.loop-k.invariant.spread in
     omega (arith, low, c.start_of-start.ensures)
 
 pub write_run-requires-clause-some : goal.write_run-requires-clause-some
 write_run-requires-clause-some g c =
-    let below = starts_below c.args.para.now c.args.starts.now c.args.m c.args.levels.now c.loop-k.levels c.loop-k.end c.loop-k.k c.loop-k-test.true
+    let below = starts_below c.args.para.now c.args.starts.now c.args.few.chosen c.args.few.end c.args.levels.now c.loop-k.levels c.loop-k.end c.loop-k.k c.loop-k-test.true
     c.loop-k.invariant.spread in
     omega (arith, below, c.start_of-start.ensures)
 
@@ -26,7 +26,7 @@ loop-k-preserved g c =
     let w = c.write_run.ensures in
     let run = w.run c.args.para.now c.requires.all_remain (omega (arith, c.requires.levels, c.loop-k.auto.levels)) in
     record {
-      spread = spread_one c.args.para.now c.args.starts.now c.args.m c.args.levels.now c.loop-k.levels c.write_run.new.levels c.loop-k.end
+      spread = spread_one c.args.para.now c.args.starts.now c.args.few.chosen c.args.few.end c.args.levels.now c.loop-k.levels c.write_run.new.levels c.loop-k.end
           c.start_of-start.result c.loop-k.k c.index-levels-k.result c.loop-k-test.true c.loop-k.invariant.spread c.start_of-start.ensures
           (c.index-levels-k.is
           ∙ get_or_default c.loop-k.levels (c.loop-k.k - 1) c.index-levels-k.result None
@@ -35,13 +35,20 @@ loop-k-preserved g c =
       steps = omega (arith, c.loop-k.invariant.steps, w.steps);
     }
 
-pub returns-clause-resolved : goal.returns-clause-resolved
-returns-clause-resolved g c =
+pub returns-clause-written : goal.returns-clause-written
+returns-clause-written g c =
     let w = c.write_all.ensures in
     let run = w.run c.args.para.now c.requires.all_remain (omega (arith, c.requires.levels, c.loop-k.auto.levels)) in
     let none : c.loop-k.k ≡ 0 = omega (arith, c.loop-k-test.false) in
-    let s = subst (λ k. IsSpread c.args.para.now c.args.starts.now c.args.m c.args.levels.now c.loop-k.levels c.loop-k.end k) none
+    let s = subst (λ k. IsSpread c.args.para.now c.args.starts.now c.args.few.chosen c.args.few.end c.args.levels.now c.loop-k.levels c.loop-k.end k) none
     c.loop-k.invariant.spread in
-    spread_resolves c.args.para.now c.args.starts.now c.args.m c.args.levels.now c.write_all.new.levels
-    (omega (arith, c.requires.laid.within, c.requires.levels)) (omega (arith, c.write_all.auto.levels, c.loop-k.auto.levels, c.requires.levels))
-    (spread_all c.args.para.now c.args.starts.now c.args.m c.args.levels.now c.loop-k.levels c.write_all.new.levels c.loop-k.end s run.inside run.above)
+    spread_all c.args.para.now c.args.starts.now c.args.few.chosen c.args.few.end c.args.levels.now c.loop-k.levels c.write_all.new.levels c.loop-k.end s run.inside run.above
+
+pub returns-clause-kept : goal.returns-clause-kept
+returns-clause-kept g c =
+    let w = c.write_all.ensures in
+    let run = w.run c.args.para.now c.requires.all_remain (omega (arith, c.requires.levels, c.loop-k.auto.levels)) in
+    let none : c.loop-k.k ≡ 0 = omega (arith, c.loop-k-test.false) in
+    let s = subst (λ k. IsSpread c.args.para.now c.args.starts.now c.args.few.chosen c.args.few.end c.args.levels.now c.loop-k.levels c.loop-k.end k) none
+    c.loop-k.invariant.spread in
+    spread_kept c.args.para.now c.args.starts.now c.args.few.chosen c.args.few.end c.args.levels.now c.loop-k.levels c.write_all.new.levels c.loop-k.end s run.above

@@ -1,21 +1,16 @@
-use Rattle.std.proofs.Common.{arith, ap, sym, subst, refl, ◌∙◌, if◌then◌else◌, ◌≡◌, ◌≤◌, ◌-◌, ℕ, suc, List, length}
+use Rattle.std.proofs.Common.{arith, ap, sym, subst, refl, ◌∙◌, if◌then◌else◌, ◌≡◌, ◌≤◌, ◌-◌, ℕ, suc, List}
 use Rattle.units.specs.Classes.{is_strong}
 use Rattle.units.specs.declared.bracket.Unit.{Unit as BidiUnit}
 use Rattle.units.specs.declared.class.Class.{Class as BidiClass}
-use Rattle.compress.specs.Laid.{stack_of, class_after, AreUnchangedFrom, IsApart, IsLaid, IsStateAt, LeadsOn, HasPassed}
+use Rattle.compress.specs.Laid.{stack_of, class_after, IsApart, IsLaid, IsStateAt, LeadsOn}
 use Rattle.compress.specs.Squeeze.{Stack, next_for, known_after}
 use Rattle.compress.specs.declared.pass.Known.{Known}
 use Rattle.compress.proofs.Counting.{at, removed_between}
 use Rattle.compress.proofs.Knowing.{next_alike, turned_strong}
 use Rattle.compress.proofs.Laying.{laid_none}
-use Rattle.compress.proofs.Passing.{leads_turn, leads_past_removed, laid_past_run, known_same, leads_to_end}
+use Rattle.compress.proofs.Passing.{leads_turn, leads_past_removed, laid_past_run, known_same}
 use Rattle.compress.proofs.Unchanged.{unchanged_later}
 use Rattle.compress.proofs.pass.squeeze.Goals as goal
-
-passed_to : (direction : BidiClass) (us chosen starts : List BidiUnit) (m p q : ℕ) → IsLaid us starts m p → LeadsOn direction us (stack_of us chosen starts m p) p → p ≡ q →
-    HasPassed direction us chosen starts q
-passed_to direction us chosen starts m p q laid leads e =
-    subst (HasPassed direction us chosen starts) e (record { m = m; laid = laid; leads = leads })
 
 pub loop-p-init : goal.loop-p-init
 loop-p-init g c =
@@ -36,10 +31,6 @@ loop-p-init g c =
       counted = omega arith;
       steps = omega arith;
     }
-
-pub returns-then-granted-eq0-clause-at_most : goal.returns-then-granted-eq0-clause-at_most
-returns-then-granted-eq0-clause-at_most g c =
-    omega (arith, c.loop-p.invariant.steps, c.next_remaining-p.ensures.steps, c.loop-p.invariant.laid.end_within)
 
 pub loop-p-preserved : goal.loop-p-preserved
 loop-p-preserved g c =
@@ -95,47 +86,18 @@ loop-p-preserved g c =
       steps = omega (arith, c.loop-p.invariant.steps, after.steps, passing.steps, c.tick.ensures);
     }
 
-pub returns-clause-at_most : goal.returns-clause-at_most
-returns-clause-at_most g c =
-    omega (arith, c.loop-p.invariant.steps, c.next_remaining-p.ensures.steps, c.loop-p.invariant.laid.end_within)
+pub returns-then-granted-eq0-clause-few : goal.returns-then-granted-eq0-clause-few
+returns-then-granted-eq0-clause-few g c = record {
+  laid = c.loop-p.invariant.laid;
+  leads = c.loop-p.invariant.leads;
+  fits = omega (arith, c.loop-p.invariant.fits);
+  starts_fit = omega (arith, c.loop-p.invariant.starts_fit);
+}
 
 pub returns-clause-few : goal.returns-clause-few
-returns-clause-few g c =
-    let us : List BidiUnit = c.args.para.now in
-    let all : c.loop-p.p ≡ length us = omega (arith, c.loop-p-test.false, c.loop-p.invariant.laid.end_within) in
-    record {
-      laid = subst (λ n. IsLaid us c.loop-p.starts c.loop-p.m n) all c.loop-p.invariant.laid;
-      stack = sym (ap (stack_of us c.loop-p.chosen c.loop-p.starts c.loop-p.m) all)
-          ∙ leads_to_end c.args.direction us (stack_of us c.loop-p.chosen c.loop-p.starts c.loop-p.m c.loop-p.p) c.loop-p.p (omega (arith, c.loop-p-test.false))
-          c.loop-p.invariant.leads;
-      fits = omega (arith, c.loop-p.invariant.fits);
-      starts_fit = omega (arith, c.loop-p.invariant.starts_fit);
-    }
-
-pub returns-clause-all : goal.returns-clause-all
-returns-clause-all g c =
-    omega (arith, c.loop-p.invariant.steps, c.next_remaining-p.ensures.steps, c.loop-p-test.false, c.loop-p.invariant.laid.end_within)
-
-pub returns-then-granted-eq0-clause-counted : goal.returns-then-granted-eq0-clause-counted
-returns-then-granted-eq0-clause-counted g c = λ p e.
-    let l = c.loop-p in
-    let here : l.p ≡ p = omega (arith, l.invariant.steps, c.next_remaining-p.ensures.steps) in
-    passed_to c.args.direction c.args.para.now l.chosen l.starts l.m l.p p l.invariant.laid l.invariant.leads here
-
-pub returns-clause-counted : goal.returns-clause-counted
-returns-clause-counted g c = λ p e.
-    let l = c.loop-p in
-    let here : l.p ≡ p = omega (arith, l.invariant.steps, c.next_remaining-p.ensures.steps) in
-    passed_to c.args.direction c.args.para.now l.chosen l.starts l.m l.p p l.invariant.laid l.invariant.leads here
-
-pub returns-then-granted-eq0-clause-unchanged : goal.returns-then-granted-eq0-clause-unchanged
-returns-then-granted-eq0-clause-unchanged g c = λ p e.
-    let l = c.loop-p in
-    let here : l.p ≡ p = omega (arith, l.invariant.steps, c.next_remaining-p.ensures.steps) in
-    subst (λ k. AreUnchangedFrom k c.args.chosen.now c.args.starts.now l.chosen l.starts) here l.invariant.unchanged
-
-pub returns-clause-unchanged : goal.returns-clause-unchanged
-returns-clause-unchanged g c = λ p e.
-    let l = c.loop-p in
-    let here : l.p ≡ p = omega (arith, l.invariant.steps, c.next_remaining-p.ensures.steps) in
-    subst (λ k. AreUnchangedFrom k c.args.chosen.now c.args.starts.now l.chosen l.starts) here l.invariant.unchanged
+returns-clause-few g c = record {
+  laid = c.loop-p.invariant.laid;
+  leads = c.loop-p.invariant.leads;
+  fits = omega (arith, c.loop-p.invariant.fits);
+  starts_fit = omega (arith, c.loop-p.invariant.starts_fit);
+}
