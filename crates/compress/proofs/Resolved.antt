@@ -2,7 +2,7 @@
 use Rattle.std.specs.Prelude.{Option, Some, None, ℕ, zero, suc, ◌+◌, ◌-◌, ◌<◌, ◌≤◌, ◌≡◌, ltb, not, cond, List, ◌++◌, length, map, take, drop, slice_index_or, if◌then◌else◌, refl}
 use Rattle.std.proofs.Common.{arith, ap, sym, ◌∙◌, inl, inr}
 use Rattle.std.proofs.lemmas.Bool.{cases_Bool, cases_lt, cond-true, cond-false}
-use Rattle.std.proofs.lemmas.List.{drop-map, ext_get_or, get_or-append_right, get_or-drop, get_or-take, get_or_append_left, length-drop, length-map, length-take-le, take-map}
+use Rattle.std.proofs.lemmas.List.{drop-map, ext_get_or, get_or-append_right, get_or-drop, get_or-take, get_or_append_left, length-append, length-drop, length-map, length-take-le, take-map}
 use Rattle.std.proofs.lemmas.List.Filters.{length-filter_more}
 use Rattle.units.specs.Classes.{classes_of, is_removed}
 use Rattle.units.specs.Layout.{no_unit, resolved_levels}
@@ -49,7 +49,7 @@ level_by-alike us starts a b (suc m) p h =
 
 module _ (limits : LimitsOf) (us chosen starts : List BidiUnit) (m end para : ℕ) (flat : IsFlat (classes_of us))
     (few : AreFew (direction_of para) us chosen starts m end) (old : List (Option ℕ))
-    (is : take (m + (length us - end)) old ≡ resolved_levels limits (few_and_rest us chosen m end) para) where
+    (is : old ≡ resolved_levels limits (few_and_rest us chosen m end) para) where
   abbrev later : List BidiUnit
   later = remaining_units (drop end us)
 
@@ -76,15 +76,12 @@ module _ (limits : LimitsOf) (us chosen starts : List BidiUnit) (m end para : �
   front_long = length-map (take m ls) (λ l. Some l) ∙ length-take-le m ls (omega (arith, long))
 
   -- the column that was resolved
-  old_at : (k : ℕ) → k < m + (length us - end) →
-      slice_index_or old k None ≡ slice_index_or (map (λ l. Some l) (take m ls) ++ placed (drop end us) (map (λ l. Some l) (drop m ls))) k None
-  old_at k lt =
-      sym (get_or-take (m + (length us - end)) old k None lt)
-      ∙ ap (λ (vs : List (Option ℕ)). slice_index_or vs k None) (is ∙ levels_of_few limits us chosen starts m end para flat few)
+  old_at : (k : ℕ) → slice_index_or old k None ≡ slice_index_or (map (λ l. Some l) (take m ls) ++ placed (drop end us) (map (λ l. Some l) (drop m ls))) k None
+  old_at k = ap (λ (vs : List (Option ℕ)). slice_index_or vs k None) (is ∙ levels_of_few limits us chosen starts m end para flat few)
 
   chosen_at : (k : ℕ) → k < m → slice_index_or old k None ≡ slice_index_or all k None
   chosen_at k lt =
-      old_at k (omega arith)
+      old_at k
       ∙ get_or_append_left (map (λ l. Some l) (take m ls)) (placed (drop end us) (map (λ l. Some l) (drop m ls))) None k (omega (arith, front_long))
       ∙ ap (λ (vs : List (Option ℕ)). slice_index_or vs k None) (sym (take-map (λ l. Some l) m ls))
       ∙ get_or-take m all k None lt
@@ -92,7 +89,7 @@ module _ (limits : LimitsOf) (us chosen starts : List BidiUnit) (m end para : �
   rest_at : (r : ℕ) → r < length us - end → slice_index_or old (m + r) None ≡ slice_index_or (placed (drop end us) (drop m all)) r None
   rest_at r lt =
       let z : (m + r) - m ≡ r = omega arith in
-      old_at (m + r) (omega arith)
+      old_at (m + r)
       ∙ get_or-append_right (map (λ l. Some l) (take m ls)) (placed (drop end us) (map (λ l. Some l) (drop m ls))) m (m + r) None front_long (omega arith)
       ∙ ap (λ i. slice_index_or (placed (drop end us) (map (λ l. Some l) (drop m ls))) i None) z
       ∙ sym (ap (λ vs. slice_index_or (placed (drop end us) vs) r None) (drop-map (λ l. Some l) m ls))
@@ -145,13 +142,44 @@ pub spread_resolves : (us starts : List BidiUnit) (m end : ℕ) (old levels : Li
     ResolvesFrom us starts m end old levels
 spread_resolves us starts m end old levels n spread_so limits para chosen flat few is = resolved limits us chosen starts m end para flat few old is levels n spread_so
 
--- the levels of the units after that position were moved there first, from behind those of the chosen units
-pub spread_moved : (us starts : List BidiUnit) (m end : ℕ) (old moved levels : List (Option ℕ)) → m ≤ end →
-    ((k : ℕ) → k < end → slice_index_or moved k None ≡ slice_index_or old k None) →
-    ((p : ℕ) → end ≤ p → p < length us → slice_index_or moved p None ≡ slice_index_or old (m + (p - end)) None) →
-    ((p : ℕ) → p < end → slice_index_or levels p None ≡ level_by us starts moved m p) →
-    ((p : ℕ) → end ≤ p → slice_index_or levels p None ≡ slice_index_or moved p None) → AreSpread us starts m end old levels
-spread_moved us starts m end old moved levels le below copied written kept = record {
-  before = λ p lt. written p lt ∙ level_by-alike us starts moved old m p (λ k lt. below k (omega arith));
-  after = λ p ge lt. kept p ge ∙ copied p ge lt;
+-- the levels of the chosen units were copied to the start first, from before those of the units after that position
+pub spread_copied : (us starts : List BidiUnit) (m end : ℕ) (old copied levels : List (Option ℕ)) → m ≤ end →
+    ((k : ℕ) → k < m → slice_index_or copied k None ≡ slice_index_or old (end - m + k) None) →
+    ((p : ℕ) → end ≤ p → slice_index_or copied p None ≡ slice_index_or old p None) →
+    ((p : ℕ) → p < end → slice_index_or levels p None ≡ level_by us starts copied m p) →
+    ((p : ℕ) → end ≤ p → slice_index_or levels p None ≡ slice_index_or copied p None) → AreSpread us starts m end (drop (end - m) old) levels
+spread_copied us starts m end old copied levels le front back written kept = record {
+  before = λ p lt.
+      written p lt
+      ∙ level_by-alike us starts copied (drop (end - m) old) m p (λ k lt. front k lt ∙ sym (get_or-drop (end - m) old k None));
+  after = λ p ge lt.
+      let z : end - m + (m + (p - end)) ≡ p = omega arith in
+      kept p ge ∙ back p ge ∙ sym (get_or-drop (end - m) old (m + (p - end)) None ∙ ap (λ i. slice_index_or old i None) z);
 }
+
+-- the column in its two parts, front and back, of which the first has those levels at its start now
+pub spread_split : (us starts : List BidiUnit) (m end : ℕ) (old part front back levels : List (Option ℕ)) → m + m ≤ end → end ≤ length old →
+    front ≡ take (end - m) old → back ≡ drop (end - m) old → part ≡ take m back →
+    ((p : ℕ) → p < end → slice_index_or levels p None ≡ level_by us starts ((part ++ drop m front) ++ back) m p) →
+    ((p : ℕ) → end ≤ p → slice_index_or levels p None ≡ slice_index_or ((part ++ drop m front) ++ back) p None) → AreSpread us starts m end (drop (end - m) old) levels
+spread_split us starts m end old part front back levels half within f b e written kept =
+    let front_long : length front ≡ end - m = ap length f ∙ length-take-le (end - m) old (omega arith) in
+    let back_long : length back ≡ length old - (end - m) = ap length b ∙ length-drop (end - m) old in
+    let part_long : length part ≡ m = ap length e ∙ length-take-le m back (omega arith) in
+    let rest_long : length (drop m front) ≡ length front - m = length-drop m front in
+    let both_long : length (part ++ drop m front) ≡ end - m = omega (arith, length-append part (drop m front), part_long, rest_long, front_long) in
+    spread_copied us starts m end old ((part ++ drop m front) ++ back) levels (omega arith)
+    (λ k lt.
+      get_or_append_left (part ++ drop m front) back None k (omega arith)
+      ∙ get_or_append_left part (drop m front) None k (omega arith)
+      ∙ ap (λ (vs : List (Option ℕ)). slice_index_or vs k None) e
+      ∙ get_or-take m back k None lt
+      ∙ ap (λ (vs : List (Option ℕ)). slice_index_or vs k None) b
+      ∙ get_or-drop (end - m) old k None)
+    (λ p ge.
+      let z : end - m + (p - (end - m)) ≡ p = omega arith in
+      get_or-append_right (part ++ drop m front) back (end - m) p None both_long (omega arith)
+      ∙ ap (λ (vs : List (Option ℕ)). slice_index_or vs (p - (end - m)) None) b
+      ∙ get_or-drop (end - m) old (p - (end - m)) None
+      ∙ ap (λ i. slice_index_or old i None) z)
+    written kept

@@ -135,8 +135,7 @@ abbrev pub ResolvesFrom : List BidiUnit → List BidiUnit → ℕ → ℕ → Li
 ResolvesFrom us starts m end few levels =
     (limits : LimitsOf) (para_level : ℕ) (chosen : List BidiUnit) → IsFlat (classes_of us) →
     AreFew (direction_of para_level) us chosen starts m end →
-    take (m + (length us - end)) few ≡ resolved_levels limits (few_and_rest us chosen m end) para_level →
-    levels ≡ resolved_levels limits us para_level
+    few ≡ resolved_levels limits (few_and_rest us chosen m end) para_level → levels ≡ resolved_levels limits us para_level
 
 -- X9: all units remain
 abbrev pub RemainAll : List BidiUnit → Type 0

@@ -1,5 +1,5 @@
 //! The levels of a flat paragraph from those of the few units that were resolved in its place.
-ghost use Rattle.std.specs.Prelude.{◌≡◌, ℕ, List, true, false, ◌+◌, ◌<◌, ◌≤◌, max, None, length, slice_index_or, if◌then◌else◌};
+ghost use Rattle.std.specs.Prelude.{◌≡◌, ℕ, List, true, false, ◌+◌, ◌<◌, ◌≤◌, max, None, length, drop, slice_index_or, if◌then◌else◌, ◌-◌};
 ghost use Rattle.units.specs.Classes.{is_removed};
 ghost use Rattle.units.specs.Layout.{no_unit};
 ghost use Rattle.units.specs.declared.bracket.Unit.{Unit as BidiUnit};
@@ -262,8 +262,10 @@ fn spread_remaining<L: Ledger>(
     write_remaining(para, 0, end, &None, levels, steps);
 }
 
-/// Writes the levels of a paragraph, of which the first levels are those of the chosen units and of all units from
-/// `few.end` on. `starts` are the positions at which the chosen ones begin. Each position is a step.
+/// Writes the levels of a paragraph, of which the last levels are those of the chosen units and of all units from
+/// `few.end` on. The latter are at their positions already. `starts` are the positions at which the chosen ones begin, of
+/// which there are at most as many as other units before `few.end`. Each position before it is a step, and so is each
+/// chosen unit, whose level is copied to the start first.
 pub fn spread<L: Ledger>(
     para: &FlatPara,
     starts: &[Unit],
@@ -273,14 +275,16 @@ pub fn spread<L: Ledger>(
 )
     requires all_remain { para.now.all_remain ≡ true → RemainAll para.now.units.now }
     requires laid { IsLaid para.now.units.now starts.now few.chosen few.end }
+    requires half { few.chosen + few.chosen ≤ few.end }
     requires starts { few.chosen ≤ length starts.now }
     requires levels { length levels.old ≡ length para.now.units.now }
-    ensures resolved { ResolvesFrom para.now.units.now starts.now few.chosen few.end levels.old levels.new }
-    ensures steps { steps.new ≡ steps.old + length para.now.units.now }
+    ensures resolved { ResolvesFrom para.now.units.now starts.now few.chosen few.end
+        (drop (few.end - few.chosen) levels.old) levels.new }
+    ensures steps { steps.new ≡ steps.old + few.chosen + few.end }
 {
-    let rest = para.units.len() - few.end;
-    steps.add(rest);
-    levels.copy_within(few.chosen..few.chosen + rest, few.end);
+    steps.add(few.chosen);
+    let (front, back) = levels.split_at_mut(few.end - few.chosen);
+    front[..few.chosen].copy_from_slice(&back[..few.chosen]);
     if para.all_remain {
         spread_all(para.units, starts, few, levels, steps);
     } else {

@@ -684,6 +684,9 @@ const WINDOW: usize = 24;
 /// How many units so many turns pass at least. In a text with more turns, the pass saves nothing.
 const LEAST_PASSED: usize = 3 * WINDOW;
 
+/// The same in the first eighth of a paragraph. If the pass ends there, what it found is not used.
+const LEAST_PASSED_BEFORE: usize = 4 * WINDOW;
+
 /// How many turns the pass may still make before it asks again, and the position at which it asked last.
 #[derive(Clone, Copy)]
 struct Granted {
@@ -707,27 +710,33 @@ fn most_turns(limit: TurnLimit, p: usize) -> usize
     }
 }
 
-/// Returns how many turns the pass may make from the position `p` on, after so many turns, before it asks again: none if
-/// there were too many, near the start or since it asked last.
-fn more_turns(limit: TurnLimit, asked: usize, p: usize, turns: usize) -> usize
+/// Returns how many turns the pass may make from the position `p` on in a paragraph of `n` units, after so many turns,
+/// before it asks again: none if there were too many, near the start or since it asked last.
+fn more_turns(limit: TurnLimit, asked: usize, p: usize, n: usize, turns: usize) -> usize
     requires asked { asked ≤ p }
     requires short { p < 2 ^ 32 }
 {
     if p < EARLY {
         return (most_turns(limit, p) + 1).saturating_sub(turns);
     }
-    if asked >= EARLY && p - asked < LEAST_PASSED {
+    let least = if p < n / 8 {
+        LEAST_PASSED_BEFORE
+    } else {
+        LEAST_PASSED
+    };
+    if asked >= EARLY && p - asked < least {
         return 0;
     }
     WINDOW
 }
 
-/// Returns what is granted at the position `p`: what remains, or more if no turn does. Not more than `room` units can be
-/// chosen.
+/// Returns what is granted at the position `p` in a paragraph of `n` units: what remains, or more if no turn does. Not
+/// more than `room` units can be chosen.
 fn granted_or_more(
     granted: Granted,
     limit: TurnLimit,
     p: usize,
+    n: usize,
     turns: usize,
     room: usize,
 ) -> Granted
@@ -740,7 +749,7 @@ fn granted_or_more(
         return granted;
     }
     Granted {
-        remaining: room.min(more_turns(limit, granted.asked, p, turns)),
+        remaining: room.min(more_turns(limit, granted.asked, p, n, turns)),
         asked: p,
     }
 }
@@ -780,7 +789,7 @@ pub fn squeeze<L: Ledger>(
     let mut strong = direction;
     let mut p = next_remaining(para, 0, steps);
     while p < para.len() {
-        granted = granted_or_more(granted, limit, p, turns, room - m);
+        granted = granted_or_more(granted, limit, p, para.len(), turns, room - m);
         if granted.remaining == 0 {
             return Few { chosen: m, end: p };
         }

@@ -1,7 +1,8 @@
 -- A flat paragraph by few of its units.
-use Rattle.std.specs.Prelude.{ℕ, Option, true, ◌++◌, ◌≡◌, List, length, take}
+use Rattle.std.specs.Prelude.{ℕ, Option, true, ◌++◌, ◌≡◌, List, [], length, drop}
 use Rattle.std.proofs.Common.{ap, sym, ◌∙◌}
-use Rattle.std.proofs.Math.Seq.{take-append_seam}
+use Rattle.std.proofs.Math.Seq.{drop-append_seam}
+use Rattle.std.proofs.lemmas.List.{append-nil}
 use Rattle.units.specs.Classes.{classes_of, is_removed}
 use Rattle.units.specs.declared.bracket.Unit.{Unit as BidiUnit}
 use Rattle.compress.specs.Laid.{RemainAll}
@@ -12,6 +13,7 @@ use Rattle.paragraph.specs.Contents.{has_none}
 pub all_remain : (us : List BidiUnit) → has_none is_removed (classes_of us) ≡ true → RemainAll us
 all_remain us none p lt = unit_remains us p lt (none_from is_removed (classes_of us) none)
 
--- the levels of the few units are the first of a paragraph's column
-pub few_levels : (m n : ℕ) (few rest levels : List (Option ℕ)) → m ≡ n → length few ≡ m → few ≡ levels → take n (few ++ rest) ≡ levels
-few_levels m n few rest levels same long e = ap (λ k. take k (few ++ rest)) (sym (long ∙ same)) ∙ take-append_seam few rest ∙ e
+-- the levels of the few units are the last of a paragraph's column, with none after them
+pub few_levels : (first : ℕ) (before few after levels : List (Option ℕ)) → length before ≡ first → after ≡ [] → few ≡ levels → drop first (before ++ (few ++ after)) ≡ levels
+few_levels first before few after levels long none e =
+    ap (λ k. drop k (before ++ (few ++ after))) (sym long) ∙ drop-append_seam before (few ++ after) ∙ ap (λ ls. few ++ ls) none ∙ append-nil few ∙ e

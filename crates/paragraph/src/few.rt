@@ -93,8 +93,10 @@ fn resolve_flat<L: Ledger>(
 /// Returns whether so many fewer units are resolved that it takes less time, although the others are copied.
 fn saves(few: Few, n: usize) -> bool
     requires { few.chosen ≤ few.end }
+    ensures half { result ≡ true → few.chosen + few.chosen ≤ few.end }
 {
-    few.end - few.chosen >= n / 8
+    let others = few.end - few.chosen;
+    others >= n / 8 && others >= few.chosen
 }
 
 /// Applies X1 to I2 to a flat paragraph of this level by few of its units: resolves these as a paragraph of their own,
@@ -147,7 +149,8 @@ fn resolve_by_few<L: Ledger>(
         contents,
         limits: para.limits,
     };
-    resolve_flat(&few_para, level, found, work, &mut levels[..count], steps);
+    let first = few.end - few.chosen;
+    resolve_flat(&few_para, level, found, work, &mut levels[first..], steps);
     let flat = FlatPara {
         units: para.units,
         all_remain: para.contents.all_remain(),
