@@ -1,0 +1,147 @@
+//! Parts of a layout by themselves: the order of a line, L1, and lists of breaks.
+ghost use Rattle.std.specs.Prelude.{◌≡◌, ◌<◌};
+
+use crate::by_lines::breaks_of;
+use crate::layouts::push_order;
+use anyhow::{Context, Result, bail};
+use explicit::paragraphs;
+use lines::breaks::Breaks;
+use lines::order::write_order;
+use lines::resets::reset_text;
+use lines::runs::Run;
+use lines::spans::LineSpan;
+use row_files::shown::push_levels;
+use row_files::words::{classes_of, number_of, numbers_of, push_word, words_of};
+use std::alloc::Global;
+use std::marker::Brand;
+use std::sync::ledger::{Blank, Ledger};
+use units::bracket::{Bracket, Unit};
+use units::level::{Level, ParaLevel};
+use units::steps::Steps;
+
+/// Returns the levels that the words of a field write, `x` for none.
+fn levels_of(alloc: Global, field: &str) -> Result<Vec<Option<Level>>> {
+    let words = words_of(alloc, field)?;
+    let mut levels = Vec::new(alloc);
+    for word in words.split_whitespace() {
+        if word == "x" {
+            levels.push(None)?;
+        } else {
+            let level = Level::new(u8::try_from(number_of(word)?)?);
+            levels.push(Some(level.context(format_args!("{word} is no level"))?))?;
+        }
+    }
+    Ok(levels)
+}
+
+/// Appends the order of the positions from `start` up to `end` of a text with these levels (L2).
+fn push_order_of<K: Ledger>(
+    alloc: Global,
+    levels: &[Option<Level>],
+    line: (usize, usize),
+    out: &mut String,
+    steps: &mut Steps<K>,
+) -> Result<()> {
+    let (start, end) = line;
+    if start > end || levels.len() < end || end > 65_536 {
+        bail!("no line of the text is there");
+    }
+    let mut runs = vec![in alloc; Run::default(); end]?;
+    let mut order = vec![in alloc; 0; end]?;
+    let line = LineSpan { levels, start, end };
+    let count = write_order(line, None, &mut runs, &mut order, steps);
+    push_order(out, order.get(..count).unwrap_or(&[]))?;
+    Ok(())
+}
+
+/// Returns the levels of paragraphs that the words of a field write, 0 or 1.
+fn paras_of(alloc: Global, field: &str) -> Result<Vec<ParaLevel>> {
+    let mut paras = Vec::new(alloc);
+    for number in &numbers_of(alloc, field)? {
+        paras.push(match number {
+            0 => ParaLevel::Zero,
+            1 => ParaLevel::One,
+            _ => bail!("{number} is no level of a paragraph"),
+        })?;
+    }
+    Ok(paras)
+}
+
+/// Appends the levels after L1 of units with these levels before it, in paragraphs with these levels.
+fn push_resets<K: Ledger>(
+    units: &[Unit],
+    at: &[usize],
+    paras: &[ParaLevel],
+    mut levels: Vec<Option<Level>>,
+    out: &mut String,
+    steps: &mut Steps<K>,
+) -> Result<()> {
+    let breaks = breaks_of(at, units.len())?;
+    if paras.len() != paragraphs(units).count() {
+        bail!("the paragraphs are not as many as their levels");
+    }
+    if levels.len() != units.len() {
+        bail!("the units are not as many as their levels");
+    }
+    reset_text(units, &breaks, paras, &mut levels, steps);
+    push_levels(out, &levels)?;
+    Ok(())
+}
+
+/// Returns the units of the classes that the words of a field name.
+fn units_in(alloc: Global, field: &str) -> Result<Vec<Unit>> {
+    let classes = classes_of(alloc, field)?;
+    let units = classes.iter().map(|class| Unit {
+        class: *class,
+        bracket: Bracket::No,
+    });
+    Ok(units.collect(alloc)?)
+}
+
+/// Appends what comes out of a part of a layout, and counts steps from the blank.
+fn push_counting<K: Ledger>(
+    alloc: Global,
+    fields: &[&str],
+    out: &mut String,
+    blank: Blank,
+) -> Result<()>
+    requires name { blank.name ≡ K.name }
+    requires parts { blank.parts ≡ K.parts }
+    requires some { 0 < blank.parts }
+{
+    let mut steps = Steps::<K>::new(blank);
+    match *fields {
+        ["order", line, levels] => {
+            let (start, end) = line.split_once("..").context("no `..` is in the line")?;
+            let line = (number_of(start)?, number_of(end)?);
+            push_order_of(alloc, &levels_of(alloc, levels)?, line, out, &mut steps)
+        }
+        ["resets", at, paras, classes, levels] => push_resets(
+            &units_in(alloc, classes)?,
+            &numbers_of(alloc, at)?,
+            &paras_of(alloc, paras)?,
+            levels_of(alloc, levels)?,
+            out,
+            &mut steps,
+        ),
+        _ => bail!("no verb has this name and so many fields"),
+    }
+}
+
+/// Appends what comes out of a part of a layout: `order` of a line, or `resets` of a text.
+pub fn push_part(alloc: Global, fields: &[&str], out: &mut String) -> Result<()> {
+    push_counting::<Brand>(alloc, fields, out, Blank::new(1))
+}
+
+/// Appends the breaks of a text of this length and the length, or the fault.
+pub fn push_breaks(alloc: Global, len: &str, at: &str, out: &mut String) -> Result<()> {
+    let at = numbers_of(alloc, at)?;
+    match Breaks::new(&at, number_of(len)?) {
+        Ok(breaks) => {
+            push_order(out, breaks.positions())?;
+            push_word(out, format_args!("of {}", breaks.text_len()))?;
+        }
+        Err(fault) => push_word(out, format_args!("{fault:?}"))?,
+    }
+    Ok(())
+}
