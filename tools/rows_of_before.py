@@ -93,6 +93,66 @@ verdict_line::prints_verdicts_of_any_numbers -> judged_rows/verdicts.txt 39
 verdict_line::says_that_a_write_failed -> judged_rows/verdicts.txt 3
 """
 
+TABLE["layout_tests"] = """
+deep::overflows -> layout_rows/layouts.txt 3
+deep::isolates_inside_an_overflow -> layout_rows/layouts.txt 1
+deep::pdis_inside_an_overflow -> layout_rows/layouts.txt 1
+deep::pairs_63_open_brackets -> layout_rows/layouts.txt 1
+deep::stops_at_64_open_brackets -> layout_rows/layouts.txt 1
+deep::resets_isolates_up_to_the_end -> layout_rows/layouts.txt 1
+deep::nests_isolates_deeply -> layout_rows/layouts.txt 1
+deep::lays_out_with_the_given_limits -> layout_rows/layouts.txt 5
+hard_rows::rows_that_engines_missed -> layout_rows/engines.txt 28
+hard_rows::embeddings_that_an_engine_missed -> layout_rows/engines.txt 1
+hard_rows::lines_that_engines_missed -> layout_rows/engines.txt 5
+line_rows::names_the_first_fault -> layout_rows/lines.txt 5
+line_rows::no_growth_comes_after_making stays: it is run with each allocation failing in turn (tools/refused_growths.sh)
+line_rows::sets_lines_of_a_text -> layout_rows/lines.txt 3
+line_rows::counts_a_search_through_the_paragraphs_as_25_steps stays: it is about a constant, which a contract states
+line_rows::lays_out_one_line_alone -> layout_rows/lines.txt 4
+line_rows::lays_out_after_too_long -> layout_rows/layouts.txt 2
+line_rows::a_break_after_a_separator_adds_nothing -> layout_rows/lines.txt 2
+line_rows::a_break_begins_a_line -> layout_rows/lines.txt 2
+line_rows::rejects_too_large_capacity -> layout_rows/made.txt 2
+parts::writes_the_order_of_a_line_in_its_text -> layout_rows/parts.txt 1
+parts::links_runs_inside_runs -> layout_rows/parts.txt 1
+parts::resets_by_own_classes -> layout_rows/parts.txt 1
+rows::pairs_brackets -> layout_rows/layouts.txt 4
+rows::embeds_and_isolates -> layout_rows/layouts.txt 6
+shown_rows::mirrors_at_odd_levels -> layout_rows/layouts.txt 1, layout_rows/shown.txt 2
+shown_rows::mirrors_nothing_at_even_levels -> layout_rows/layouts.txt 1, layout_rows/shown.txt 2
+"""
+
+TABLE["room_row_tests"] = """
+direction_rows::level_of_the_first_paragraph -> layout_rows/directions.txt 10
+direction_rows::texts_that_stay_at_level_zero -> layout_rows/directions.txt 8
+room_rows::lays_out_each_source -> layout_rows/rooms.txt 47
+room_shown::shows_code_points -> layout_rows/shown.txt 1
+room_shown::shows_numbers -> layout_rows/shown.txt 1
+room_shown::shows_utf8 -> layout_rows/shown.txt 2
+room_shown::shows_utf16 -> layout_rows/shown.txt 1
+room_sizes::rooms_of_any_size_are_made -> layout_rows/made.txt 14
+room_sizes::rooms_of_any_size_are_reserved -> layout_rows/made.txt 14
+room_sizes::a_room_that_is_too_big_is_not_made -> layout_rows/made.txt 1
+text_rows::shows_each_line -> layout_rows/shown.txt 2
+text_rows::names_the_first_faulty_break -> layout_rows/shown.txt 2
+text_rows::shows_a_line_of_any_length -> layout_rows/shown.txt 8
+text_rows::lays_out_a_text_of_any_length -> layout_rows/long.txt 6
+text_rows::rejects_a_text_that_is_too_long -> layout_rows/long.txt 1
+"""
+
+TABLE["room_call_tests"] = """
+room_lines::lays_out_lines_alone -> layout_rows/calls.txt 13
+room_lines::lays_out_no_line_of_two_paragraphs -> layout_rows/calls.txt 3
+room_lines::finds_levels_of_paragraphs -> layout_rows/calls.txt 1
+room_lines::keeps_levels_before_l1 -> layout_rows/calls.txt 2
+room_lines::gives_removed_characters_levels -> layout_rows/calls.txt 4
+room_rejected::rejects_texts -> layout_rows/rejected.txt 17
+room_rejected::rejects_code_units_without_offsets -> layout_rows/rejected.txt 2
+room_rejected::sets_lines -> layout_rows/rejected.txt 5
+room_rejected::leaves_lists_that_are_too_short -> layout_rows/calls.txt 1
+"""
+
 TABLE["table_tests"] = """
 arbitrary_tables::arbitrary_bytes_state_no_table -> table_rows/sources.txt 3
 kit_classes::new_characters_differ_as_listed -> table_rows/standard.txt 7

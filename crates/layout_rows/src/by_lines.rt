@@ -3,7 +3,7 @@ ghost use Rattle.std.specs.Prelude.{◌≡◌, IfOk, OnOk};
 ghost use Rattle.lines.specs.Scratches.{IsFilled};
 
 use crate::given::Given;
-use crate::layouts::push_layout;
+use crate::layouts::{push_layout, push_outcome};
 use crate::options::{Form, Options};
 use anyhow::{Result, bail};
 use lines::breaks::Breaks;
@@ -87,8 +87,9 @@ pub fn scratch_for(alloc: Global, options: &Options, units: &[Unit]) -> Result<S
     }
 }
 
-/// Lays out these units, and appends the fault, if there is one, and the layout that is then in the scratch.
+/// Lays out these units, and appends what that leaves.
 fn push_laid_out(
+    alloc: Global,
     scratch: &mut Scratch,
     units: &[Unit],
     options: &Options,
@@ -101,10 +102,13 @@ fn push_laid_out(
         direction, limits, ..
     } = *options;
     let breaks = breaks_of(&options.breaks, units.len())?;
-    if let Err(fault) = lay_out_into_with(scratch, units, direction, &breaks, limits) {
-        push_word(out, format_args!("{fault:?}"))?;
-    }
-    push_layout(out, &scratch.layout())
+    let mut before = String::new(alloc);
+    push_layout(&mut before, &scratch.layout())?;
+    let outcome = lay_out_into_with(scratch, units, direction, &breaks, limits);
+    let mut after = String::new(alloc);
+    push_layout(&mut after, &scratch.layout())?;
+    push_outcome(out, outcome, before.as_str(), after.as_str())?;
+    Ok(())
 }
 
 /// Lays out these units, which must fit, and breaks them into lines again. Appends both layouts.
@@ -155,6 +159,7 @@ fn in_units(
 
 /// Appends what the second of two texts leaves after the first one.
 fn push_both(
+    alloc: Global,
     scratch: &mut Scratch,
     first: &InUnits,
     second: &InUnits,
@@ -165,9 +170,9 @@ fn push_both(
     if second.options.form == Form::Again {
         return push_again(scratch, &first.units, &first.options, &second.options, out);
     }
-    push_laid_out(scratch, &first.units, &first.options, out)?;
+    push_laid_out(alloc, scratch, &first.units, &first.options, out)?;
     push_word(out, "then")?;
-    push_laid_out(scratch, &second.units, &second.options, out)
+    push_laid_out(alloc, scratch, &second.units, &second.options, out)
 }
 
 /// Does what `push_layouts` does, in a `Scratch`, and returns true, for one or two texts of classes or code points,
@@ -191,9 +196,9 @@ pub fn push_by_lines(
     };
     let mut scratch = scratch_for(alloc, &first.options, &first.units)?;
     match second {
-        None => push_laid_out(&mut scratch, &first.units, &first.options, out)?,
+        None => push_laid_out(alloc, &mut scratch, &first.units, &first.options, out)?,
         Some(None) => return Ok(false),
-        Some(Some(second)) => push_both(&mut scratch, &first, &second, out)?,
+        Some(Some(second)) => push_both(alloc, &mut scratch, &first, &second, out)?,
     }
     Ok(true)
 }

@@ -11,6 +11,7 @@ use row_files::shown::push_levels;
 use row_files::words::push_word;
 use sources::source::Ask;
 use std::alloc::{AllocError, Global};
+use std::fmt::Debug;
 use ucdfiles::tables::Tables;
 
 /// Appends a stretch of consecutive positions.
@@ -104,22 +105,46 @@ fn change(
     Ok(lay_out(tables, room, options, &given))
 }
 
-/// Appends the fault of a text, if it has one, and the layout that is then in the room.
+/// Appends the layout that a change leaves. If the change fails, appends the fault, and the layout only if it is
+/// another one than before.
+pub fn push_outcome<F: Debug + Drop>(
+    out: &mut String,
+    outcome: Result<(), F>,
+    before: &str,
+    after: &str,
+) -> Result<(), AllocError> {
+    match outcome {
+        Ok(()) => push_word(out, after),
+        Err(fault) => {
+            push_word(out, format_args!("{fault:?}"))?;
+            if before == after {
+                Ok(())
+            } else {
+                push_word(out, after)
+            }
+        }
+    }
+}
+
+/// Changes what is in a room, and appends what that leaves. `layout` is the one before, and then the one after.
 fn push_change(
     alloc: Global,
     tables: &Tables,
     room: &mut Room,
     fields: &[&str],
+    layout: &mut String,
     out: &mut String,
 ) -> Result<()> {
     let [options, text] = *fields else {
         bail!("a text is two fields: its options and its items");
     };
     let options = Options::of_field(alloc, options)?;
-    if let Err(fault) = change(alloc, tables, room, &options, text)? {
-        push_word(out, format_args!("{fault:?}"))?;
-    }
-    push_layout_in(alloc, room, out)
+    let outcome = change(alloc, tables, room, &options, text)?;
+    let mut after = String::new(alloc);
+    push_layout_in(alloc, room, &mut after)?;
+    push_outcome(out, outcome, layout.as_str(), after.as_str())?;
+    *layout = after;
+    Ok(())
 }
 
 /// Makes the room for the first of these texts.
@@ -134,11 +159,13 @@ fn first_room(alloc: Global, texts: &[&str]) -> Result<Room> {
 /// Appends what each of these texts leaves in one room, with `then` between them. Each text is two fields.
 pub fn push_layouts(alloc: Global, tables: &Tables, texts: &[&str], out: &mut String) -> Result<()> {
     let mut room = first_room(alloc, texts)?;
+    let mut layout = String::new(alloc);
+    push_layout_in(alloc, &room, &mut layout)?;
     for fields in texts.chunks(2) {
         if !out.is_empty() {
             push_word(out, "then")?;
         }
-        push_change(alloc, tables, &mut room, fields, out)?;
+        push_change(alloc, tables, &mut room, fields, &mut layout, out)?;
     }
     Ok(())
 }

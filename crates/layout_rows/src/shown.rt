@@ -7,7 +7,7 @@ use crate::options::Options;
 use anyhow::{Result, bail};
 use room::room::Room;
 use room::text::Text;
-use row_files::words::{push_word, text_of};
+use row_files::words::{character_of, number_of, push_word};
 use std::alloc::{AllocError, Global};
 use ucdfiles::tables::Tables;
 
@@ -135,6 +135,42 @@ fn push_text(out: &mut String, text: &str) -> Result<(), AllocError> {
     Ok(())
 }
 
+/// Returns a character and how often a word repeats it: `CODE` or `CODE*COUNT`.
+fn repeated(word: &str) -> Result<(char, usize)> {
+    match word.split_once('*') {
+        Some((code, count)) => Ok((character_of(code)?, number_of(count)?)),
+        None => Ok((character_of(word)?, 1)),
+    }
+}
+
+/// Appends a character so often.
+fn push_repeated(text: &mut String, c: char, count: usize) -> Result<(), AllocError> {
+    for _ in 0..count {
+        text.push(c)?;
+    }
+    Ok(())
+}
+
+/// Returns the text of the code points that the words of a field write, without the words of a repeated one.
+fn long_text_of(alloc: Global, field: &str) -> Result<String> {
+    let mut text = String::new(alloc);
+    for word in field.split_whitespace() {
+        let (c, count) = repeated(word)?;
+        push_repeated(&mut text, c, count)?;
+    }
+    Ok(text)
+}
+
+/// Appends how many lines a `Text` has, and the last one as it is shown.
+fn push_last_line(alloc: Global, text: &Text<'_>, out: &mut String) -> Result<(), AllocError> {
+    let count = text.layout().line_count();
+    push_word(out, count)?;
+    if count > 0 {
+        push_text(out, &text.shown_line(alloc, count - 1)?)?;
+    }
+    Ok(())
+}
+
 /// Appends each line of a `Text` as it is shown, with `|` between them.
 fn push_lines_of(alloc: Global, text: &Text<'_>, out: &mut String) -> Result<(), AllocError> {
     for k in 0..text.layout().line_count() {
@@ -146,7 +182,8 @@ fn push_lines_of(alloc: Global, text: &Text<'_>, out: &mut String) -> Result<(),
     Ok(())
 }
 
-/// Appends what comes out of a `Text` of these code points: its lines as they are shown, or its layout; or the fault.
+/// Appends what comes out of a `Text` of these code points: its lines as they are shown, the last of them, or its
+/// layout; or the fault.
 pub fn push_of_text(
     alloc: Global,
     tables: &Tables,
@@ -155,7 +192,7 @@ pub fn push_of_text(
     codes: &str,
     out: &mut String,
 ) -> Result<()> {
-    let words = text_of(alloc, codes)?;
+    let words = long_text_of(alloc, codes)?;
     let text = match Text::lay_out(alloc, tables, &words, options.direction, &options.breaks) {
         Ok(text) => text,
         Err(fault) => return Ok(push_word(out, format_args!("{fault:?}"))?),
@@ -166,6 +203,7 @@ pub fn push_of_text(
     }
     match verb {
         "shown" => push_lines_of(alloc, &text, out)?,
+        "last line" => push_last_line(alloc, &text, out)?,
         "layout" => push_layout(out, &text.layout())?,
         _ => bail!("no verb of a text is named {verb}"),
     }

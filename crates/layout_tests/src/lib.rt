@@ -1,19 +1,8 @@
-//! Tests of layouts: worked rows of whole texts, of their lines, and of the characters that are shown. They are in a
-//! crate of their own, so that no crate is proved a second time with its tests. Tests that use the whole capacity are
-//! in `room_tests`.
+//! Tests of layouts that no row of `layout_rows` can say: that a scratch lays out with what it was made with, and a
+//! constant. They are in a crate of their own, so that no crate is proved a second time with its tests.
 #![tactic(auto)]
 
 #[cfg(test)]
-mod deep;
-#[cfg(test)]
 mod given;
 #[cfg(test)]
-mod hard_rows;
-#[cfg(test)]
 mod line_rows;
-#[cfg(test)]
-mod parts;
-#[cfg(test)]
-mod rows;
-#[cfg(test)]
-mod shown_rows;
