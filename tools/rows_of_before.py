@@ -137,7 +137,7 @@ room_sizes::a_room_that_is_too_big_is_not_made -> layout_rows/made.txt 1
 text_rows::shows_each_line -> layout_rows/shown.txt 2
 text_rows::names_the_first_faulty_break -> layout_rows/shown.txt 2
 text_rows::shows_a_line_of_any_length -> layout_rows/shown.txt 8
-text_rows::lays_out_a_text_of_any_length -> layout_rows/long.txt 6
+text_rows::lays_out_a_text_of_any_length -> layout_rows/shown.txt 3, layout_rows/long.txt 3
 text_rows::rejects_a_text_that_is_too_long -> layout_rows/long.txt 1
 """
 
