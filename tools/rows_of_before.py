@@ -150,7 +150,7 @@ room_lines::gives_removed_characters_levels -> layout_rows/calls.txt 4
 room_rejected::rejects_texts -> layout_rows/rejected.txt 17
 room_rejected::rejects_code_units_without_offsets -> layout_rows/rejected.txt 2
 room_rejected::sets_lines -> layout_rows/rejected.txt 5
-room_rejected::leaves_lists_that_are_too_short -> layout_rows/calls.txt 1
+room_rejected::leaves_lists_that_are_too_short -> layout_rows/calls.txt 4
 """
 
 TABLE["table_tests"] = """

@@ -1,5 +1,5 @@
 //! The same by the calls of `lines`: units are laid out in a `Scratch`.
-ghost use Rattle.std.specs.Prelude.{◌≡◌, IfOk, OnOk};
+ghost use Rattle.std.specs.Prelude.{◌≡◌, IfOk};
 ghost use Rattle.lines.specs.Scratches.{IsFilled};
 
 use crate::given::Given;
@@ -16,35 +16,17 @@ use ucdfiles::tables::Tables;
 use units::bracket::{Bracket, Unit};
 use units::level::Direction;
 
-/// Returns the units of classes, or nothing if a number is not that of a class.
-fn units_of_classes(alloc: Global, numbers: &[u8]) -> Result<Option<Vec<Unit>>, AllocError> {
-    let mut units = Vec::new(alloc);
-    for number in numbers {
-        let Some(class) = class_numbered(*number) else {
-            return Ok(None);
-        };
-        units.push(Unit {
-            class,
-            bracket: Bracket::No,
-        })?;
-    }
-    Ok(Some(units))
+/// Returns the unit of the class with a number, if there is one. It is no bracket.
+fn unit_of_class(number: u8) -> Option<Unit> {
+    Some(Unit {
+        class: class_numbered(number)?,
+        bracket: Bracket::No,
+    })
 }
 
-/// Returns the units of code points, or nothing if one is no character.
-fn units_of_codes(
-    alloc: Global,
-    tables: &Tables,
-    codes: &[u32],
-) -> Result<Option<Vec<Unit>>, AllocError> {
-    let mut units = Vec::new(alloc);
-    for code in codes {
-        let Some(c) = char::from_u32(*code) else {
-            return Ok(None);
-        };
-        units.push(tables.unit(c))?;
-    }
-    Ok(Some(units))
+/// Returns the unit of a code point, if it is that of a character.
+fn unit_of_code(tables: &Tables, code: u32) -> Option<Unit> {
+    Some(tables.unit(char::from_u32(code)?))
 }
 
 /// Returns the units of a text of classes or code points. Returns nothing for one in code units, or if it is not well
@@ -54,11 +36,16 @@ pub fn units_of(
     tables: &Tables,
     given: &Given,
 ) -> Result<Option<Vec<Unit>>, AllocError> {
-    match given {
-        Given::Classes(numbers) => units_of_classes(alloc, numbers),
-        Given::Codes(codes) => units_of_codes(alloc, tables, codes),
-        Given::Utf8(_, _) | Given::Utf16(_, _) => Ok(None),
+    let units: Vec<Option<Unit>> = match given {
+        Given::Classes(numbers) => numbers.iter().map(|n| unit_of_class(*n)).collect(alloc)?,
+        Given::Codes(codes) => codes.iter().map(|c| unit_of_code(tables, *c)).collect(alloc)?,
+        Given::Utf8(_, _) | Given::Utf16(_, _) => return Ok(None),
+    };
+    if units.iter().any(|unit| unit.is_none()) {
+        return Ok(None);
     }
+    let units: Vec<Unit> = units.iter().copied().flatten().collect(alloc)?;
+    Ok(Some(units))
 }
 
 /// Returns breaks of a text of `len` units. Fails if they are faulty.
@@ -87,16 +74,16 @@ pub fn scratch_for(alloc: Global, options: &Options, units: &[Unit]) -> Result<S
     }
 }
 
-/// Lays out these units, and appends what that leaves.
-fn push_laid_out(
+/// Lays out these units, and appends what that leaves; then, if other breaks are given, breaks them into lines again.
+fn push_units(
     alloc: Global,
     scratch: &mut Scratch,
     units: &[Unit],
     options: &Options,
+    again: Option<&[usize]>,
     out: &mut String,
 ) -> Result<()>
     requires { IsFilled scratch.old }
-    ensures { OnOk result (IsFilled scratch.new) }
 {
     let Options {
         direction, limits, ..
@@ -108,97 +95,47 @@ fn push_laid_out(
     let mut after = String::new(alloc);
     push_layout(&mut after, &scratch.layout())?;
     push_outcome(out, outcome, before.as_str(), after.as_str())?;
-    Ok(())
-}
-
-/// Lays out these units, which must fit, and breaks them into lines again. Appends both layouts.
-fn push_again(
-    scratch: &mut Scratch,
-    units: &[Unit],
-    options: &Options,
-    again: &Options,
-    out: &mut String,
-) -> Result<()> {
-    let Options {
-        direction, limits, ..
-    } = *options;
-    let breaks = breaks_of(&options.breaks, units.len())?;
-    let others = breaks_of(&again.breaks, units.len())?;
-    if let Err(fault) = lay_out_into_with(scratch, units, direction, &breaks, limits) {
-        bail!("the text is rejected: {fault:?}");
+    if outcome.is_err() {
+        return Ok(());
     }
-    push_layout(out, &scratch.layout())?;
+    let Some(again) = again else {
+        return Ok(());
+    };
+    let breaks = breaks_of(again, units.len())?;
+    set_lines_into(scratch, units, &breaks);
     push_word(out, "then")?;
-    set_lines_into(scratch, units, &others);
     push_layout(out, &scratch.layout())
 }
 
-/// A text that `lines` can lay out.
-#[derive(Drop)]
-struct InUnits {
-    options: Options,
-    units: Vec<Unit>,
+/// Returns the breaks at which a text is broken into lines again, if that is all that follows it.
+fn breaks_again(alloc: Global, following: &[&str]) -> Result<Option<Vec<usize>>> {
+    let [options, _] = *following else {
+        return Ok(None);
+    };
+    let Options { form, breaks, .. } = Options::of_field(alloc, options)?;
+    Ok(if form == Form::Again { Some(breaks) } else { None })
 }
 
-/// Reads a text, or returns nothing if it has no units.
-fn in_units(
-    alloc: Global,
-    tables: &Tables,
-    options: &str,
-    text: &str,
-) -> Result<Option<InUnits>> {
-    let options = Options::of_field(alloc, options)?;
-    if options.form == Form::Again {
-        let units = Vec::new(alloc);
-        return Ok(Some(InUnits { options, units }));
-    }
-    let given = Given::of_field(alloc, &options, text)?;
-    let units = units_of(alloc, tables, &given)?;
-    Ok(units.map(|units| InUnits { options, units }))
-}
-
-/// Appends what the second of two texts leaves after the first one.
-fn push_both(
-    alloc: Global,
-    scratch: &mut Scratch,
-    first: &InUnits,
-    second: &InUnits,
-    out: &mut String,
-) -> Result<()>
-    requires { IsFilled scratch.old }
-{
-    if second.options.form == Form::Again {
-        return push_again(scratch, &first.units, &first.options, &second.options, out);
-    }
-    push_laid_out(alloc, scratch, &first.units, &first.options, out)?;
-    push_word(out, "then")?;
-    push_laid_out(alloc, scratch, &second.units, &second.options, out)
-}
-
-/// Does what `push_layouts` does, in a `Scratch`, and returns true, for one or two texts of classes or code points,
-/// also if the first one is broken into lines again. For others it returns false.
+/// Does what `push_layouts` does, in a `Scratch`, and returns true, for one text of classes or code points, also if it
+/// is broken into lines again. For others it returns false.
 pub fn push_by_lines(
     alloc: Global,
     tables: &Tables,
     texts: &[&str],
     out: &mut String,
 ) -> Result<bool> {
-    let (first, second) = match *texts {
-        [options, text] => (in_units(alloc, tables, options, text)?, None),
-        [options, text, options_then, then] => (
-            in_units(alloc, tables, options, text)?,
-            Some(in_units(alloc, tables, options_then, then)?),
-        ),
-        _ => return Ok(false),
-    };
-    let Some(first) = first else {
+    let [options, text, ref following @ ..] = *texts else {
         return Ok(false);
     };
-    let mut scratch = scratch_for(alloc, &first.options, &first.units)?;
-    match second {
-        None => push_laid_out(alloc, &mut scratch, &first.units, &first.options, out)?,
-        Some(None) => return Ok(false),
-        Some(Some(second)) => push_both(alloc, &mut scratch, &first, &second, out)?,
+    let options = Options::of_field(alloc, options)?;
+    let again = breaks_again(alloc, following)?;
+    let given = Given::of_field(alloc, &options, text)?;
+    match units_of(alloc, tables, &given)? {
+        Some(units) if again.is_some() || following.is_empty() => {
+            let mut scratch = scratch_for(alloc, &options, &units)?;
+            push_units(alloc, &mut scratch, &units, &options, again.as_deref(), out)?;
+            Ok(true)
+        }
+        _ => Ok(false),
     }
-    Ok(true)
 }

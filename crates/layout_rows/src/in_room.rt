@@ -2,10 +2,12 @@
 ghost use Rattle.std.specs.Prelude.{◌<◌, length};
 
 use crate::layouts::push_order;
+use crate::lists::{FILLING, filled};
 use anyhow::{Result, bail};
+use room::lookups::Line;
 use room::places::NOWHERE;
 use room::room::Room;
-use row_files::shown::{push_level, push_levels, push_position};
+use row_files::shown::{push_levels, push_position};
 use row_files::words::push_word;
 use std::alloc::{AllocError, Global};
 use units::level::{Level, ParaLevel};
@@ -13,11 +15,10 @@ use visual::runs::VisualRun;
 
 /// Appends where each character begins, and where the text ends.
 pub fn push_starts(room: &Room, out: &mut String) -> Result<(), AllocError> {
-    let count = room.characters();
-    for k in 0..count {
+    for k in 0..=room.characters() {
         push_word(out, room.offset_of(k))?;
     }
-    push_word(out, room.offset_of(count))
+    Ok(())
 }
 
 /// Fails if the level at one of these offsets is not the one in the list, or if there is one after them.
@@ -33,59 +34,49 @@ fn compare_levels(room: &Room, levels: &[Option<Level>]) -> Result<()> {
     Ok(())
 }
 
-/// Appends the level of each unit, or `empty` if there is none.
-fn push_levels_in(alloc: Global, room: &Room, out: &mut String) -> Result<()> {
-    let mut levels = vec![in alloc; None; room.text_len()]?;
-    if room.levels(&mut levels) != levels.len() {
-        bail!("the text has not as many levels as units");
-    }
-    push_levels(out, &levels)?;
-    if levels.is_empty() {
-        push_word(out, "empty")?;
-    }
-    compare_levels(room, &levels)
-}
-
 /// Appends where the shown characters of a line begin, from left to right.
 fn push_order_in(alloc: Global, room: &Room, k: usize, out: &mut String) -> Result<()>
     requires { k < length room.now.layout.lines }
 {
-    let count = room.order(k, &mut []);
-    let mut order = vec![in alloc; 0; count]?;
-    if room.order(k, &mut order) != count {
-        bail!("line {k} does not show as many characters as it says");
-    }
-    push_order(out, &order)?;
-    Ok(())
+    let order = filled(alloc, FILLING, |out| room.order(k, out))?;
+    Ok(push_order(out, &order)?)
 }
 
-/// Appends the level of each unit, and after a `|` the order of each line. Both are in the units of the text.
+/// Appends the level of each unit, and after a `|` the order of each line, or `empty` for a text of no units. Both are
+/// in the units of the text.
 pub fn push_layout_in(alloc: Global, room: &Room, out: &mut String) -> Result<()> {
-    push_levels_in(alloc, room, out)?;
+    let levels = filled(alloc, Level::new(99), |out| room.levels(out))?;
+    compare_levels(room, &levels)?;
+    push_levels(out, &levels)?;
     for k in 0..room.line_count() {
         push_word(out, "|")?;
         push_order_in(alloc, room, k, out)?;
     }
+    if levels.is_empty() {
+        push_word(out, "empty")?;
+    }
     Ok(())
 }
 
-/// Appends the level of each character; one that X9 removes has been given one.
+/// Appends a level for each character, also for one that X9 removes.
 pub fn push_whole_levels(alloc: Global, room: &Room, out: &mut String) -> Result<()> {
-    let mut levels = vec![in alloc; 0; room.characters()]?;
-    if room.whole_levels(&mut levels) != levels.len() {
-        bail!("the text has not as many levels as characters");
-    }
-    for level in &levels {
+    for level in &filled(alloc, 99, |out| room.whole_levels(out))? {
         push_word(out, *level)?;
+    }
+    Ok(())
+}
+
+/// Appends the level of each paragraph.
+pub fn push_para_levels(room: &Room, out: &mut String) -> Result<(), AllocError> {
+    for level in room.layout().para_levels() {
+        push_word(out, level.level().get())?;
     }
     Ok(())
 }
 
 /// Appends the level of each paragraph, and after a `|` the level of the paragraph of each unit, `-` after the text.
 pub fn push_paragraphs(room: &Room, out: &mut String) -> Result<(), AllocError> {
-    for level in room.layout().para_levels() {
-        push_word(out, level.level().get())?;
-    }
+    push_para_levels(room, out)?;
     push_word(out, "|")?;
     for at in 0..=room.text_len() {
         let level = room.para_level_at(at).map(|level| level.level().get());
@@ -94,26 +85,26 @@ pub fn push_paragraphs(room: &Room, out: &mut String) -> Result<(), AllocError> 
     Ok(())
 }
 
-/// Appends where a line begins and ends, and how many characters it shows.
-fn push_bounds(room: &Room, k: usize, out: &mut String) -> Result<(), AllocError>
-    requires { k < length room.now.layout.lines }
-{
-    let line = room.line(k);
-    let (start, end, shown) = (line.start, line.end, line.shown);
-    push_word(out, format_args!("{start}..{end}:{shown}"))
+/// Appends of each line where it begins and ends, and how many characters it shows.
+pub fn push_lines(alloc: Global, room: &Room, out: &mut String) -> Result<()> {
+    let filling = Line {
+        start: FILLING,
+        end: FILLING,
+        shown: FILLING,
+    };
+    for line in &filled(alloc, filling, |out| room.lines(out))? {
+        let Line { start, end, shown } = *line;
+        push_word(out, format_args!("{start}..{end}:{shown}"))?;
+    }
+    Ok(())
 }
 
 /// Appends the place of each unit of a line, `-` if it has none.
 fn push_places(alloc: Global, room: &Room, k: usize, out: &mut String) -> Result<()>
     requires { k < length room.now.layout.lines }
 {
-    let count = room.places(k, &mut []);
-    let mut places = vec![in alloc; 0; count]?;
-    if room.places(k, &mut places) != count {
-        bail!("line {k} has not as many units as it says");
-    }
-    for place in &places {
-        push_position(out, if *place == NOWHERE { None } else { Some(*place) })?;
+    for place in &filled(alloc, FILLING, |out| room.places(k, out))? {
+        push_position(out, Some(*place).filter(|place| *place != NOWHERE))?;
     }
     Ok(())
 }
@@ -123,59 +114,30 @@ fn push_places(alloc: Global, room: &Room, k: usize, out: &mut String) -> Result
 fn push_runs(alloc: Global, room: &Room, k: usize, out: &mut String) -> Result<()>
     requires { k < length room.now.layout.lines }
 {
-    let count = room.runs(k, &mut []);
-    let none = VisualRun {
-        start: 0,
-        end: 0,
-        level: ParaLevel::Zero.level(),
-        shown: 0,
+    let filling = VisualRun {
+        start: FILLING,
+        end: FILLING,
+        level: ParaLevel::One.level(),
+        shown: FILLING,
     };
-    let mut runs = vec![in alloc; none; count]?;
-    if room.runs(k, &mut runs) != count {
-        bail!("line {k} has not as many runs as it says");
-    }
-    for run in &runs {
+    for run in &filled(alloc, filling, |out| room.runs(k, out))? {
         let (start, end, level, shown) = (run.start, run.end, run.level.get(), run.shown);
         push_word(out, format_args!("{start}..{end}:{level}:{shown}"))?;
     }
     Ok(())
 }
 
-/// What comes out of each line.
-#[derive(Clone, Copy)]
-pub enum OfLine {
-    Bounds,
-    Places,
-    Runs,
-}
-
-/// Appends what comes out of a line.
-fn push_of_line(
-    alloc: Global,
-    of_line: OfLine,
-    room: &Room,
-    k: usize,
-    out: &mut String,
-) -> Result<()>
-    requires { k < length room.now.layout.lines }
-{
-    match of_line {
-        OfLine::Bounds => Ok(push_bounds(room, k, out)?),
-        OfLine::Places => push_places(alloc, room, k, out),
-        OfLine::Runs => push_runs(alloc, room, k, out),
-    }
-}
-
-/// Appends what comes out of each line, with `|` between them, or `empty` if there is none.
-pub fn push_of_lines(alloc: Global, of_line: OfLine, room: &Room, out: &mut String) -> Result<()> {
+/// Appends the places or the runs of each line, with `|` between them.
+pub fn push_of_lines(alloc: Global, runs: bool, room: &Room, out: &mut String) -> Result<()> {
     for k in 0..room.line_count() {
         if k > 0 {
             push_word(out, "|")?;
         }
-        push_of_line(alloc, of_line, room, k, out)?;
-    }
-    if room.line_count() == 0 {
-        push_word(out, "empty")?;
+        if runs {
+            push_runs(alloc, room, k, out)?;
+        } else {
+            push_places(alloc, room, k, out)?;
+        }
     }
     Ok(())
 }

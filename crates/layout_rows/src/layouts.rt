@@ -29,7 +29,7 @@ fn push_stretch(out: &mut String, stretch: &[usize]) -> Result<(), AllocError> {
 
 /// Appends positions. Ten or more that rise or fall by one are `FIRST to LAST`.
 pub fn push_order(out: &mut String, order: &[usize]) -> Result<(), AllocError> {
-    for stretch in order.chunk_by(|left, right| left.abs_diff(*right) == 1) {
+    for stretch in order.chunk_by(|one, next| one.abs_diff(*next) == 1) {
         push_stretch(out, stretch)?;
     }
     Ok(())

@@ -11,17 +11,18 @@ mod by_lines;
 mod given;
 mod in_room;
 mod layouts;
+mod lists;
 mod made;
 mod options;
 mod parts;
 mod shown;
-mod too_short;
+mod texts;
 
 use alone::push_alone;
 use anyhow::{Result, bail};
 use by_lines::push_by_lines;
 use given::Given;
-use in_room::{OfLine, push_of_lines, push_paragraphs, push_starts, push_whole_levels};
+use in_room::{push_lines, push_of_lines, push_paragraphs, push_starts, push_whole_levels};
 use layouts::{laid_out, push_layouts};
 use made::push_what;
 use options::{Form, Options};
@@ -31,10 +32,10 @@ use room::room::Room;
 use row_files::files::{Check, check_files};
 use row_files::shown::push_levels;
 use row_files::words::push_word;
-use shown::{InRoom, push_of_text};
+use shown::InRoom;
 use std::alloc::Global;
 use std::process::ExitCode;
-use too_short::push_needed;
+use texts::push_of_text;
 use ucdfiles::tables::Tables;
 
 /// Does what the rows ask for, with these tables.
@@ -51,11 +52,10 @@ fn push_in_room(alloc: Global, verb: &str, in_room: InRoom<'_>, out: &mut String
         "levels before L1" => Ok(push_levels(out, room.resolved_levels())?),
         "whole levels" => push_whole_levels(alloc, room, out),
         "paragraphs" => Ok(push_paragraphs(room, out)?),
-        "lines" => push_of_lines(alloc, OfLine::Bounds, room, out),
-        "places" => push_of_lines(alloc, OfLine::Places, room, out),
-        "runs" => push_of_lines(alloc, OfLine::Runs, room, out),
+        "lines" => push_lines(alloc, room, out),
+        "places" => push_of_lines(alloc, false, room, out),
+        "runs" => push_of_lines(alloc, true, room, out),
         "shown" => in_room.push_lines(alloc, out),
-        "items" => push_needed(alloc, room, out),
         _ => bail!("no verb is named {verb}"),
     }
 }

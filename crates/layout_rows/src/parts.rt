@@ -3,7 +3,7 @@ ghost use Rattle.std.specs.Prelude.{◌≡◌, ◌<◌};
 
 use crate::by_lines::breaks_of;
 use crate::layouts::push_order;
-use anyhow::{Context, Result, bail};
+use anyhow::{Context, Result, bail, ensure};
 use explicit::paragraphs;
 use lines::breaks::Breaks;
 use lines::order::write_order;
@@ -19,17 +19,21 @@ use units::bracket::{Bracket, Unit};
 use units::level::{Level, ParaLevel};
 use units::steps::Steps;
 
-/// Returns the levels that the words of a field write, `x` for none.
+/// Returns the level that a word writes, or none for `x`.
+fn level_of(word: &str) -> Result<Option<Level>> {
+    if word == "x" {
+        return Ok(None);
+    }
+    let level = Level::new(u8::try_from(number_of(word)?)?);
+    Ok(Some(level.context(format_args!("{word} is no level"))?))
+}
+
+/// Returns the levels that the words of a field write.
 fn levels_of(alloc: Global, field: &str) -> Result<Vec<Option<Level>>> {
     let words = words_of(alloc, field)?;
     let mut levels = Vec::new(alloc);
     for word in words.split_whitespace() {
-        if word == "x" {
-            levels.push(None)?;
-        } else {
-            let level = Level::new(u8::try_from(number_of(word)?)?);
-            levels.push(Some(level.context(format_args!("{word} is no level"))?))?;
-        }
+        levels.push(level_of(word)?)?;
     }
     Ok(levels)
 }
@@ -43,9 +47,8 @@ fn push_order_of<K: Ledger>(
     steps: &mut Steps<K>,
 ) -> Result<()> {
     let (start, end) = line;
-    if start > end || levels.len() < end || end > 65_536 {
-        bail!("no line of the text is there");
-    }
+    let is_line = start <= end && end <= levels.len() && end <= 65_536;
+    ensure!(is_line, "no line of the text is there");
     let mut runs = vec![in alloc; Run::default(); end]?;
     let mut order = vec![in alloc; 0; end]?;
     let line = LineSpan { levels, start, end };
@@ -77,12 +80,9 @@ fn push_resets<K: Ledger>(
     steps: &mut Steps<K>,
 ) -> Result<()> {
     let breaks = breaks_of(at, units.len())?;
-    if paras.len() != paragraphs(units).count() {
-        bail!("the paragraphs are not as many as their levels");
-    }
-    if levels.len() != units.len() {
-        bail!("the units are not as many as their levels");
-    }
+    let count = paragraphs(units).count();
+    ensure!(paras.len() == count, "not as many levels as paragraphs");
+    ensure!(levels.len() == units.len(), "not as many levels as units");
     reset_text(units, &breaks, paras, &mut levels, steps);
     push_levels(out, &levels)?;
     Ok(())
