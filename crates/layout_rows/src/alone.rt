@@ -81,7 +81,10 @@ fn push_in_scratch(
     push_line(out, line, end.saturating_sub(start), &levels, &order)?;
     let mut after = String::new(alloc);
     push_layout(&mut after, &scratch.layout())?;
-    ensure!(before.as_str() == after.as_str(), "the layout of the scratch is changed");
+    ensure!(
+        before.as_str() == after.as_str(),
+        "the layout of the scratch is changed"
+    );
     Ok(())
 }
 
@@ -102,7 +105,10 @@ pub fn push_alone(
         let mut scratch = scratch_for(alloc, options, &units)?;
         let mut by_lines = String::new(alloc);
         push_in_scratch(alloc, &mut scratch, &units, options, &mut by_lines)?;
-        ensure!(by_lines.as_str() == out.as_str(), "by the calls of lines {by_lines} comes out, not {out}");
+        ensure!(
+            by_lines.as_str() == out.as_str(),
+            "by the calls of lines {by_lines} comes out, not {out}"
+        );
     }
     Ok(())
 }

@@ -38,7 +38,10 @@ pub fn units_of(
 ) -> Result<Option<Vec<Unit>>, AllocError> {
     let units: Vec<Option<Unit>> = match given {
         Given::Classes(numbers) => numbers.iter().map(|n| unit_of_class(*n)).collect(alloc)?,
-        Given::Codes(codes) => codes.iter().map(|c| unit_of_code(tables, *c)).collect(alloc)?,
+        Given::Codes(codes) => codes
+            .iter()
+            .map(|c| unit_of_code(tables, *c))
+            .collect(alloc)?,
         Given::Utf8(_, _) | Given::Utf16(_, _) => return Ok(None),
     };
     if units.iter().any(|unit| unit.is_none()) {
@@ -86,7 +89,9 @@ fn push_units(
     requires { IsFilled scratch.old }
 {
     let Options {
-        direction, limits, ..
+        direction,
+        limits,
+        ..
     } = *options;
     let breaks = breaks_of(&options.breaks, units.len())?;
     let mut before = String::new(alloc);
@@ -113,7 +118,11 @@ fn breaks_again(alloc: Global, following: &[&str]) -> Result<Option<Vec<usize>>>
         return Ok(None);
     };
     let Options { form, breaks, .. } = Options::of_field(alloc, options)?;
-    Ok(if form == Form::Again { Some(breaks) } else { None })
+    Ok(if form == Form::Again {
+        Some(breaks)
+    } else {
+        None
+    })
 }
 
 /// Does what `push_layouts` does, in a `Scratch`, and returns true, for one text of classes or code points, also if it

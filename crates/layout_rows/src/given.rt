@@ -26,24 +26,30 @@ fn code_of(word: &str) -> Result<u32> {
     }
 }
 
-/// Returns the code points that the words of a field write. They need not be characters.
-pub fn codes_of(alloc: Global, field: &str) -> Result<Vec<u32>> {
+/// Returns the items that the words of a field write, each as `item` reads it.
+pub fn items_of<T: Drop, F: Fn(&str) -> Result<T>>(
+    alloc: Global,
+    field: &str,
+    item: F,
+) -> Result<Vec<T>>
+    requires { F.IsAlwaysCallable item }
+{
     let words = words_of(alloc, field)?;
-    let mut codes = Vec::new(alloc);
+    let mut items = Vec::new(alloc);
     for word in words.split_whitespace() {
-        codes.push(code_of(word)?)?;
+        items.push(item(word)?)?;
     }
-    Ok(codes)
+    Ok(items)
 }
 
-/// Returns the code units of UTF-16 that the words of a field write.
-fn units_of(alloc: Global, field: &str) -> Result<Vec<u16>> {
-    let words = words_of(alloc, field)?;
-    let mut units = Vec::new(alloc);
-    for word in words.split_whitespace() {
-        units.push(u16::try_from(code_of(word)?)?)?;
-    }
-    Ok(units)
+/// Returns the code points that the words of a field write. They need not be characters.
+pub fn codes_of(alloc: Global, field: &str) -> Result<Vec<u32>> {
+    items_of(alloc, field, code_of)
+}
+
+/// Returns the code unit of UTF-16 that a word writes.
+fn unit_of(word: &str) -> Result<u16> {
+    Ok(u16::try_from(code_of(word)?)?)
 }
 
 /// Returns the number of the class with this short name. A number, which need not be that of a class, stands for
@@ -57,24 +63,14 @@ fn class_number(word: &str) -> Result<u8> {
     Ok(u8::try_from(number_of(word)?)?)
 }
 
-/// Returns the numbers of the classes that the words of a field name.
-fn classes_of(alloc: Global, field: &str) -> Result<Vec<u8>> {
-    let words = words_of(alloc, field)?;
-    let mut classes = Vec::new(alloc);
-    for word in words.split_whitespace() {
-        classes.push(class_number(word)?)?;
-    }
-    Ok(classes)
-}
-
 impl Given {
     /// Reads the text in a field, which has the form that its options name.
     pub fn of_field(alloc: Global, options: &Options, field: &str) -> Result<Given> {
         match options.form {
-            Form::Classes => Ok(Given::Classes(classes_of(alloc, field)?)),
+            Form::Classes => Ok(Given::Classes(items_of(alloc, field, class_number)?)),
             Form::Codes => Ok(Given::Codes(codes_of(alloc, field)?)),
             Form::Utf8 => Ok(Given::Utf8(bytes_of(alloc, field)?, options.faults)),
-            Form::Utf16 => Ok(Given::Utf16(units_of(alloc, field)?, options.faults)),
+            Form::Utf16 => Ok(Given::Utf16(items_of(alloc, field, unit_of)?, options.faults)),
             Form::Text | Form::Again => bail!("this verb takes no text of this form"),
         }
     }

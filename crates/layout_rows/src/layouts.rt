@@ -157,7 +157,12 @@ fn first_room(alloc: Global, texts: &[&str]) -> Result<Room> {
 }
 
 /// Appends what each of these texts leaves in one room, with `then` between them. Each text is two fields.
-pub fn push_layouts(alloc: Global, tables: &Tables, texts: &[&str], out: &mut String) -> Result<()> {
+pub fn push_layouts(
+    alloc: Global,
+    tables: &Tables,
+    texts: &[&str],
+    out: &mut String,
+) -> Result<()> {
     let mut room = first_room(alloc, texts)?;
     let mut layout = String::new(alloc);
     push_layout_in(alloc, &room, &mut layout)?;

@@ -2,6 +2,7 @@
 ghost use Rattle.std.specs.Prelude.{◌≡◌, ◌<◌};
 
 use crate::by_lines::breaks_of;
+use crate::given::items_of;
 use crate::layouts::push_order;
 use anyhow::{Context, Result, bail, ensure};
 use explicit::paragraphs;
@@ -11,7 +12,7 @@ use lines::resets::reset_text;
 use lines::runs::Run;
 use lines::spans::LineSpan;
 use row_files::shown::push_levels;
-use row_files::words::{classes_of, number_of, numbers_of, push_word, words_of};
+use row_files::words::{class_of, number_of, numbers_of, push_word};
 use std::alloc::Global;
 use std::marker::Brand;
 use std::sync::ledger::{Blank, Ledger};
@@ -26,16 +27,6 @@ fn level_of(word: &str) -> Result<Option<Level>> {
     }
     let level = Level::new(u8::try_from(number_of(word)?)?);
     Ok(Some(level.context(format_args!("{word} is no level"))?))
-}
-
-/// Returns the levels that the words of a field write.
-fn levels_of(alloc: Global, field: &str) -> Result<Vec<Option<Level>>> {
-    let words = words_of(alloc, field)?;
-    let mut levels = Vec::new(alloc);
-    for word in words.split_whitespace() {
-        levels.push(level_of(word)?)?;
-    }
-    Ok(levels)
 }
 
 /// Appends the order of the positions from `start` up to `end` of a text with these levels (L2).
@@ -57,17 +48,21 @@ fn push_order_of<K: Ledger>(
     Ok(())
 }
 
-/// Returns the levels of paragraphs that the words of a field write, 0 or 1.
-fn paras_of(alloc: Global, field: &str) -> Result<Vec<ParaLevel>> {
-    let mut paras = Vec::new(alloc);
-    for number in &numbers_of(alloc, field)? {
-        paras.push(match number {
-            0 => ParaLevel::Zero,
-            1 => ParaLevel::One,
-            _ => bail!("{number} is no level of a paragraph"),
-        })?;
+/// Returns the level of a paragraph that a word writes, 0 or 1.
+fn para_level_of(word: &str) -> Result<ParaLevel> {
+    match word {
+        "0" => Ok(ParaLevel::Zero),
+        "1" => Ok(ParaLevel::One),
+        _ => bail!("{word} is no level of a paragraph"),
     }
-    Ok(paras)
+}
+
+/// Returns the unit of the class with this name. It is no bracket.
+fn unit_of(name: &str) -> Result<Unit> {
+    Ok(Unit {
+        class: class_of(name)?,
+        bracket: Bracket::No,
+    })
 }
 
 /// Appends the levels after L1 of units with these levels before it, in paragraphs with these levels.
@@ -88,16 +83,6 @@ fn push_resets<K: Ledger>(
     Ok(())
 }
 
-/// Returns the units of the classes that the words of a field name.
-fn units_in(alloc: Global, field: &str) -> Result<Vec<Unit>> {
-    let classes = classes_of(alloc, field)?;
-    let units = classes.iter().map(|class| Unit {
-        class: *class,
-        bracket: Bracket::No,
-    });
-    Ok(units.collect(alloc)?)
-}
-
 /// Appends what comes out of a part of a layout, and counts steps from the blank.
 fn push_counting<K: Ledger>(
     alloc: Global,
@@ -114,13 +99,19 @@ fn push_counting<K: Ledger>(
         ["order", line, levels] => {
             let (start, end) = line.split_once("..").context("no `..` is in the line")?;
             let line = (number_of(start)?, number_of(end)?);
-            push_order_of(alloc, &levels_of(alloc, levels)?, line, out, &mut steps)
+            push_order_of(
+                alloc,
+                &items_of(alloc, levels, level_of)?,
+                line,
+                out,
+                &mut steps,
+            )
         }
         ["resets", at, paras, classes, levels] => push_resets(
-            &units_in(alloc, classes)?,
+            &items_of(alloc, classes, unit_of)?,
             &numbers_of(alloc, at)?,
-            &paras_of(alloc, paras)?,
-            levels_of(alloc, levels)?,
+            &items_of(alloc, paras, para_level_of)?,
+            items_of(alloc, levels, level_of)?,
             out,
             &mut steps,
         ),

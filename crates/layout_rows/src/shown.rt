@@ -24,7 +24,10 @@ impl InRoom<'_> {
         requires { k < length self.room.now.layout.lines }
     {
         let InRoom { tables, room, .. } = self;
-        ensure!(codes.len() == room.characters(), "not as many code points as characters");
+        ensure!(
+            codes.len() == room.characters(),
+            "not as many code points as characters"
+        );
         for code in &filled(alloc, u32::MAX, |out| room.shown(tables, codes, k, out))? {
             push_word(out, format_args!("{code:04X}"))?;
         }
@@ -48,8 +51,15 @@ impl InRoom<'_> {
         requires { k < length self.room.now.layout.lines }
     {
         let InRoom { tables, room, .. } = self;
-        ensure!(units.len() == room.text_len(), "not as many code units as units");
-        for unit in &filled(alloc, u16::MAX, |out| room.shown_utf16(tables, units, k, out))? {
+        ensure!(
+            units.len() == room.text_len(),
+            "not as many code units as units"
+        );
+        for unit in &filled(
+            alloc,
+            u16::MAX,
+            |out| room.shown_utf16(tables, units, k, out),
+        )? {
             push_word(out, format_args!("{unit:04X}"))?;
         }
         Ok(())
