@@ -3,7 +3,7 @@
 use anyhow::{Result, bail};
 use bidtests::kind::Kind;
 use report::terms::{Leniency, Parts, Positions, Terms};
-use row_files::words::number_of;
+use row_files::words::{error_kind_of, number_of};
 use std::io::ErrorKind;
 use ucdfiles::tables::Tables;
 use units::limits::Limits;
@@ -68,22 +68,6 @@ pub struct Options {
     pub buffer: Option<usize>,
     /// How often a source is read: `reads N`.
     pub reads: usize,
-}
-
-/// Returns the kind of error with this name. Fails if there is none.
-pub fn error_kind_of(name: &str) -> Result<ErrorKind> {
-    match name {
-        "NotFound" => Ok(ErrorKind::NotFound),
-        "NotADirectory" => Ok(ErrorKind::NotADirectory),
-        "PermissionDenied" => Ok(ErrorKind::PermissionDenied),
-        "IsADirectory" => Ok(ErrorKind::IsADirectory),
-        "Interrupted" => Ok(ErrorKind::Interrupted),
-        "StorageFull" => Ok(ErrorKind::StorageFull),
-        "ConnectionReset" => Ok(ErrorKind::ConnectionReset),
-        "BrokenPipe" => Ok(ErrorKind::BrokenPipe),
-        "Other" => Ok(ErrorKind::Other),
-        _ => bail!("no kind of error is named {name}"),
-    }
 }
 
 /// Returns the limits with this depth and number of brackets. Fails if they are not allowed.

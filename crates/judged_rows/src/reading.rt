@@ -2,9 +2,9 @@
 //! an error.
 
 use crate::failing::{Step, SteppingReader};
-use crate::options::{Coming, Options, error_kind_of};
+use crate::options::{Coming, Options};
 use anyhow::{Result, bail};
-use row_files::words::push_word;
+use row_files::words::{error_kind_of, push_word};
 use std::alloc::{AllocError, Global};
 use units::reader_source::ReaderSource;
 use units::source::{ByteSource, SourceFault};

@@ -3,6 +3,7 @@
 use anyhow::{Context, Result, bail};
 use std::alloc::{AllocError, Global};
 use std::fmt::Display;
+use std::io::ErrorKind;
 use units::class::Class;
 use units::level::Direction;
 
@@ -77,6 +78,22 @@ pub fn direction_of(name: &str) -> Result<Direction> {
         "rtl" => Ok(Direction::Rtl),
         "auto-rtl" => Ok(Direction::AutoRtl),
         _ => bail!("no direction is named {name}"),
+    }
+}
+
+/// Returns the kind of error with this name. Fails if there is none.
+pub fn error_kind_of(name: &str) -> Result<ErrorKind> {
+    match name {
+        "NotFound" => Ok(ErrorKind::NotFound),
+        "NotADirectory" => Ok(ErrorKind::NotADirectory),
+        "PermissionDenied" => Ok(ErrorKind::PermissionDenied),
+        "IsADirectory" => Ok(ErrorKind::IsADirectory),
+        "Interrupted" => Ok(ErrorKind::Interrupted),
+        "StorageFull" => Ok(ErrorKind::StorageFull),
+        "ConnectionReset" => Ok(ErrorKind::ConnectionReset),
+        "BrokenPipe" => Ok(ErrorKind::BrokenPipe),
+        "Other" => Ok(ErrorKind::Other),
+        _ => bail!("no kind of error is named {name}"),
     }
 }
 
