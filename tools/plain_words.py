@@ -89,7 +89,7 @@ EXCEPTIONS = (
     Stays("", "^NOTICES", "", "the text of a licence"),
     Stays("", "^tools/", "^(FileNotFoundError|get_ready|walk)$", "a name of Python's library"),
     Stays("", "^crates/(bidi_c|units)/proofs/", "^(TheLaws|the_row_laws|laws|kept|told)$", KIT),
-    Stays("", "^crates/(judged_rows|requests|units)/src/", "^(Left|NotFound)$", KIT),
+    Stays("", "^crates/(row_files|requests|units)/src/", "^(Left|NotFound)$", KIT),
     Stays("answer", "^(README|docs/PROVED)", "judge answers", HEADLINE),
     Stays("hand", "^docs/PROVED", "bytes that it was handed", HEADLINE),
     Stays("held", "^docs/PROVED", "the layout that it held", HEADLINE),

@@ -137,8 +137,8 @@ room_sizes::a_room_that_is_too_big_is_not_made -> layout_rows/made.txt 1
 text_rows::shows_each_line -> layout_rows/shown.txt 2
 text_rows::names_the_first_faulty_break -> layout_rows/shown.txt 2
 text_rows::shows_a_line_of_any_length -> layout_rows/shown.txt 8
-text_rows::lays_out_a_text_of_any_length -> layout_rows/shown.txt 3, layout_rows/long.txt 3
-text_rows::rejects_a_text_that_is_too_long -> layout_rows/long.txt 1
+text_rows::lays_out_a_text_of_any_length -> layout_rows/shown.txt 3, layout_rows/long_texts.txt 3
+text_rows::rejects_a_text_that_is_too_long -> layout_rows/long_texts.txt 1
 """
 
 TABLE["room_call_tests"] = """
@@ -151,6 +151,20 @@ room_rejected::rejects_texts -> layout_rows/rejected.txt 17
 room_rejected::rejects_code_units_without_offsets -> layout_rows/rejected.txt 2
 room_rejected::sets_lines -> layout_rows/rejected.txt 5
 room_rejected::leaves_lists_that_are_too_short -> layout_rows/calls.txt 4
+"""
+
+TABLE["print_tests"] = """
+letters_made::makes_letters_of_any_number_of_items -> printed_rows/letters.txt 6, printed_rows/long_texts.txt 12
+rows_agree::lines_of_classes_as_at_first -> printed_rows/long_pieces.txt 4
+rows_agree::long_lines_of_classes_as_at_first -> printed_rows/long_pieces.txt 1
+rows_agree::long_rows_of_characters_as_at_first -> printed_rows/long_pieces.txt 1
+rows_agree::positions_as_at_first -> printed_rows/pieces.txt 1
+rows_agree::rows_of_characters_as_at_first -> printed_rows/long_pieces.txt 1
+texts_agree::levels_as_at_first -> printed_rows/long_pieces.txt 1
+texts_agree::levels_of_long_texts_as_at_first -> printed_rows/long_pieces.txt 1
+texts_agree::levels_of_many_paragraphs_as_at_first -> printed_rows/long_pieces.txt 1
+texts_agree::lines_as_at_first -> printed_rows/long_pieces.txt 4
+texts_agree::long_lines_as_at_first -> printed_rows/long_pieces.txt 2
 """
 
 TABLE["table_tests"] = """
@@ -175,6 +189,30 @@ table_rows::states_brackets -> table_rows/brackets.txt 4
 table_rows::states_mirrors -> table_rows/mirrors.txt 2
 table_rows::closing_brackets_have_their_own_keys -> table_rows/brackets.txt 1
 table_rows::units_of_tables -> table_rows/together.txt 3
+"""
+
+TABLE["text_tests"] = """
+explained_rows::says_that_a_write_failed -> printed_rows/faults.txt 8
+explained_rows::says_what_rules_make_of_a_text -> printed_rows/explain.txt 1
+explained_rows::says_what_rules_make_of_classes -> printed_rows/explain.txt 4
+printed_columns::breaks_at_many_columns -> printed_rows/long_texts.txt 5
+printed_faults::reads_no_further_where_nobody_reads -> printed_rows/faults.txt 1
+printed_faults::says_else_that_a_write_failed -> printed_rows/faults.txt 12
+printed_faults::says_first_that_the_source_failed -> printed_rows/faults.txt 9
+printed_faults::says_it_of_a_later_write_and_of_a_flush -> printed_rows/faults.txt 4
+printed_faults::says_then_that_the_text_is_not_utf8 -> printed_rows/faults.txt 12
+printed_levels::prints_a_line_for_each_position -> printed_rows/levels.txt 11
+printed_levels::says_that_a_write_failed -> printed_rows/faults.txt 3
+printed_long::prints_texts_of_any_length -> printed_rows/levels.txt 1, printed_rows/reorder.txt 1, printed_rows/long_texts.txt 4
+printed_out_of_memory::prints_or_says_that_memory_was_refused stays: each allocation fails (tools/refused_growths.sh)
+printed_reorder::asks_the_class_of_the_position -> printed_rows/reorder.txt 2
+printed_reorder::prints_each_line_as_it_is_shown -> printed_rows/reorder.txt 8
+printed_reorder::says_that_a_write_failed -> printed_rows/faults.txt 3
+printed_source::joins_the_bytes_of_a_character -> printed_rows/long_texts.txt 3
+printed_source::leaves_what_ended_before_a_failed_read -> printed_rows/faults.txt 4
+printed_source::leaves_what_ended_before_a_fault -> printed_rows/faults.txt 4
+printed_source::prints_paragraph_by_paragraph -> printed_rows/levels.txt 1, printed_rows/reorder.txt 2
+printed_source::says_that_the_write_of_a_later_paragraph_failed -> printed_rows/faults.txt 1
 """
 
 

@@ -7,31 +7,24 @@
 #
 # It leaves out the crates in LEFT_OUT, and names them. room_tests makes and fills large rooms, and takes minutes
 # unproved. judged_rows makes some judges for each row; unproved it doesn't end in the time that `rt try` gives it, and
-# its proved program takes seconds. So it is with the file of rows in ROWS_LEFT_OUT, which has the longest texts; the
-# other rows of its crate are run. Each test and each program may take SECONDS_OF_A_TEST, in place of the minute that
-# `rt try` gives it. As many crates run at once as there are processors, or as RT_JOBS says.
+# its proved program takes seconds. The same is true of files of rows whose names begin with `long_`: it leaves them out
+# of each program. Each test and each program may take SECONDS_OF_A_TEST, in place of the minute that `rt try` gives it.
+# As many crates run at once as there are processors, or as RT_JOBS says.
 set -u
 cd "$(dirname "$0")/.." || exit 2
 LEFT_OUT=(room_tests judged_rows)
-ROWS_LEFT_OUT=layout_rows/long.txt
 SECONDS_OF_A_TEST=900
 work=$(mktemp -d) || exit 2
 trap 'rm -r "$work"' EXIT
-export work SECONDS_OF_A_TEST ROWS_LEFT_OUT
+export work SECONDS_OF_A_TEST
 
 # try_crate CRATE: runs its tests, or its program with the stored arguments, and writes to the file CRATE how that
 # ended.
 try_crate() {
-    local crate=$1 began=$SECONDS status file words=() data=() input=/dev/null wanted=0 left=
+    local crate=$1 began=$SECONDS status file words=() data=() input=/dev/null wanted=0
     cd "crates/$crate" || exit 2
     if [ -e src/main.rt ]; then
-        cat stdout > "$work/$crate.wanted"
-        [ -e args ] && mapfile -t words < args
-        if [ "${ROWS_LEFT_OUT%/*}" = "$crate" ]; then
-            left=${ROWS_LEFT_OUT#*/}
-            mapfile -t words < <(grep -vxF "$left" args)
-            grep -v "^$left:" stdout > "$work/$crate.wanted"
-        fi
+        [ -e args ] && mapfile -t words < <(grep -v '^long_' args)
         for file in data/*; do
             [ -e "$file" ] && data+=(--data "${file#data/}=$file")
         done
@@ -40,13 +33,13 @@ try_crate() {
         rt try --seconds "$SECONDS_OF_A_TEST" "${data[@]}" -- "${words[@]}" < "$input" > "$work/$crate.out" \
             2> "$work/$crate.err"
         status=$?
-        [ "$status" -eq "$wanted" ] && cmp "$work/$crate.out" "$work/$crate.wanted" >> "$work/$crate.err" 2>&1
+        [ "$status" -eq "$wanted" ] && cmp "$work/$crate.out" <(grep -v '^long_' stdout) >> "$work/$crate.err" 2>&1
     else
         rt try --test --seconds "$SECONDS_OF_A_TEST" > "$work/$crate.out" 2> "$work/$crate.err"
     fi
     if [ $? -eq 0 ]; then
         echo passed > "$work/$crate"
-        echo "$crate: passed${left:+ without $left}, $((SECONDS - began)) s"
+        echo "$crate: passed, $((SECONDS - began)) s"
     else
         echo failed > "$work/$crate"
         echo "$crate: FAILED, $((SECONDS - began)) s"

@@ -1,0 +1,75 @@
+//! Prints the texts that rows state, and explains them. Each row states what must come out: what is printed, and the
+//! fault after it, if there is one. The program prints the rows that failed, and for each file of rows how many passed.
+//!
+//! A row is `VERB; OPTIONS; INPUT; RESULT`. The verbs, each with its input:
+//!
+//! `levels` and `reorder`: a text, as its code points or as bytes. It is printed as a list of characters and also while
+//! it is read; the same must come out of both.
+//!
+//! `explain`: the code points of a text, or classes.
+//!
+//! `rows`: the code points of a text whose rows are printed, as in a file of characters or of classes.
+//!
+//! `positions`: positions, as rows have them.
+//!
+//! `letters`: of how many classes or characters letters are made.
+#![tactic(auto)]
+
+mod coming_out;
+mod letters_made;
+mod options;
+mod pieces;
+mod printed;
+mod shown;
+mod stop;
+mod writer;
+
+use anyhow::{Result, bail};
+use coming_out::{Asked, tables_with};
+use letters_made::push_count;
+use options::Options;
+use row_files::bytes::bytes_of;
+use row_files::files::{Check, check_files};
+use std::alloc::Global;
+use std::process::ExitCode;
+use ucdfiles::small::MIRRORS;
+use ucdfiles::tables::Tables;
+
+/// Prints what the rows ask for, with these tables.
+#[derive(Drop)]
+struct PrintedRows {
+    tables: Tables,
+}
+
+impl Check for PrintedRows {
+    fn come_out(&self, alloc: Global, fields: &[&str], out: &mut String) -> Result<()> {
+        let [verb, options, input] = *fields else {
+            bail!("no verb has these fields");
+        };
+        let options = &Options::of_field(alloc, options)?;
+        if verb == "letters" {
+            return push_count(alloc, &self.tables, options.has_classes, input, out);
+        }
+        let asked = Asked {
+            alloc,
+            tables: &self.tables,
+            options,
+        };
+        match options.mirrors {
+            None => asked.come_out(verb, input, out),
+            Some(file) => {
+                let tables = &tables_with(alloc, &bytes_of(alloc, file)?)?;
+                Asked { tables, ..asked }.come_out(verb, input, out)
+            }
+        }
+    }
+
+    fn most_fields(&self) -> usize {
+        3
+    }
+}
+
+fn main(rt: HostRuntime) -> Result<ExitCode> {
+    let tables = tables_with(rt.alloc(), MIRRORS)?;
+    check_files(&rt, &PrintedRows { tables })
+}
