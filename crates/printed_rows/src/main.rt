@@ -16,7 +16,6 @@
 #![tactic(auto)]
 
 mod coming_out;
-mod letters_made;
 mod options;
 mod pieces;
 mod printed;
@@ -26,9 +25,7 @@ mod writer;
 
 use anyhow::{Result, bail};
 use coming_out::{Asked, tables_with};
-use letters_made::push_count;
 use options::Options;
-use row_files::bytes::bytes_of;
 use row_files::files::{Check, check_files};
 use std::alloc::Global;
 use std::process::ExitCode;
@@ -47,21 +44,16 @@ impl Check for PrintedRows {
             bail!("no verb has these fields");
         };
         let options = &Options::of_field(alloc, options)?;
-        if verb == "letters" {
-            return push_count(alloc, &self.tables, options.has_classes, input, out);
-        }
+        let others = match &options.mirrors {
+            None => None,
+            Some(file) => Some(tables_with(alloc, file)?),
+        };
         let asked = Asked {
             alloc,
-            tables: &self.tables,
+            tables: others.as_ref().unwrap_or(&self.tables),
             options,
         };
-        match options.mirrors {
-            None => asked.come_out(verb, input, out),
-            Some(file) => {
-                let tables = &tables_with(alloc, &bytes_of(alloc, file)?)?;
-                Asked { tables, ..asked }.come_out(verb, input, out)
-            }
-        }
+        asked.come_out(verb, input, out)
     }
 
     fn most_fields(&self) -> usize {

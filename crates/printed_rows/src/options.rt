@@ -2,6 +2,7 @@
 
 use crate::writer::Manner;
 use anyhow::{Context, Result, bail};
+use row_files::bytes::bytes_of;
 use row_files::words::{direction_of, error_kind_of, number_of};
 use std::alloc::Global;
 use std::num::NonZeroU16;
@@ -22,13 +23,13 @@ pub enum Shown {
 
 /// The options of a row.
 #[derive(Drop)]
-pub struct Options<'a> {
+pub struct Options {
     /// The directions under which a text is printed, by their names. Most verbs take one.
     pub directions: Vec<Direction>,
     /// After how many positions a line breaks: `columns N`.
     pub columns: Option<NonZeroU16>,
     /// The file of mirrored characters: `mirrors "FILE"`.
-    pub mirrors: Option<&'a str>,
+    pub mirrors: Option<Vec<u8>>,
     /// Whether the input is classes: `classes`, or `characters`.
     pub has_classes: bool,
     /// Whether a text is printed as a list of characters: not so with `read`.
@@ -43,9 +44,9 @@ pub struct Options<'a> {
     pub shown: Shown,
 }
 
-impl<'a> Options<'a> {
+impl Options {
     /// Returns the options of a row that names none.
-    fn new(alloc: Global) -> Options<'a> {
+    fn new(alloc: Global) -> Options {
         Options {
             directions: Vec::new(alloc),
             columns: None,
@@ -103,9 +104,9 @@ impl<'a> Options<'a> {
     }
 
     /// Takes an option.
-    fn take(&mut self, alloc: Global, option: &'a str) -> Result<()> {
+    fn take(&mut self, alloc: Global, option: &str) -> Result<()> {
         if let Some(file) = option.strip_prefix("mirrors ") {
-            self.mirrors = Some(file);
+            self.mirrors = Some(bytes_of(alloc, file)?);
             return Ok(());
         }
         let words: Vec<&str> = option.split_whitespace().collect(alloc)?;
@@ -117,7 +118,7 @@ impl<'a> Options<'a> {
     }
 
     /// Reads the options in a field.
-    pub fn of_field(alloc: Global, field: &'a str) -> Result<Options<'a>> {
+    pub fn of_field(alloc: Global, field: &str) -> Result<Options> {
         let mut options = Options::new(alloc);
         for option in field.split(',') {
             options.take(alloc, option.trim())?;

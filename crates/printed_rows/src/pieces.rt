@@ -15,7 +15,7 @@ use std::io::{self, Write};
 
 /// What is printed, the whole text, how many calls wrote it, and where its pieces end.
 #[derive(Drop)]
-pub struct Pieces<'a> {
+struct Pieces<'a> {
     printed: Printed<'a>,
     setting: Setting<'a>,
     whole: Vec<u8>,
@@ -23,7 +23,7 @@ pub struct Pieces<'a> {
     ends: Vec<usize>,
 }
 
-impl<'a> Pieces<'a> {
+impl Pieces<'_> {
     /// Prints to a writer of this manner. Returns the outcome too.
     fn print(&self, manner: Manner) -> (Taking, Outcome) {
         let mut w = Taking::new(self.setting.alloc, manner);
@@ -42,23 +42,6 @@ impl<'a> Pieces<'a> {
             }
         }
         Ok(())
-    }
-
-    /// Returns the pieces of what is printed, of which a writer took the whole.
-    pub fn of(
-        printed: Printed<'a>,
-        setting: Setting<'a>,
-        taken: Taking,
-    ) -> Result<Pieces<'a>, AllocError> {
-        let mut pieces = Pieces {
-            printed,
-            setting,
-            calls: taken.calls(),
-            whole: taken.into_bytes(),
-            ends: Vec::new(setting.alloc),
-        };
-        pieces.find()?;
-        Ok(pieces)
     }
 
     /// Returns the piece between two ends.
@@ -147,16 +130,37 @@ impl<'a> Pieces<'a> {
             .or_else(|| self.losing_call())
     }
 
-    /// Appends the pieces as words, and a manner in which a writer has not what it should have.
-    pub fn push(&self, out: &mut String) -> Result<()> {
+    /// Appends the pieces as words.
+    fn push(&self, out: &mut String) -> Result<()> {
+        let (alloc, is_shown) = (self.setting.alloc, self.printed.is_shown());
         let mut start = 0;
         for end in &self.ends {
-            push_piece(out, self.printed.is_shown(), self.piece(start, *end))?;
+            push_piece(alloc, out, is_shown, self.piece(start, *end))?;
             start = *end;
-        }
-        if let Some(manner) = self.differing_manner() {
-            push_word(out, format_args!("| not so if the writer is {manner:?}"))?;
         }
         Ok(())
     }
+}
+
+/// Appends the pieces of what is printed, of which a writer took the whole, and a manner in which a writer has not what
+/// it should have, if there is one.
+pub fn push_pieces(
+    printed: Printed<'_>,
+    setting: Setting<'_>,
+    taken: Taking,
+    out: &mut String,
+) -> Result<()> {
+    let mut pieces = Pieces {
+        printed,
+        setting,
+        calls: taken.calls(),
+        whole: taken.into_bytes(),
+        ends: Vec::new(setting.alloc),
+    };
+    pieces.find()?;
+    pieces.push(out)?;
+    if let Some(manner) = pieces.differing_manner() {
+        push_word(out, format_args!("| not so if the writer is {manner:?}"))?;
+    }
+    Ok(())
 }

@@ -71,7 +71,7 @@ pub struct Setting<'a> {
 
 impl Setting<'_> {
     /// Prints a text in a form.
-    fn print_text(self, w: &mut Taking, chars: &[char], form: Form) -> Outcome {
+    fn print_text(&self, w: &mut Taking, chars: &[char], form: Form) -> Outcome {
         if chars.len() > MOST {
             return Err(Stop::TooLong);
         }
@@ -89,7 +89,7 @@ impl Setting<'_> {
     }
 
     /// Prints the text of a source in a form.
-    fn print_read<S: ByteSource>(self, w: &mut Taking, source: &mut S, form: Form) -> Outcome {
+    fn print_read<S: ByteSource>(&self, w: &mut Taking, source: &mut S, form: Form) -> Outcome {
         if source.most_remaining() > MOST as u64 {
             return Err(Stop::TooLong);
         }
@@ -101,7 +101,7 @@ impl Setting<'_> {
 
     /// Prints the text of these bytes in a form, while it is read.
     fn print_bytes(
-        self,
+        &self,
         w: &mut Taking,
         bytes: &[u8],
         failing_after: Option<usize>,
@@ -117,7 +117,7 @@ impl Setting<'_> {
     }
 
     /// Prints what the rules do to a text.
-    fn explain_text(self, w: &mut Taking, chars: &[char]) -> Outcome {
+    fn explain_text(&self, w: &mut Taking, chars: &[char]) -> Outcome {
         if chars.len() > MOST {
             return Err(Stop::TooLong);
         }
@@ -125,7 +125,7 @@ impl Setting<'_> {
     }
 
     /// Prints what the rules do to classes.
-    fn explain_classes(self, w: &mut Taking, classes: &[Class]) -> Outcome {
+    fn explain_classes(&self, w: &mut Taking, classes: &[Class]) -> Outcome {
         if classes.len() > MOST {
             return Err(Stop::TooLong);
         }
@@ -133,9 +133,13 @@ impl Setting<'_> {
     }
 
     /// Prints the lines of a text in a file of classes.
-    fn print_class_lines(self, w: &mut Taking, letters: &[Letter], units: &[Unit]) -> Outcome {
-        let mut room = Scratch::with_room(self.alloc, units.len()).map_err(|_| Stop::TooLong)?;
-        let breaks = Breaks::new(&[], units.len()).map_err(|_| Stop::TooLong)?;
+    fn print_class_lines(&self, w: &mut Taking, letters: &[Letter], units: &[Unit]) -> Outcome {
+        let Ok(mut room) = Scratch::with_room(self.alloc, units.len()) else {
+            return Err(Stop::TooLong);
+        };
+        let Ok(breaks) = Breaks::new(&[], units.len()) else {
+            return Err(Stop::TooLong);
+        };
         match lay_out_into(&mut room, units, self.direction, &breaks) {
             Ok(()) => reported(print_class_case(w, letters, self.direction, &room.layout())),
             Err(_) => Err(Stop::TooLong),
@@ -144,7 +148,7 @@ impl Setting<'_> {
 
     /// Prints the rows of a text in a file of characters.
     fn print_character_rows(
-        self,
+        &self,
         w: &mut Taking,
         chars: &[char],
         directions: &[Direction],
@@ -157,7 +161,7 @@ impl Setting<'_> {
     }
 
     /// Prints to a writer.
-    pub fn print(self, w: &mut Taking, printed: Printed<'_>) -> Outcome {
+    pub fn print(&self, w: &mut Taking, printed: Printed<'_>) -> Outcome {
         match printed {
             Printed::Text { chars, form } => self.print_text(w, chars, form),
             Printed::Source {

@@ -5,7 +5,7 @@
 
 use anyhow::{Context, Result};
 use row_files::words::push_word;
-use std::alloc::AllocError;
+use std::alloc::{AllocError, Global};
 
 /// Appends the code points of a text.
 fn push_codes(out: &mut String, text: &str) -> Result<(), AllocError> {
@@ -18,71 +18,36 @@ fn push_codes(out: &mut String, text: &str) -> Result<(), AllocError> {
     Ok(())
 }
 
-/// Returns what stands for a character, if blanks stay.
-fn word_sign(character: char) -> char {
-    match character {
-        ';' => ',',
-        _ => character,
-    }
-}
-
-/// Returns what stands for a character of a piece.
-fn piece_sign(character: char) -> char {
-    match character {
-        '\n' => '/',
-        ' ' => '_',
-        _ => word_sign(character),
-    }
-}
-
-/// Appends a line, and a blank before it if it is not the first one.
-fn push_line(out: &mut String, line: &str) -> Result<(), AllocError> {
-    push_word(out, "")?;
-    for character in line.chars() {
-        out.push(word_sign(character))?;
-    }
-    Ok(())
-}
-
 /// Appends the lines of a text, with `/` after each.
-fn push_literally(out: &mut String, text: &str) -> Result<(), AllocError> {
-    for (index, line) in text.split('\n').enumerate() {
-        if index > 0 {
-            push_word(out, '/')?;
-        }
-        if !line.is_empty() {
-            push_line(out, line)?;
-        }
-    }
-    Ok(())
+fn push_lines(alloc: Global, out: &mut String, text: &str) -> Result<(), AllocError> {
+    let lines = text.replace(alloc, "\n", " / ")?.replace(alloc, ";", ",")?;
+    push_word(out, lines.strip_suffix(" ").unwrap_or(&lines))
 }
 
 /// Appends what was printed. `is_shown` says whether it is a text as it is shown.
-pub fn push_text(out: &mut String, is_shown: bool, printed: &[u8]) -> Result<()> {
+pub fn push_text(alloc: Global, out: &mut String, is_shown: bool, printed: &[u8]) -> Result<()> {
     let text = str::from_utf8(printed)?;
     if is_shown {
         push_codes(out, text)?;
-    } else {
-        push_literally(out, text)?;
+    } else if !text.is_empty() {
+        push_lines(alloc, out, text)?;
     }
     Ok(())
 }
 
 /// Appends a piece as a word.
-pub fn push_piece(out: &mut String, is_shown: bool, piece: &[u8]) -> Result<()> {
+pub fn push_piece(alloc: Global, out: &mut String, is_shown: bool, piece: &[u8]) -> Result<()> {
     if is_shown {
-        return push_text(out, true, piece);
+        return push_text(alloc, out, true, piece);
     }
-    let text = str::from_utf8(piece)?;
-    push_word(out, "")?;
-    for character in text.chars() {
-        out.push(piece_sign(character))?;
-    }
+    let word = str::from_utf8(piece)?.replace(alloc, "\n", "/")?;
+    let word = word.replace(alloc, " ", "_")?.replace(alloc, ";", ",")?;
+    push_word(out, word)?;
     Ok(())
 }
 
 /// Appends how many bytes each line has before its LF. Fails if none ends the last line.
-pub fn push_lines(out: &mut String, printed: &[u8]) -> Result<()> {
+pub fn push_lengths(out: &mut String, printed: &[u8]) -> Result<()> {
     let text = printed
         .strip_suffix(b"\n")
         .context("no LF ends the last line")?;
