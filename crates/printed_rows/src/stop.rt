@@ -20,8 +20,8 @@ pub enum Stop {
 /// The outcome of printing.
 pub type Outcome = Result<(), Stop>;
 
-/// Returns what is said of a fault if a write failed before.
-fn said_of(written: Written) -> &'static str {
+/// Returns what is after a fault if a write failed before.
+fn suffix_of(written: Written) -> &'static str {
     match written {
         Written::Whole => "",
         Written::CutOff => ", and a write before",
@@ -31,13 +31,13 @@ fn said_of(written: Written) -> &'static str {
 /// Writes a fault.
 fn push_fault<W: fmt::Write>(f: &mut fmt::Formatter<W>, fault: TextFault) -> fmt::Result {
     match fault {
-        TextFault::Read { written } => write!(f, "the source failed{}", said_of(written)),
+        TextFault::Read { written } => write!(f, "the source failed{}", suffix_of(written)),
         TextFault::NotUtf8 { place, written } => write!(
             f,
             "not UTF-8 at line {} offset {}{}",
             place.line,
             place.offset,
-            said_of(written)
+            suffix_of(written)
         ),
         TextFault::Write => write!(f, "a write failed"),
         TextFault::NobodyReads => write!(f, "nobody reads"),
