@@ -3,7 +3,7 @@
 use anyhow::{Result, bail};
 use bidtests::kind::Kind;
 use report::terms::{Leniency, Parts, Positions, Terms};
-use row_files::words::{error_kind_of, number_of};
+use row_files::words::{error_kind_of, number_of, span_of};
 use std::io::ErrorKind;
 use ucdfiles::tables::Tables;
 use units::limits::Limits;
@@ -18,11 +18,8 @@ pub struct Span {
 impl Span {
     /// Reads `FIRST-LAST`, or one number.
     fn of_word(word: &str) -> Result<Span> {
-        let (first, last) = word.split_once('-').unwrap_or((word, word));
-        Ok(Span {
-            first: number_of(first)?,
-            last: number_of(last)?,
-        })
+        let (first, last) = span_of(word)?;
+        Ok(Span { first, last })
     }
 
     /// Returns the number, if it is only one.

@@ -22,7 +22,7 @@ fn push_escaped(bytes: &mut Vec<u8>, text: &str) -> Result<()> {
 }
 
 /// Appends a text with escapes.
-fn push_text(bytes: &mut Vec<u8>, text: &str) -> Result<()> {
+pub fn push_text(bytes: &mut Vec<u8>, text: &str) -> Result<()> {
     for (index, part) in text.split('\\').enumerate() {
         if index == 0 {
             bytes.extend_from_slice(part.as_bytes())?;

@@ -18,20 +18,27 @@ pub trait Check {
     }
 }
 
+/// How the rows of a file's text are checked.
+pub trait CheckText {
+    /// Checks the rows of a text, and prints each that failed. Returns how many there are and how many passed.
+    fn check_text(&self, rt: &HostRuntime, file: &str, text: &str) -> Result<Counts>;
+}
+
 /// How many rows there are, and how many of them passed.
 #[derive(Clone, Copy)]
-struct Counts {
+pub struct Counts {
     rows: u64,
     passed: u64,
 }
 
 impl Counts {
-    fn new() -> Counts {
+    /// Returns the counts of no rows.
+    pub fn new() -> Counts {
         Counts { rows: 0, passed: 0 }
     }
 
     /// Counts a row.
-    fn count(&mut self, passed: bool) {
+    pub fn count(&mut self, passed: bool) {
         self.rows = self.rows.saturating_add(1);
         self.passed = self.passed.saturating_add(u64::from(passed));
     }
@@ -49,8 +56,8 @@ struct Place<'a> {
     line: usize,
 }
 
-/// Returns the fields of a row without its last one, at most `most`. A `;` between quotation marks separates none.
-fn fields_of(alloc: Global, row: &str, most: usize) -> Result<Vec<&str>, AllocError> {
+/// Returns the fields of a text, at most `most`. A `;` between quotation marks separates none.
+pub fn fields_of(alloc: Global, row: &str, most: usize) -> Result<Vec<&str>, AllocError> {
     let mut fields = Vec::new(alloc);
     let mut is_quoted = false;
     let ends_field = |c: char| {
@@ -99,30 +106,37 @@ fn is_row(line: &str) -> bool {
     !text.is_empty() && !text.starts_with('#')
 }
 
-/// Checks the rows of a file's text, and prints each that failed.
-fn check_text<C: Check>(rt: &HostRuntime, check: &C, file: &str, text: &str) -> Result<Counts> {
-    let mut counts = Counts::new();
-    let mut place = Place { file, line: 0 };
-    for line in text.lines() {
-        place.line = place.line.saturating_add(1);
-        if is_row(line) {
-            counts.count(check_row(rt, check, place, line)?);
+/// Checks rows of one line each.
+#[derive(Drop)]
+struct Rows<'a, C: Check> {
+    check: &'a C,
+}
+
+impl<C: Check> CheckText for Rows<'_, C> {
+    fn check_text(&self, rt: &HostRuntime, file: &str, text: &str) -> Result<Counts> {
+        let mut counts = Counts::new();
+        let mut place = Place { file, line: 0 };
+        for line in text.lines() {
+            place.line = place.line.saturating_add(1);
+            if is_row(line) {
+                counts.count(check_row(rt, self.check, place, line)?);
+            }
         }
+        Ok(counts)
     }
-    Ok(counts)
 }
 
 /// Checks the rows of a file. Prints each row that failed, and how many rows there are and how many passed.
-fn check_file<C: Check>(rt: &HostRuntime, check: &C, file: &str) -> Result<bool> {
+fn check_file<C: CheckText>(rt: &HostRuntime, check: &C, file: &str) -> Result<bool> {
     let text = fs::read_to_string(rt, file).context(format_args!("reading {file}"))?;
-    let counts = check_text(rt, check, file, &text)?;
+    let counts = check.check_text(rt, file, &text)?;
     println!(rt; "{file}: {} of {} rows passed", counts.passed, counts.rows)?;
     Ok(counts.all_passed())
 }
 
-/// Checks the rows of the files that the program's arguments name. Prints each row that failed, and for each file how
-/// many rows passed. Returns success if all rows of all files passed. Fails if no file is named or one can't be read.
-pub fn check_files<C: Check>(rt: &HostRuntime, check: &C) -> Result<ExitCode> {
+/// Checks the files that the program's arguments name. Prints each row that failed, and for each file how many rows
+/// passed. Returns success if all rows of all files passed. Fails if no file is named or one can't be read.
+pub fn check_texts<C: CheckText>(rt: &HostRuntime, check: &C) -> Result<ExitCode> {
     let files: Vec<String> = env::args(rt)?.skip(1).collect(rt.alloc())?;
     if files.is_empty() {
         bail!("no file of rows is named");
@@ -132,4 +146,9 @@ pub fn check_files<C: Check>(rt: &HostRuntime, check: &C) -> Result<ExitCode> {
         all_passed &= check_file(rt, check, file.as_str())?;
     }
     Ok(ExitCode::from(u8::from(!all_passed)))
+}
+
+/// Checks rows of one line each, in the files that the program's arguments name (`check_texts`).
+pub fn check_files<C: Check>(rt: &HostRuntime, check: &C) -> Result<ExitCode> {
+    check_texts(rt, &Rows { check })
 }

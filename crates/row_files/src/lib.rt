@@ -8,9 +8,12 @@
 //! The words of a field have blanks between them. `WORD*COUNT` stands for COUNT times WORD, and `A,B*COUNT` for COUNT
 //! times A B. What comes out is text too, and is compared word by word.
 //!
+//! A row that takes several lines is in a file of blocks (`blocks`).
+//!
 //! A field that states bytes has texts in quotation marks (`bytes`).
 #![tactic(auto)]
 
+pub mod blocks;
 pub mod bytes;
 pub mod files;
 pub mod shown;

@@ -36,3 +36,29 @@ pub fn push_position(out: &mut String, position: Option<usize>) -> Result<(), Al
         None => push_word(out, "-"),
     }
 }
+
+/// The most bytes that are shown.
+const MOST_SHOWN: usize = 400;
+
+/// Appends a byte as `bytes::bytes_of` reads it.
+fn push_byte(out: &mut String, byte: u8) -> Result<(), AllocError> {
+    match byte {
+        b'\n' => out.push_str("\\n"),
+        b'"' | b'\\' => write!(out, "\\x{byte:02X}"),
+        b' '..=b'~' => out.push(char::from(byte)),
+        _ => write!(out, "\\x{byte:02X}"),
+    }
+}
+
+/// Appends bytes as `bytes::bytes_of` reads them. Of very many, it appends the first ones and how many there are.
+pub fn push_bytes(out: &mut String, bytes: &[u8]) -> Result<(), AllocError> {
+    out.push('"')?;
+    for byte in bytes.iter().take(MOST_SHOWN) {
+        push_byte(out, *byte)?;
+    }
+    out.push('"')?;
+    if bytes.len() > MOST_SHOWN {
+        write!(out, ".. ({} bytes)", bytes.len())?;
+    }
+    Ok(())
+}

@@ -62,6 +62,12 @@ pub fn number_of(word: &str) -> Result<usize> {
     }
 }
 
+/// Returns the first and the last of the numbers that a word writes: `FIRST-LAST`, or one number.
+pub fn span_of(word: &str) -> Result<(usize, usize)> {
+    let (first, last) = word.split_once('-').unwrap_or((word, word));
+    Ok((number_of(first)?, number_of(last)?))
+}
+
 /// Returns the character of a code point, which a word writes in hexadecimal digits. Fails if it writes none.
 pub fn character_of(word: &str) -> Result<char> {
     let number = u32::from_str_radix(word, 16).ok();
