@@ -54,8 +54,24 @@ fn push_counted(bytes: &mut Vec<u8>, text: &str, turn: u32) -> Result<()> {
     Ok(())
 }
 
+/// Appends a text so many times, each time with higher code points.
+fn push_counting(bytes: &mut Vec<u8>, text: &str, count: u32) -> Result<()> {
+    for turn in 0..count {
+        push_counted(bytes, text, turn)?;
+    }
+    Ok(())
+}
+
+/// Appends these bytes so many times.
+fn push_times(bytes: &mut Vec<u8>, once: &[u8], count: u32) -> Result<()> {
+    for _ in 0..count {
+        bytes.extend_from_slice(once)?;
+    }
+    Ok(())
+}
+
 /// Appends a text as often as what is after its quotation marks says.
-fn push_repeated(bytes: &mut Vec<u8>, text: &str, following: &str) -> Result<()> {
+fn push_repeated(alloc: Global, bytes: &mut Vec<u8>, text: &str, following: &str) -> Result<()> {
     let count = match following.trim() {
         "" => 1,
         count => count
@@ -63,10 +79,12 @@ fn push_repeated(bytes: &mut Vec<u8>, text: &str, following: &str) -> Result<()>
             .context("no `*` is before a count")?
             .parse()?,
     };
-    for turn in 0..count {
-        push_counted(bytes, text, turn)?;
+    if text.contains('{') {
+        return push_counting(bytes, text, count);
     }
-    Ok(())
+    let mut once = Vec::new(alloc);
+    push_text(&mut once, text)?;
+    push_times(bytes, &once, count)
 }
 
 /// Returns the bytes that a field states. Fails if it is not written so.
@@ -79,7 +97,7 @@ pub fn bytes_of(alloc: Global, field: &str) -> Result<Vec<u8>> {
     for part in texts.split('"') {
         match text.take() {
             None => text = Some(part),
-            Some(text) => push_repeated(&mut bytes, text, part)?,
+            Some(text) => push_repeated(alloc, &mut bytes, text, part)?,
         }
     }
     if text.is_some() {
