@@ -18,7 +18,7 @@ pub record IsSpread (us starts : List BidiUnit) (m stop : ℕ) (old levels : Lis
   pub rising : AreRising starts k end
   pub within : end ≤ stop
   pub done : (p : ℕ) → end ≤ p → p < stop → slice_index_or levels p None ≡ level_by us starts old m p
-  pub kept : (p : ℕ) → stop ≤ p → slice_index_or levels p None ≡ slice_index_or old p None
+  pub later : (p : ℕ) → stop ≤ p → slice_index_or levels p None ≡ slice_index_or old p None
   pub rest : (p : ℕ) → p < k → slice_index_or levels p None ≡ slice_index_or old p None
   pub lower : (p : ℕ) → p < end → level_by us starts old m p ≡ level_by us starts old k p
 
@@ -68,7 +68,7 @@ spread_next us starts m stop old levels new end start j level s e v inside below
             (if is_removed (at us p).class then None else slice_index_or old j None) t))
         | inr there ↦ above p there ∙ s.done p there lt
       ];
-      kept = λ p ge. above p (omega arith) ∙ s.kept p ge;
+      later = λ p ge. above p (omega arith) ∙ s.later p ge;
       rest = λ p lt. below p lt ∙ s.rest p (omega arith);
       lower = λ p lt.
           (let t : ltb p (start_at starts j) ≡ true = lt-ltb p (start_at starts j) (omega arith) in
@@ -105,7 +105,7 @@ spread_none us starts m stop old laid = record {
   rising = laid.rising;
   within = omega arith;
   done = λ p le lt. absurd (omega arith);
-  kept = λ p ge. refl;
+  later = λ p ge. refl;
   rest = λ p lt. refl;
   lower = λ p lt. refl;
 }
@@ -126,10 +126,10 @@ spread_all us starts m stop old levels new end s inside above p lt =
     ]
 
 -- and what is after these is as it was
-pub spread_kept : (us starts : List BidiUnit) (m stop : ℕ) (old levels new : List (Option ℕ)) (end : ℕ) → IsSpread us starts m stop old levels end 0 →
+pub spread_later : (us starts : List BidiUnit) (m stop : ℕ) (old levels new : List (Option ℕ)) (end : ℕ) → IsSpread us starts m stop old levels end 0 →
     ((p : ℕ) → end ≤ p → slice_index_or new p None ≡ slice_index_or levels p None) →
     (p : ℕ) → stop ≤ p → slice_index_or new p None ≡ slice_index_or old p None
-spread_kept us starts m stop old levels new end s above p ge = let within = s.within in above p (omega arith) ∙ s.kept p ge
+spread_later us starts m stop old levels new end s above p ge = let within = s.within in above p (omega arith) ∙ s.later p ge
 
 -- by position
 get-copies : (w : ℕ) (x : Option ℕ) (xs : List (Option ℕ)) (r : ℕ) → r < w → slice_index_or (copies w x ++ xs) r None ≡ x

@@ -148,13 +148,13 @@ pub spread_copied : (us starts : List BidiUnit) (m end : ℕ) (old copied levels
     ((p : ℕ) → end ≤ p → slice_index_or copied p None ≡ slice_index_or old p None) →
     ((p : ℕ) → p < end → slice_index_or levels p None ≡ level_by us starts copied m p) →
     ((p : ℕ) → end ≤ p → slice_index_or levels p None ≡ slice_index_or copied p None) → AreSpread us starts m end (drop (end - m) old) levels
-spread_copied us starts m end old copied levels le front back written kept = record {
+spread_copied us starts m end old copied levels le front back written unchanged = record {
   before = λ p lt.
       written p lt
       ∙ level_by-alike us starts copied (drop (end - m) old) m p (λ k lt. front k lt ∙ sym (get_or-drop (end - m) old k None));
   after = λ p ge lt.
       let z : end - m + (m + (p - end)) ≡ p = omega arith in
-      kept p ge ∙ back p ge ∙ sym (get_or-drop (end - m) old (m + (p - end)) None ∙ ap (λ i. slice_index_or old i None) z);
+      unchanged p ge ∙ back p ge ∙ sym (get_or-drop (end - m) old (m + (p - end)) None ∙ ap (λ i. slice_index_or old i None) z);
 }
 
 -- the column in its two parts, front and back, of which the first has those levels at its start now
@@ -162,7 +162,7 @@ pub spread_split : (us starts : List BidiUnit) (m end : ℕ) (old part front bac
     front ≡ take (end - m) old → back ≡ drop (end - m) old → part ≡ take m back →
     ((p : ℕ) → p < end → slice_index_or levels p None ≡ level_by us starts ((part ++ drop m front) ++ back) m p) →
     ((p : ℕ) → end ≤ p → slice_index_or levels p None ≡ slice_index_or ((part ++ drop m front) ++ back) p None) → AreSpread us starts m end (drop (end - m) old) levels
-spread_split us starts m end old part front back levels half within f b e written kept =
+spread_split us starts m end old part front back levels half within f b e written unchanged =
     let front_long : length front ≡ end - m = ap length f ∙ length-take-le (end - m) old (omega arith) in
     let back_long : length back ≡ length old - (end - m) = ap length b ∙ length-drop (end - m) old in
     let part_long : length part ≡ m = ap length e ∙ length-take-le m back (omega arith) in
@@ -182,4 +182,4 @@ spread_split us starts m end old part front back levels half within f b e writte
       ∙ ap (λ (vs : List (Option ℕ)). slice_index_or vs (p - (end - m)) None) b
       ∙ get_or-drop (end - m) old (p - (end - m)) None
       ∙ ap (λ i. slice_index_or old i None) z)
-    written kept
+    written unchanged

@@ -204,8 +204,8 @@ pub struct FlatPara<'a> {
     pub all_remain: bool,
 }
 
-/// Writes the levels of the first `end` units of a paragraph of which all units remain, by those of the first `m` chosen
-/// ones.
+/// Writes the levels of the units before `few.end` of a paragraph of which all units remain, by those of the chosen
+/// ones, which are the first of the column.
 #[inline(never)]
 fn spread_all<L: Ledger>(
     para: &[Unit],
@@ -220,7 +220,7 @@ fn spread_all<L: Ledger>(
     requires levels { length levels.old ≡ length para.now }
     ensures written { (p : ℕ) → p < few.end
         → slice_index_or levels.new p None ≡ level_by para.now starts.now levels.old few.chosen p }
-    ensures kept { (p : ℕ) → few.end ≤ p
+    ensures unchanged { (p : ℕ) → few.end ≤ p
         → slice_index_or levels.new p None ≡ slice_index_or levels.old p None }
     ensures steps { steps.new ≡ steps.old + few.end }
 {
@@ -248,7 +248,7 @@ fn spread_remaining<L: Ledger>(
     requires levels { length levels.old ≡ length para.now }
     ensures written { (p : ℕ) → p < few.end
         → slice_index_or levels.new p None ≡ level_by para.now starts.now levels.old few.chosen p }
-    ensures kept { (p : ℕ) → few.end ≤ p
+    ensures unchanged { (p : ℕ) → few.end ≤ p
         → slice_index_or levels.new p None ≡ slice_index_or levels.old p None }
     ensures steps { steps.new ≡ steps.old + few.end }
 {
@@ -262,10 +262,10 @@ fn spread_remaining<L: Ledger>(
     write_remaining(para, 0, end, &None, levels, steps);
 }
 
-/// Writes the levels of a paragraph, of which the last levels are those of the chosen units and of all units from
-/// `few.end` on. The latter are at their positions already. `starts` are the positions at which the chosen ones begin, of
-/// which there are at most as many as other units before `few.end`. Each position before it is a step, and so is each
-/// chosen unit, whose level is copied to the start first.
+/// Writes the levels of a paragraph. The last of the column are those of the chosen units, and then those of all units
+/// from `few.end` on, which are at their positions already. `starts` are the positions at which the chosen ones begin.
+/// There are at most as many of these as other units before `few.end`. Each position before `few.end` is a step, and so
+/// is each chosen unit, whose level is copied to the start of the column first.
 pub fn spread<L: Ledger>(
     para: &FlatPara,
     starts: &[Unit],

@@ -108,8 +108,8 @@ impl Asked<'_> {
         self.push(text, out)
     }
 
-    /// Appends what comes out of a text in a form. If the text can be passed as a list of characters, the same must come
-    /// out while it is read.
+    /// Appends what comes out of a text in a form. If the text can be passed as a list of characters, the same must
+    /// come out while it is read.
     fn push_text(&self, form: Form, field: &str, out: &mut String) -> Result<()> {
         let bytes = self.bytes(field)?;
         match str::from_utf8(&bytes) {

@@ -1,6 +1,6 @@
 use Rattle.std.proofs.Common.{arith, None, ◌-◌, ◌∙◌, ◌≡◌, subst}
 use Rattle.std.proofs.lemmas.List.{get_or_default}
-use Rattle.compress.proofs.Placing.{IsSpread, starts_above, starts_below, spread_none, spread_one, spread_all, spread_kept}
+use Rattle.compress.proofs.Placing.{IsSpread, starts_above, starts_below, spread_none, spread_one, spread_all, spread_later}
 use Rattle.compress.proofs.levels.spread_remaining.Goals as goal
 
 pub loop-k-init : goal.loop-k-init
@@ -39,11 +39,11 @@ returns-clause-written g c =
     c.loop-k.invariant.spread in
     spread_all c.args.para.now c.args.starts.now c.args.few.chosen c.args.few.end c.args.levels.now c.loop-k.levels c.write_remaining.new.levels c.loop-k.end s run.inside run.above
 
-pub returns-clause-kept : goal.returns-clause-kept
-returns-clause-kept g c =
+pub returns-clause-unchanged : goal.returns-clause-unchanged
+returns-clause-unchanged g c =
     let w = c.write_remaining.ensures in
     let run = w.run in
     let none : c.loop-k.k ≡ 0 = omega (arith, c.loop-k-test.false) in
     let s = subst (λ k. IsSpread c.args.para.now c.args.starts.now c.args.few.chosen c.args.few.end c.args.levels.now c.loop-k.levels c.loop-k.end k) none
     c.loop-k.invariant.spread in
-    spread_kept c.args.para.now c.args.starts.now c.args.few.chosen c.args.few.end c.args.levels.now c.loop-k.levels c.write_remaining.new.levels c.loop-k.end s run.above
+    spread_later c.args.para.now c.args.starts.now c.args.few.chosen c.args.few.end c.args.levels.now c.loop-k.levels c.write_remaining.new.levels c.loop-k.end s run.above
