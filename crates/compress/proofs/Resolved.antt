@@ -170,16 +170,16 @@ spread_split us starts m end old part front back levels half within f b e writte
     let both_long : length (part ++ drop m front) ≡ end - m = omega (arith, length-append part (drop m front), part_long, rest_long, front_long) in
     spread_copied us starts m end old ((part ++ drop m front) ++ back) levels (omega arith)
     (λ k lt.
-      get_or_append_left (part ++ drop m front) back None k (omega arith)
-      ∙ get_or_append_left part (drop m front) None k (omega arith)
-      ∙ ap (λ (vs : List (Option ℕ)). slice_index_or vs k None) e
-      ∙ get_or-take m back k None lt
-      ∙ ap (λ (vs : List (Option ℕ)). slice_index_or vs k None) b
-      ∙ get_or-drop (end - m) old k None)
+    get_or_append_left (part ++ drop m front) back None k (omega arith)
+    ∙ get_or_append_left part (drop m front) None k (omega arith)
+    ∙ ap (λ (vs : List (Option ℕ)). slice_index_or vs k None) e
+    ∙ get_or-take m back k None lt
+    ∙ ap (λ (vs : List (Option ℕ)). slice_index_or vs k None) b
+    ∙ get_or-drop (end - m) old k None)
     (λ p ge.
-      let z : end - m + (p - (end - m)) ≡ p = omega arith in
-      get_or-append_right (part ++ drop m front) back (end - m) p None both_long (omega arith)
-      ∙ ap (λ (vs : List (Option ℕ)). slice_index_or vs (p - (end - m)) None) b
-      ∙ get_or-drop (end - m) old (p - (end - m)) None
-      ∙ ap (λ i. slice_index_or old i None) z)
+    let z : end - m + (p - (end - m)) ≡ p = omega arith in
+    get_or-append_right (part ++ drop m front) back (end - m) p None both_long (omega arith)
+    ∙ ap (λ (vs : List (Option ℕ)). slice_index_or vs (p - (end - m)) None) b
+    ∙ get_or-drop (end - m) old (p - (end - m)) None
+    ∙ ap (λ i. slice_index_or old i None) z)
     written unchanged

@@ -1,0 +1,8 @@
+use Rattle.std.proofs.Common.{◌≡◌, ◌+◌, ◌++◌, take}
+use Rattle.compress.proofs.pass.copy_units.Given as goal
+
+abbrev pub invariant-loop-k : goal.invariant-loop-k
+invariant-loop-k g l = record {
+  copied : take (l.fn.m + l.k) l.chosen ≡ take l.fn.m l.initial.chosen ++ take l.k l.rest;
+  steps : l.steps ≡ l.initial.steps + l.k;
+}
