@@ -35,7 +35,7 @@
 //!   reported` if the error's line isn't written to standard error, and `; not flushed` if the run leaves it to its
 //!   caller to flush standard output.
 //!
-//! What a standard output or a standard error that fails has taken is not compared.
+//! What a standard output or a standard error that fails has taken is compared only if it is stated.
 #![tactic(auto)]
 
 mod command_line;
