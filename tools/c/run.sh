@@ -1,7 +1,7 @@
 #!/bin/bash
 # Builds the library that C links and the programs of this folder, and runs them. Compared with their stored output are
 # the demo, the examples of the manual, a typesetter, a terminal, every call, those for engines with their own front,
-# each refused allocation, threads that share tables, and reports. Then come the greatest sizes (in some 1.9 GB of
+# each refused allocation, threads that share tables, and reports. Then come the greatest sizes (in some 2.1 GB of
 # memory), a C++ program, and a program built as tools/c/install.sh installs the library. All but the sizes run again
 # under -fsanitize=address,undefined and under valgrind, and the threads under -fsanitize=thread. If the package
 # unicode-data is installed, the sizes run with its property files, and the official files are laid out and judged too.
