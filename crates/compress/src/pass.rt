@@ -684,7 +684,7 @@ const WINDOW: usize = 24;
 /// How many units so many turns pass at least. In a text with more turns, the pass saves nothing.
 const LEAST_PASSED: usize = 3 * WINDOW;
 
-/// The same in the first quarter of a paragraph. If the pass ends there, what it found is not used.
+/// The same in the first half of a paragraph. If the pass ends there, what it found is not used.
 const LEAST_PASSED_BEFORE: usize = 6 * WINDOW;
 
 /// How many turns the pass may still make before it asks again, and the position at which it asked last.
@@ -719,7 +719,7 @@ fn more_turns(limit: TurnLimit, asked: usize, p: usize, n: usize, turns: usize) 
     if p < EARLY {
         return (most_turns(limit, p) + 1).saturating_sub(turns);
     }
-    let least = if p < n / 4 {
+    let least = if p < n / 2 {
         LEAST_PASSED_BEFORE
     } else {
         LEAST_PASSED

@@ -96,7 +96,7 @@ fn saves(few: Few, n: usize) -> bool
     ensures half { result ≡ true → few.chosen + few.chosen ≤ few.end }
 {
     let others = few.end - few.chosen;
-    others >= n / 4 && others >= few.chosen
+    others >= n / 2 && others >= few.chosen
 }
 
 /// Applies X1 to I2 to a flat paragraph of this level by few of its units: resolves these as a paragraph of their own,
