@@ -2,7 +2,7 @@
 ghost use Rattle.std.specs.Prelude.{◌≡◌, length};
 ghost use Rattle.lines.specs.Scratches.{HoldsSomeLayoutOf, IsFilled};
 
-use crate::by_lines::{breaks_of, scratch_for, units_of};
+use crate::by_lines::{breaks_of, compare, scratch_for, units_of};
 use crate::given::Given;
 use crate::in_room::push_layout_in;
 use crate::layouts::{laid_out, push_layout, push_order};
@@ -132,6 +132,29 @@ fn push_in_scratch(
     push_line_in(alloc, scratch, units, options.line, out)
 }
 
+/// Lays out a text in a room, and appends a line of it.
+fn push_by_room(
+    alloc: Global,
+    tables: &Tables,
+    options: &Options,
+    given: &Given,
+    out: &mut String,
+) -> Result<()> {
+    let mut room = laid_out(alloc, tables, options, given)?;
+    push_in_room(alloc, &mut room, options, out)
+}
+
+/// Appends a line of these units by the calls of `lines`.
+fn push_by_lines(
+    alloc: Global,
+    options: &Options,
+    units: &[Unit],
+    out: &mut String,
+) -> Result<()> {
+    let mut scratch = scratch_for(alloc, options, units)?;
+    push_in_scratch(alloc, &mut scratch, units, options, out)
+}
+
 /// Appends the line of a text that its options name, laid out alone in a room. Fails if `lines` gives another one.
 pub fn push_alone(
     alloc: Global,
@@ -140,19 +163,14 @@ pub fn push_alone(
     given: &Given,
     out: &mut String,
 ) -> Result<()> {
-    let mut room = laid_out(alloc, tables, options, given)?;
-    push_in_room(alloc, &mut room, options, out)?;
+    push_by_room(alloc, tables, options, given, out)?;
     if options.lists.is_some() {
         return Ok(());
     }
-    if let Some(units) = units_of(alloc, tables, given)? {
-        let mut scratch = scratch_for(alloc, options, &units)?;
-        let mut by_lines = String::new(alloc);
-        push_in_scratch(alloc, &mut scratch, &units, options, &mut by_lines)?;
-        ensure!(
-            by_lines.as_str() == out.as_str(),
-            "by the calls of lines {by_lines} comes out, not {out}"
-        );
-    }
-    Ok(())
+    let Some(units) = units_of(alloc, tables, given)? else {
+        return Ok(());
+    };
+    let mut by_lines = String::new(alloc);
+    push_by_lines(alloc, options, &units, &mut by_lines)?;
+    compare(by_lines.as_str(), out.as_str())
 }

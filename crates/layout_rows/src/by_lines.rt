@@ -51,6 +51,14 @@ pub fn units_of(
     Ok(Some(units))
 }
 
+/// Fails if the calls of `lines` give something else than a room.
+pub fn compare(by_lines: &str, in_room: &str) -> Result<()> {
+    if by_lines != in_room {
+        bail!("by the calls of lines {by_lines} comes out, and in a room {in_room}");
+    }
+    Ok(())
+}
+
 /// Returns breaks of a text of `len` units. Fails if they are faulty.
 pub fn breaks_of(at: &[usize], len: usize) -> Result<Breaks<'_>>
     ensures { IfOk result (λ breaks. breaks.len ≡ len) }

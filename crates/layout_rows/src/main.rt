@@ -20,7 +20,7 @@ mod texts;
 
 use alone::push_alone;
 use anyhow::{Result, bail};
-use by_lines::push_by_lines;
+use by_lines::{compare, push_by_lines};
 use given::Given;
 use in_room::{push_lines, push_of_lines, push_paragraphs, push_starts, push_whole_levels};
 use layouts::{laid_out, push_layouts};
@@ -65,10 +65,8 @@ impl LayoutRows {
     fn push_texts(&self, alloc: Global, texts: &[&str], out: &mut String) -> Result<()> {
         push_layouts(alloc, &self.tables, texts, out)?;
         let mut by_lines = String::new(alloc);
-        if push_by_lines(alloc, &self.tables, texts, &mut by_lines)?
-            && by_lines.as_str() != out.as_str()
-        {
-            bail!("by the calls of lines {by_lines} comes out, and in a room {out}");
+        if push_by_lines(alloc, &self.tables, texts, &mut by_lines)? {
+            compare(&by_lines, out.as_str())?;
         }
         Ok(())
     }
