@@ -1,2 +1,3 @@
+pub mod FailingFiles
 pub mod KnownRuns
 pub mod MemoryFiles

@@ -1,4 +1,4 @@
-//! Command lines of each request.
+//! Command lines that many tests use.
 
 /// `levels` of a text, with the tables of a folder.
 pub const LEVELS: [&str; 5] = ["bidi", "levels", "--tables", "t", "FILE"];
@@ -61,3 +61,14 @@ pub const JUDGE_CHARACTERS: [&str; 7] = [
 
 /// `report` on a file of classes.
 pub const REPORT_CLASSES: [&str; 5] = ["bidi", "report", "--kind", "classes", "FILE"];
+
+/// `report` on a file of characters.
+pub const REPORT_CHARACTERS: [&str; 7] = [
+    "bidi",
+    "report",
+    "--kind",
+    "characters",
+    "--tables",
+    "t",
+    "FILE",
+];
