@@ -145,12 +145,7 @@ fn push_by_room(
 }
 
 /// Appends a line of these units by the calls of `lines`.
-fn push_by_lines(
-    alloc: Global,
-    options: &Options,
-    units: &[Unit],
-    out: &mut String,
-) -> Result<()> {
+fn push_by_lines(alloc: Global, options: &Options, units: &[Unit], out: &mut String) -> Result<()> {
     let mut scratch = scratch_for(alloc, options, units)?;
     push_in_scratch(alloc, &mut scratch, units, options, out)
 }
