@@ -806,7 +806,7 @@ pub fn squeeze<L: Ledger>(
 }
 
 /// Copies these units to the positions from `m` on. Each of them is a step.
-// Units are copied one by one here: `copy_from_slice` takes three times as many instructions for each.
+// Units are copied one by one here: `copy_from_slice` takes some four instructions more for each.
 fn copy_units<L: Ledger>(chosen: &mut [Unit], m: usize, rest: &[Unit], steps: &mut Steps<L>)
     requires { m + length rest.now ≤ length chosen.old }
     ensures copied { take (m + length rest.now) chosen.new ≡ take m chosen.old ++ rest.now }
