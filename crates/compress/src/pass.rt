@@ -685,7 +685,7 @@ const WINDOW: usize = 24;
 const LEAST_PASSED: usize = 3 * WINDOW;
 
 /// The same in the first half of a paragraph. If the pass ends there, what it found is not used.
-const LEAST_PASSED_BEFORE: usize = 6 * WINDOW;
+const LEAST_PASSED_AT_FIRST: usize = 6 * WINDOW;
 
 /// How many turns the pass may still make before it asks again, and the position at which it asked last.
 #[derive(Clone, Copy)]
@@ -720,7 +720,7 @@ fn more_turns(limit: TurnLimit, asked: usize, p: usize, n: usize, turns: usize) 
         return (most_turns(limit, p) + 1).saturating_sub(turns);
     }
     let least = if p < n / 2 {
-        LEAST_PASSED_BEFORE
+        LEAST_PASSED_AT_FIRST
     } else {
         LEAST_PASSED
     };
@@ -810,6 +810,7 @@ pub fn squeeze<L: Ledger>(
 fn copy_units<L: Ledger>(chosen: &mut [Unit], m: usize, rest: &[Unit], steps: &mut Steps<L>)
     requires { m + length rest.now ≤ length chosen.old }
     ensures copied { take (m + length rest.now) chosen.new ≡ take m chosen.old ++ rest.now }
+    ensures after { drop (m + length rest.now) chosen.new ≡ drop (m + length rest.now) chosen.old }
     ensures steps { steps.new ≡ steps.old + length rest.now }
 {
     for k in 0..rest.len() {
@@ -829,6 +830,7 @@ pub fn append_rest<L: Ledger>(
     requires { m ≤ length chosen.old }
     ensures count { IfSome result (λ count. count ≡ m + length rest.now) }
     ensures appended { IfSome result (λ count. take count chosen.new ≡ take m chosen.old ++ rest.now) }
+    ensures after { IfSome result (λ count. drop count chosen.new ≡ drop count chosen.old) }
     ensures within { IfSome result (λ count. count ≤ length chosen.new) }
     ensures none { IsNone result → length chosen.old < m + length rest.now }
     ensures unchanged { IsNone result → chosen.new ≡ chosen.old }
