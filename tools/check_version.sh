@@ -50,8 +50,8 @@ numbers=$(sed -n 's/^#define BIDI_VERSION_\(MAJOR\|MINOR\|PATCH\) \([0-9]*\)$/\2
 says "tools/c/bidi.h, by numbers," "$(tr '\n' . <<< "$numbers" | sed 's/\.$//')"
 says_edition crates/standard "$(sed -n 's/^pub const EDITION: &str = "\(.*\)";$/\1/p' crates/standard/src/facts.rt)"
 says_edition tools/c/bidi.h "$(sed -n 's/^#define BIDI_EDITION "\(.*\)"$/\1/p' tools/c/bidi.h)"
-for file in crates/command/src/help.rt crates/command_tests/src/words.rt docs/COMMAND.md docs/bidi.1 README.md \
-    tools/c/calls.out; do
+for file in crates/command/src/help.rt crates/transcript_rows/data/arguments.txt docs/COMMAND.md docs/bidi.1 \
+    README.md tools/c/calls.out; do
     names_edition "$file"
 done
 for file in tools/c/bidi.h docs/{C,PYTHON,RUST}.md python/bidi_proved/tables.py rust/bidi-proved/src/lib.rs; do

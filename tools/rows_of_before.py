@@ -6,7 +6,8 @@ usage: tools/rows_of_before.py
 What a test states was code, in crates of tests alone; now it is rows of files, which the programs that end in _rows
 check. TABLE has for each crate of before a line for each of its tests:
 
-    MODULE::TEST -> CRATE/FILE NUMBER, ..    NUMBER rows of crates/CRATE/data/FILE say what it said
+    MODULE::TEST -> CRATE/FILE NUMBER, ..    NUMBER rows of crates/CRATE/data/FILE say what it said, by the
+                                             numbers in crates/CRATE/stdout
     MODULE::TEST stays: REASON               it is still a test of that crate
 
 The script prints each test of these crates that COMMIT has and TABLE hasn't, and the reverse; each file that is missing
@@ -24,6 +25,135 @@ import sys
 TOP = pathlib.Path(__file__).resolve().parent.parent
 COMMIT = "4e36d724"
 TABLE = {}
+
+TABLE["command_tests"] = """
+broken_off::flushes_what_ended -> transcript_rows/unread.txt 3
+broken_off::prints_a_text_that_comes_in_pieces -> transcript_rows/reorder.txt 3
+broken_off::prints_nothing_where_nothing_ended -> transcript_rows/unread.txt 9
+broken_off::prints_what_ended_before_a_read_fails -> transcript_rows/unread.txt 3
+broken_off::prints_what_ended_before_a_read_that_passes_the_limit -> transcript_rows/unread.txt 3
+broken_off::prints_what_ended_before_bytes_that_are_not_utf8 -> transcript_rows/unread.txt 12
+built_in::judges_the_rows_that_are_printed -> transcript_rows/built_in.txt 2
+built_in::rejects_both -> transcript_rows/built_in.txt 4
+built_in::takes_the_tables_of_the_folder_for_rows -> transcript_rows/built_in.txt 1
+built_in::takes_the_tables_of_the_folder_that_is_named -> transcript_rows/built_in.txt 1
+built_in::takes_the_tables_that_are_built_in -> transcript_rows/built_in.txt 4
+built_in::takes_them_for_a_text_with_the_flag_too -> transcript_rows/built_in.txt 2
+built_in::takes_them_for_rows -> transcript_rows/built_in.txt 4
+code_points::explains_code_points_by_the_tables_of_a_folder -> transcript_rows/explain.txt 1
+code_points::explains_code_points_by_the_tables_that_are_built_in -> transcript_rows/explain.txt 1
+code_points::explains_no_code_points -> transcript_rows/explain.txt 3
+code_points::names_the_first_item_that_is_no_code_point -> transcript_rows/explain.txt 9
+code_points::says_a_faulty_item_before_faulty_tables -> transcript_rows/explain.txt 1
+enumerating::draws_nothing_from_a_longer_to_a_shorter_length -> transcript_rows/rows.txt 1
+enumerating::draws_rows_that_are_judged_right -> transcript_rows/rows.txt 2
+enumerating::draws_with_seed_0_by_default -> transcript_rows/rows.txt 1
+enumerating::prints_no_rows_from_a_longer_to_a_shorter_length -> transcript_rows/rows.txt 1
+enumerating::prints_no_rows_where_none_is_drawn -> transcript_rows/rows.txt 1
+enumerating::prints_rows -> transcript_rows/rows.txt 1
+enumerating::prints_rows_that_are_drawn -> transcript_rows/rows.txt 1
+enumerating::prints_rows_that_are_judged_right -> transcript_rows/rows.txt 2
+enumerating::rejects_what_makes_no_rows -> transcript_rows/rows.txt 11
+explaining::explains_no_classes -> transcript_rows/explain.txt 3
+explaining::names_the_first_word_that_is_no_class -> transcript_rows/explain.txt 5
+extracted::names_the_file_in_the_folder -> transcript_rows/tables.txt 4
+extracted::reads_the_first_file_that_opens -> transcript_rows/tables.txt 3
+fault_order::reads_no_further_where_nobody_reads -> transcript_rows/writing.txt 4
+fault_order::reports_have_the_same_order -> transcript_rows/writing.txt 13
+fault_order::says_else_that_a_write_failed -> transcript_rows/writing.txt 18
+fault_order::says_first_that_a_read_failed -> transcript_rows/writing.txt 18
+fault_order::says_then_that_a_text_is_not_utf8 -> transcript_rows/writing.txt 18
+faults::keeps_the_status_where_the_fault_line_is_not_taken -> transcript_rows/writing.txt 14
+faults::needs_tables_for_characters_before_it_opens_a_file -> transcript_rows/writing.txt 2
+faults::reports_that_a_file_got_no_memory -> transcript_rows/writing.txt 1
+faults::runs_as_usual_or_reports_that_memory_ran_out stays: it is run with each allocation failing in turn
+faults::says_that_a_write_failed -> transcript_rows/writing.txt 17
+faults::says_that_a_write_of_a_row_failed -> transcript_rows/writing.txt 4
+file_faults::names_the_file_by_its_word -> transcript_rows/unread.txt 3
+file_faults::says_that_a_file_failed -> transcript_rows/unread.txt 4
+file_faults::says_that_a_file_was_not_read -> transcript_rows/unread.txt 4
+file_faults::says_that_a_text_was_not_read -> transcript_rows/unread.txt 12
+hard_rows::prints_hard_rows_of_characters_that_are_judged_right -> transcript_rows/rows.txt 12
+hard_rows::prints_hard_rows_of_classes_that_are_judged_right -> transcript_rows/rows.txt 10
+hard_rows::prints_rows_by_the_tables_of_a_folder -> transcript_rows/rows.txt 2
+hard_rows::prints_rows_of_characters -> transcript_rows/rows.txt 1
+hard_rows::rejects_what_makes_no_hard_rows -> transcript_rows/rows.txt 7
+input::reads_standard_input -> transcript_rows/input.txt 4
+input::says_that_standard_input_was_not_read -> transcript_rows/input.txt 6
+judge::judges_files_of_characters -> transcript_rows/judge.txt 12
+judge::judges_files_of_classes -> transcript_rows/judge.txt 10
+judge::reads_no_tables_for_classes -> transcript_rows/judge.txt 1
+judge::rejects_an_over_long_line -> transcript_rows/judge.txt 3
+known::prints_what_the_contracts_say stays: it calls functions whose contracts state what is printed
+large::a_right_row_on_the_longest_line_is_judged -> transcript_rows/large.txt 2
+large::a_text_of_a_byte_more_is_read_up_to_it -> transcript_rows/large.txt 1
+large::a_text_of_as_many_bytes_as_allowed_is_read -> transcript_rows/large.txt 1
+large::a_wrong_row_on_the_longest_line_is_judged -> transcript_rows/large.txt 4
+levels::prints_levels_under_a_direction -> transcript_rows/levels.txt 6
+levels::prints_the_levels_of_a_file -> transcript_rows/levels.txt 4
+levels::prints_x_where_a_position_is_removed -> transcript_rows/levels.txt 1
+opened::opens_no_file_after_a_fault -> transcript_rows/opened.txt 1
+opened::opens_no_tables_where_none_are_needed -> transcript_rows/opened.txt 6
+opened::opens_nothing -> transcript_rows/opened.txt 8
+opened::opens_standard_input_in_the_place_of_the_file -> transcript_rows/opened.txt 8
+opened::opens_the_classes_of_the_folder_extracted -> transcript_rows/opened.txt 1
+opened::opens_the_file_of_a_row -> transcript_rows/opened.txt 2
+opened::opens_the_tables_alone_for_code_points -> transcript_rows/opened.txt 2
+opened::opens_the_tables_and_then_the_file -> transcript_rows/opened.txt 5
+reasons::is_reported_if_all_is_taken_and_flushed -> transcript_rows/writing.txt 10
+reasons::prints_the_same_in_detail -> transcript_rows/reasons.txt 2
+reasons::says_nothing_more_of_a_fault_without_a_reason -> transcript_rows/reasons.txt 3
+reasons::says_what_a_line_may_have -> transcript_rows/reasons.txt 2
+reasons::says_what_a_word_may_have -> transcript_rows/reasons.txt 6
+reasons::says_where_a_text_is_not_utf8 -> transcript_rows/reasons.txt 8
+reasons::says_which_field_is_malformed -> transcript_rows/reasons.txt 16
+reasons::says_why_a_file_was_not_read -> transcript_rows/reasons.txt 17
+reasons::says_why_a_table_was_not_read -> transcript_rows/reasons.txt 7
+reorder::prints_the_lines_of_a_file_as_they_are_shown -> transcript_rows/reorder.txt 6
+reports::compares_all_lists_by_default -> transcript_rows/report.txt 1
+reports::compares_what_is_asked_for -> transcript_rows/report.txt 3
+reports::continues_after_a_wrong_row_up_to_a_malformed_line -> transcript_rows/report.txt 1
+reports::counts_the_wrong_cases_that_it_does_not_print -> transcript_rows/report.txt 4
+reports::keeps_what_it_printed_before_a_read_fails -> transcript_rows/report.txt 1
+reports::passes_over_the_paragraph_level_beside_the_order_alone -> transcript_rows/report.txt 1
+reports::prints_twenty_wrong_cases_by_default -> transcript_rows/report.txt 1
+reports::rejects_arguments_of_a_report -> transcript_rows/report.txt 6
+reports::reports_on_files_of_characters -> transcript_rows/report.txt 1
+reports::reports_places_of_shown_positions -> transcript_rows/report.txt 1
+reports::says_that_a_file_is_right -> transcript_rows/report.txt 1
+reports::says_that_a_file_of_a_report_was_not_read -> transcript_rows/report.txt 5
+reports::says_that_a_write_of_a_report_failed -> transcript_rows/report.txt 5
+row_explaining::explains_a_row_of_characters -> transcript_rows/explained_rows.txt 2
+row_explaining::explains_a_row_of_standard_input -> transcript_rows/explained_rows.txt 1
+row_explaining::explains_a_row_under_each_of_its_directions -> transcript_rows/explained_rows.txt 3
+row_explaining::needs_tables_for_a_row_of_characters -> transcript_rows/explained_rows.txt 2
+row_explaining::reads_a_file_up_to_the_row -> transcript_rows/explained_rows.txt 4
+row_explaining::says_that_a_line_is_no_row -> transcript_rows/explained_rows.txt 5
+row_explaining::says_that_there_is_no_such_line -> transcript_rows/explained_rows.txt 4
+row_explaining::says_what_of_a_row_was_not_read -> transcript_rows/explained_rows.txt 4
+row_explaining::says_which_line_up_to_the_row_is_malformed -> transcript_rows/explained_rows.txt 5
+row_explaining::says_why_no_row_is_explained -> transcript_rows/explained_rows.txt 11
+sizes::explains_rows_at_lines_of_any_number -> transcript_rows/sizes.txt 5
+sizes::judges_any_number_of_rows -> transcript_rows/sizes.txt 5
+sizes::reads_texts_of_any_size -> transcript_rows/sizes.txt 9
+sizes::reports_on_any_number_of_wrong_cases -> transcript_rows/sizes.txt 4
+table_faults::says_the_first_faulty_line_of_the_tables -> transcript_rows/tables.txt 40
+table_faults::says_the_first_table_that_is_not_read -> transcript_rows/tables.txt 5
+text_rows::prints_lines_that_are_judged_right -> transcript_rows/rows.txt 4
+text_rows::prints_the_classes_of_the_lines -> transcript_rows/rows.txt 1
+text_rows::prints_the_lines_of_a_text -> transcript_rows/rows.txt 7
+text_rows::rejects_texts_that_make_no_rows -> transcript_rows/rows.txt 3
+text_rows::says_what_of_a_text_was_not_read -> transcript_rows/rows.txt 3
+unread::says_that_a_file_was_not_read_to_its_end -> transcript_rows/unread.txt 140
+unread::says_that_a_read_failed -> transcript_rows/unread.txt 29
+words::prints_help -> transcript_rows/arguments.txt 9
+words::prints_the_version -> transcript_rows/arguments.txt 2
+words::prints_why_arguments_are_rejected -> transcript_rows/arguments.txt 5
+words::rejects_command_lines -> transcript_rows/arguments.txt 41
+words::says_why_nothing_is_explained -> transcript_rows/arguments.txt 8
+words::says_why_there_are_no_rows -> transcript_rows/arguments.txt 8
+words::says_why_there_are_no_rows_of_a_text -> transcript_rows/arguments.txt 8
+"""
 
 TABLE["engine_tests"] = """
 cutting_rows::cuts_after_separators -> rule_rows/paragraphs.txt 1
@@ -242,9 +372,11 @@ def tests_now(crate):
     return set().union(*(tests_in(folder, source, source.read_text()) for source in folder.rglob("*.rt")))
 
 
-def is_row(line):
-    """Returns whether a line of a file is a row, neither blank nor a comment."""
-    return bool(line.strip()) and not line.lstrip().startswith("#")
+def rows_in(crate, name):
+    """Returns how many rows of a file the program of a crate checks, as its stored output says."""
+    output = (TOP / "crates" / crate / "stdout").read_text()
+    found = re.search(rf"^{re.escape(name)}: \d+ of (\d+) rows passed$", output, re.MULTILINE)
+    return int(found[1]) if found else 0
 
 
 def places_of(crate, table):
@@ -276,7 +408,7 @@ def faults_of_files(needed):
         if not path.is_file():
             yield f"no file: {file}"
             continue
-        rows = sum(map(is_row, path.read_text().splitlines()))
+        rows = rows_in(crate, name)
         if rows < number:
             yield f"{file} has {rows} rows, and the tests before had {number}"
 

@@ -6,13 +6,13 @@
 # usage: tools/try_tests.sh [CRATE ..]    (with no name: each crate that has tests or the stored output of a program)
 #
 # It leaves out the crates in LEFT_OUT, and names them. room_tests makes and fills large rooms, and takes minutes
-# unproved. judged_rows makes some judges for each row; unproved it doesn't end in the time that `rt try` gives it, and
-# its proved program takes seconds. The same is true of files of rows whose names begin with `long_`: it leaves them out
-# of each program. Each test and each program may take SECONDS_OF_A_TEST, in place of the minute that `rt try` gives it.
-# As many crates run at once as there are processors, or as RT_JOBS says.
+# unproved. judged_rows makes some judges for each row, and transcript_rows has large files; unproved they don't end in
+# the time that `rt try` gives them, and their proved programs take seconds. The same is true of files of rows whose
+# names begin with `long_`: it leaves them out of each program. Each test and each program may take SECONDS_OF_A_TEST,
+# in place of the minute that `rt try` gives it. As many crates run at once as there are processors, or as RT_JOBS says.
 set -u
 cd "$(dirname "$0")/.." || exit 2
-LEFT_OUT=(room_tests judged_rows)
+LEFT_OUT=(room_tests judged_rows transcript_rows)
 SECONDS_OF_A_TEST=900
 work=$(mktemp -d) || exit 2
 trap 'rm -r "$work"' EXIT

@@ -1,3 +1,2 @@
-pub mod FailingFiles
 pub mod KnownRuns
 pub mod MemoryFiles

@@ -1,4 +1,4 @@
-//! Command lines that many tests use.
+//! Command lines of each request.
 
 /// `levels` of a text, with the tables of a folder.
 pub const LEVELS: [&str; 5] = ["bidi", "levels", "--tables", "t", "FILE"];
@@ -61,14 +61,3 @@ pub const JUDGE_CHARACTERS: [&str; 7] = [
 
 /// `report` on a file of classes.
 pub const REPORT_CLASSES: [&str; 5] = ["bidi", "report", "--kind", "classes", "FILE"];
-
-/// `report` on a file of characters.
-pub const REPORT_CHARACTERS: [&str; 7] = [
-    "bidi",
-    "report",
-    "--kind",
-    "characters",
-    "--tables",
-    "t",
-    "FILE",
-];

@@ -1,121 +1,31 @@
-//! Errors in arguments, in writing and in memory.
+//! Runs in which each allocation fails in turn.
 use crate::command_lines::{
     EXPLAIN, EXPLAIN_CLASSES, EXPLAIN_CODES, EXPLAIN_ROW_OF_CHARACTERS, EXPLAIN_ROW_OF_CLASSES,
     JUDGE_CHARACTERS, JUDGE_CLASSES, LEVELS, REORDER, REPORT_CLASSES, ROWS,
 };
-use crate::failing_files::NoMemory;
 use crate::memory_files::{MemoryFiles, tables_and};
-use crate::runs::{
-    Ending, Outcome, assert_fault_over_writer, assert_run, assert_run_over, outcome_of,
-};
-use crate::writers::{FixedWriter, ShortWriter};
+use crate::writers::FixedWriter;
 use command::run::run;
 use requests::outcome::Ended;
 use std::alloc::Global;
 
 const WRONG_UNDER_RTL: &[u8] = b"@Levels: 0\n@Reorder: 0\nL; 7\n";
 
-#[test]
-fn needs_tables_for_characters_before_it_opens_a_file(rt: HostRuntime) {
-    let words = ["bidi", "judge", "--kind", "characters", "FILE"];
-    let needed = Ending::fails(2, b"bidi: --tables is needed\n");
-    assert_run(&rt, rt.alloc(), &words, &[], needed);
-    assert_run_over(&rt, rt.alloc(), &words, NoMemory, needed);
+/// What a run returned and wrote.
+#[derive(Drop)]
+struct Outcome {
+    ended: Ended,
+    out: FixedWriter,
+    err: FixedWriter,
 }
 
-#[test]
-fn says_that_a_write_failed(rt: HostRuntime) {
-    let alloc = rt.alloc();
-    let help: [&str; 2] = ["bidi", "--help"];
-    let rows: [(&[&str], usize, bool); 17] = [
-        (&JUDGE_CLASSES, 5, true),
-        (&JUDGE_CLASSES, 100, false),
-        (&JUDGE_CHARACTERS, 5, true),
-        (&JUDGE_CHARACTERS, 100, false),
-        (&LEVELS, 5, true),
-        (&LEVELS, 100, false),
-        (&REORDER, 1, true),
-        (&REORDER, 100, false),
-        (&EXPLAIN, 5, true),
-        (&EXPLAIN, 1000, false),
-        (&EXPLAIN_CLASSES, 5, true),
-        (&EXPLAIN_CLASSES, 1000, false),
-        (&EXPLAIN_CODES, 5, true),
-        (&EXPLAIN_CODES, 1000, false),
-        (&ROWS, 5, true),
-        (&ROWS, 1000, false),
-        (&help, 5, true),
-    ];
-    let files = tables_and(b"#1");
-    for (words, allowed, flushes) in rows {
-        let out = ShortWriter { allowed, flushes };
-        assert_fault_over_writer(&rt, alloc, words, &files, out, b"bidi: cannot write\n");
-    }
-}
-
-#[test]
-fn says_that_a_write_of_a_row_failed(rt: HostRuntime) {
-    let files = tables_and(WRONG_UNDER_RTL);
-    for (allowed, flushes) in [(0, true), (5, true), (100, true), (1000, false)] {
-        let out = ShortWriter { allowed, flushes };
-        let line = b"bidi: cannot write\n";
-        assert_fault_over_writer(&rt, rt.alloc(), &EXPLAIN_ROW_OF_CLASSES, &files, out, line);
-    }
-}
-
-/// Returns how a run ends if its standard error takes so many bytes and fails to flush.
-fn end_without_a_line(alloc: Global, words: &[&str], allowed: usize) -> Ended {
+/// Runs with these arguments over the small tables and the file.
+fn outcome_of(alloc: Global, words: &[&str]) -> Outcome {
     let mut out = FixedWriter::new();
-    let mut err = ShortWriter {
-        allowed,
-        flushes: false,
-    };
-    run(alloc, words, &MemoryFiles::new(&[]), &mut out, &mut err)
-}
-
-#[test]
-fn keeps_the_status_where_the_fault_line_is_not_taken(rt: HostRuntime) {
-    let rows: [(&[&str], u8); 7] = [
-        (&JUDGE_CLASSES, 3),
-        (
-            &[
-                "bidi",
-                "rows",
-                "--form",
-                "exhaustive",
-                "--alphabet",
-                "L",
-                "--length",
-                "x",
-            ],
-            2,
-        ),
-        (&JUDGE_CHARACTERS, 3),
-        (&["bidi", "judge", "--kind", "characters", "FILE"], 2),
-        (&["bidi", "explain", "--classes", "R x"], 2),
-        (&["bidi", "explain", "--codes", "05D0 x"], 2),
-        (&["bidi", "other"], 2),
-    ];
-    for (words, status) in rows {
-        let unsaid = Ended {
-            status,
-            is_written: true,
-            is_reported: false,
-        };
-        for allowed in [5, 1000] {
-            assert_eq!(rt;
-                end_without_a_line(rt.alloc(), words, allowed),
-                unsaid,
-                "{words:?}"
-            );
-        }
-    }
-}
-
-#[test]
-fn reports_that_a_file_got_no_memory(rt: HostRuntime) {
-    let ending = Ending::fails(3, b"bidi: out of memory\n");
-    assert_run_over(&rt, rt.alloc(), &JUDGE_CLASSES, NoMemory, ending);
+    let mut err = FixedWriter::new();
+    let files = tables_and(WRONG_UNDER_RTL);
+    let ended = run(alloc, words, &MemoryFiles::new(&files), &mut out, &mut err);
+    Outcome { ended, out, err }
 }
 
 /// Returns whether a run reported that memory ran out.
@@ -159,7 +69,7 @@ fn runs_as_usual_or_reports_that_memory_ran_out(rt: HostRuntime) {
         (&["bidi", "other"], 2, b"", b"error: "),
     ];
     for (words, status, out, err) in rows {
-        let outcome = outcome_of(rt.alloc(), words, &tables_and(WRONG_UNDER_RTL));
+        let outcome = outcome_of(rt.alloc(), words);
         let is_right = reports_no_memory(&outcome) || begins_so(&outcome, status, out, err);
         assert!(rt; is_right, "{words:?}");
     }

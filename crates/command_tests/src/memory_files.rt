@@ -29,15 +29,6 @@ pub fn whole<'a>(name: &'a str, bytes: &'a [u8]) -> MemoryFile<'a>
     }
 }
 
-/// Returns a file whose reads fail past so many bytes.
-pub fn cut<'a>(name: &'a str, bytes: &'a [u8], readable: u64) -> MemoryFile<'a> {
-    MemoryFile {
-        name,
-        bytes,
-        readable,
-    }
-}
-
 /// Files in memory, and standard input. Contracts see their names, their bytes, and how many bytes can be read.
 #[derive(Drop)]
 pub struct MemoryFiles<'a> {
