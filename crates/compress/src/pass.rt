@@ -673,6 +673,9 @@ pub enum TurnLimit {
     Strict,
     /// One for eight units: for texts that take more.
     Lenient,
+    /// One for six units, but a turn after which the direction is another one counts as two: for texts with letters of
+    /// both directions, in which these turns save less than others.
+    Mixed,
 }
 
 /// Before this position few turns are allowed, so that the pass ends early if directions change often.
@@ -681,23 +684,54 @@ const EARLY: usize = 256;
 /// How many turns after `EARLY` the pass makes before it asks again.
 const WINDOW: usize = 24;
 
-/// How many units so many turns pass at least. In a text with more turns, the pass saves nothing.
-const LEAST_PASSED: usize = 3 * WINDOW;
+/// How many units a turn passes at least, on average since the pass asked last. In a text with more turns, the pass
+/// saves nothing.
+const LEAST_PASSED: usize = 3;
 
-/// The same in the first half of a paragraph. If the pass ends there, what it found is not used.
-const LEAST_PASSED_AT_FIRST: usize = 6 * WINDOW;
+/// The same in the first half of a paragraph. If the pass ends there, what it found may be lost.
+const LEAST_PASSED_AT_FIRST: usize = 6;
 
-/// How many turns the pass may still make before it asks again, and the position at which it asked last.
+/// How many turns the pass made, and after how many of them the last strong class is of the other direction.
+#[derive(Clone, Copy)]
+struct Turns {
+    made: usize,
+    changes: usize,
+}
+
+/// What is counted before the first turn.
+const NO_TURNS: Turns = Turns {
+    made: 0,
+    changes: 0,
+};
+
+/// Counts a turn before and after which these are the last strong classes.
+fn counted(turns: Turns, before: Class, after: Class) -> Turns
+    requires made { turns.made < 2 ^ 32 }
+    requires changes { turns.changes < 2 ^ 32 }
+    ensures made { result.made ≡ turns.made + 1 }
+    ensures changes { result.changes ≤ turns.changes + 1 }
+{
+    let changes = matches!(before, Class::L) != matches!(after, Class::L);
+    Turns {
+        made: turns.made + 1,
+        changes: turns.changes + usize::from(changes),
+    }
+}
+
+/// How many turns the pass may still make before it asks again, the position at which it asked last, and how many
+/// changes of the direction were counted then.
 #[derive(Clone, Copy)]
 struct Granted {
     remaining: usize,
     asked: usize,
+    changes: usize,
 }
 
 /// What is granted before the pass asks.
 const UNASKED: Granted = Granted {
     remaining: 0,
     asked: 0,
+    changes: 0,
 };
 
 /// Returns how many turns the pass may have made at this position near the start.
@@ -707,24 +741,39 @@ fn most_turns(limit: TurnLimit, p: usize) -> usize
     match limit {
         TurnLimit::Strict => p / 12 + 2,
         TurnLimit::Lenient => p / 8 + 3,
+        TurnLimit::Mixed => p / 6 + 2,
     }
 }
 
-/// Returns how many turns the pass may make from the position `p` on in a paragraph of `n` units, after so many turns,
+/// Returns how many turns so many changes of the direction count besides.
+fn more_for(limit: TurnLimit, changes: usize) -> usize
+    ensures { result ≤ changes }
+{
+    match limit {
+        TurnLimit::Mixed => changes,
+        _ => 0,
+    }
+}
+
+/// Returns how many turns the pass may make from the position `p` on in a paragraph of `n` units, after these turns,
 /// before it asks again: none if there were too many, near the start or since it asked last.
-fn more_turns(limit: TurnLimit, asked: usize, p: usize, n: usize, turns: usize) -> usize
-    requires asked { asked ≤ p }
+fn more_turns(limit: TurnLimit, granted: Granted, p: usize, n: usize, turns: Turns) -> usize
+    requires asked { granted.asked ≤ p }
+    requires made { turns.made ≤ p }
+    requires changes { turns.changes ≤ p }
     requires short { p < 2 ^ 32 }
 {
     if p < EARLY {
-        return (most_turns(limit, p) + 1).saturating_sub(turns);
+        let counted = turns.made + more_for(limit, turns.changes);
+        return (most_turns(limit, p) + 1).saturating_sub(counted);
     }
+    let counted = WINDOW + more_for(limit, turns.changes.saturating_sub(granted.changes));
     let least = if p < n / 2 {
-        LEAST_PASSED_AT_FIRST
+        LEAST_PASSED_AT_FIRST * counted
     } else {
-        LEAST_PASSED
+        LEAST_PASSED * counted
     };
-    if asked >= EARLY && p - asked < least {
+    if granted.asked >= EARLY && p - granted.asked < least {
         return 0;
     }
     WINDOW
@@ -737,10 +786,12 @@ fn granted_or_more(
     limit: TurnLimit,
     p: usize,
     n: usize,
-    turns: usize,
+    turns: Turns,
     room: usize,
 ) -> Granted
     requires asked { granted.asked ≤ p }
+    requires made { turns.made ≤ p }
+    requires changes { turns.changes ≤ p }
     requires short { p < 2 ^ 32 }
     ensures within { granted.remaining ≤ room → result.remaining ≤ room }
     ensures asked { result.asked ≤ p }
@@ -749,8 +800,9 @@ fn granted_or_more(
         return granted;
     }
     Granted {
-        remaining: room.min(more_turns(limit, granted.asked, p, n, turns)),
+        remaining: room.min(more_turns(limit, granted, p, n, turns)),
         asked: p,
+        changes: turns.changes,
     }
 }
 
@@ -785,7 +837,7 @@ pub fn squeeze<L: Ledger>(
     let room = chosen.len().min(starts.len());
     let mut granted = UNASKED;
     let mut m = 0;
-    let mut turns = 0;
+    let mut turns = NO_TURNS;
     let mut strong = direction;
     let mut p = next_remaining(para, 0, steps);
     while p < para.len() {
@@ -794,10 +846,10 @@ pub fn squeeze<L: Ledger>(
             return Few { chosen: m, end: p };
         }
         granted.remaining -= 1;
-        turns += 1;
         steps.tick();
         let known = Known { direction, strong };
         let now = turn(known, chosen, starts, m, para, p, steps);
+        turns = counted(turns, strong, now.strong);
         m = now.m;
         strong = now.strong;
         p = pass_on(direction, chosen[m - 1], para, now.end, steps);
@@ -805,17 +857,59 @@ pub fn squeeze<L: Ledger>(
     Few { chosen: m, end: p }
 }
 
+/// Copies the four units from `p` on to the positions from `m + p` on.
+fn copy_four(chosen: &mut [Unit], m: usize, rest: &[Unit], p: usize)
+    requires from { p + 4 ≤ length rest.now }
+    requires to { m + length rest.now ≤ length chosen.old }
+    ensures copied { (front : List BidiUnit) → take (m + p) chosen.old ≡ front ++ take p rest.now
+        → take (m + (p + 4)) chosen.new ≡ front ++ take (p + 4) rest.now }
+    ensures after { drop (m + length rest.now) chosen.new ≡ drop (m + length rest.now) chosen.old }
+{
+    let q = m + p;
+    chosen[q] = rest[p];
+    chosen[q + 1] = rest[p + 1];
+    chosen[q + 2] = rest[p + 2];
+    chosen[q + 3] = rest[p + 3];
+}
+
+/// How many units are copied together.
+const COPIED: usize = 4;
+
+/// Copies these units to the positions from `m` on, four at a time as long as there are four, with a step for each.
+/// Returns how many are copied.
+// Units are copied by hand: `copy_from_slice` takes some four instructions more for each.
+fn copy_fours<L: Ledger>(
+    chosen: &mut [Unit],
+    m: usize,
+    rest: &[Unit],
+    steps: &mut Steps<L>,
+) -> usize
+    requires { m + length rest.now ≤ length chosen.old }
+    ensures within { result ≤ length rest.now }
+    ensures copied { take (m + result) chosen.new ≡ take m chosen.old ++ take result rest.now }
+    ensures after { drop (m + length rest.now) chosen.new ≡ drop (m + length rest.now) chosen.old }
+    ensures steps { steps.new ≡ steps.old + result }
+{
+    let mut p = 0;
+    while rest.len() - p >= COPIED {
+        steps.add(COPIED);
+        copy_four(chosen, m, rest, p);
+        p += COPIED;
+    }
+    p
+}
+
 /// Copies these units to the positions from `m` on. Each of them is a step.
-// Units are copied one by one here: `copy_from_slice` takes some four instructions more for each.
 fn copy_units<L: Ledger>(chosen: &mut [Unit], m: usize, rest: &[Unit], steps: &mut Steps<L>)
     requires { m + length rest.now ≤ length chosen.old }
     ensures copied { take (m + length rest.now) chosen.new ≡ take m chosen.old ++ rest.now }
     ensures after { drop (m + length rest.now) chosen.new ≡ drop (m + length rest.now) chosen.old }
     ensures steps { steps.new ≡ steps.old + length rest.now }
 {
-    for k in 0..rest.len() {
+    let start = copy_fours(chosen, m, rest, steps);
+    for p in start..rest.len() {
         steps.tick();
-        chosen[m + k] = rest[k];
+        chosen[m + p] = rest[p];
     }
 }
 

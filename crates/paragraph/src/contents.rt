@@ -5,7 +5,6 @@ ghost use Rattle.units.specs.Classes.{classes_of, is_initiator, is_removed, is_s
 ghost use Rattle.units.specs.Isolates.{level_of_para};
 ghost use Rattle.units.specs.declared.class.Class.{Class as BidiClass};
 ghost use Rattle.explicit.specs.Flat.{is_flat};
-ghost use Rattle.explicit.specs.Sides.{noted};
 ghost use Rattle.explicit.specs.Uniform.{may_rise_at_even, may_rise_at_odd};
 ghost use Rattle.paragraph.specs.ClassSets.{IsSetOf, is_class};
 ghost use Rattle.paragraph.specs.Contents.{Describes, IsFirstOf, IsFront, IsUniformLevel, are_flat, has_none, keeps_level, keeps_own};
@@ -64,17 +63,6 @@ pub(crate) fn has_removed(classes: ClassSet) -> bool
         | classes.has(Class::BN)
 }
 
-/// P2: Returns this side, or that of this class if it is the first strong one.
-fn side_with(side: Side, class: Class) -> Side
-    ensures { result ≡ (if is_strong class then noted side class else side) }
-{
-    if class.is_strong() {
-        side.noting(class)
-    } else {
-        side
-    }
-}
-
 /// I1: Returns whether a class can raise a position above an even level; EN counts as L there.
 fn may_rise_at_even(classes: ClassSet) -> bool
     ensures { (cs : List BidiClass) → IsSetOf classes cs → result ≡ list_any may_rise_at_even cs }
@@ -115,32 +103,6 @@ impl Contents {
             classes: ClassSet::none().with(class),
             side,
         }
-    }
-
-    /// Returns the contents of a paragraph with one more unit, of this class.
-    fn with(self, class: Class) -> Contents
-        ensures { (cs : List BidiClass) → Describes self cs → Describes result (cs ++ class ∷ []) }
-    {
-        Contents {
-            classes: self.classes.with(class),
-            side: side_with(self.side, class),
-        }
-    }
-
-    /// Returns the contents of a paragraph of these units, with a step for each of them.
-    pub(crate) fn of_units<L: Ledger>(units: &[Unit], steps: &mut Steps<L>) -> Contents
-        ensures contents { Describes result (classes_of units.now) }
-        ensures steps { steps.new ≡ steps.old + length units.now }
-    {
-        let mut contents = Contents {
-            classes: ClassSet::none(),
-            side: Side::Unknown,
-        };
-        for k in 0..units.len() {
-            steps.tick();
-            contents = contents.with(units[k].class);
-        }
-        contents
     }
 
     /// Returns whether there is no initiator: X1 to X9 then leave all positions that remain at the paragraph's level.

@@ -8,7 +8,7 @@ ghost use Rattle.paragraph.specs.Contents.{Describes, are_flat};
 ghost use Rattle.paragraph.specs.Resolvers.{few_room};
 ghost use Rattle.paragraph.specs.StepBounds.{w_to_i_steps, x_rules_steps};
 
-use crate::contents::Contents;
+use crate::contents::{Contents, FirstParagraph};
 use crate::found::{KnownParagraph, resolve_sequences};
 use crate::rooms::{RoomToFind, RoomToResolve};
 use compress::levels::{FlatPara, spread};
@@ -43,8 +43,10 @@ fn may_save(contents: Contents, n: usize) -> bool {
 
 /// Returns how long the search for few units goes on near the start: longer in paragraphs that take more without it.
 fn limit_for(contents: Contents) -> TurnLimit {
-    if contents.is_mixed() || !contents.all_remain() {
+    if !contents.all_remain() {
         TurnLimit::Lenient
+    } else if contents.is_mixed() {
+        TurnLimit::Mixed
     } else {
         TurnLimit::Strict
     }
@@ -96,7 +98,7 @@ fn saves(few: Few, n: usize) -> bool
     ensures half { result ≡ true → few.chosen + few.chosen ≤ few.end }
 {
     let others = few.end - few.chosen;
-    others >= n / 2 && others >= few.chosen
+    others >= n / 4 && others >= few.chosen
 }
 
 /// Applies X1 to I2 to a flat paragraph of this level by few of its units: resolves these as a paragraph of their own,
@@ -140,13 +142,13 @@ fn resolve_by_few<L: Ledger>(
         return false;
     };
     let units = &chosen[..count];
-    let contents = Contents::of_units(units, steps);
-    if !contents.is_flat() {
+    let paragraph = FirstParagraph::of(units, steps);
+    if paragraph.length < count || !paragraph.contents.is_flat() {
         return false;
     }
     let few_para = KnownParagraph {
         units,
-        contents,
+        contents: paragraph.contents,
         limits: para.limits,
     };
     let first = few.end - few.chosen;
