@@ -673,8 +673,8 @@ pub enum TurnLimit {
     Strict,
     /// One for eight units: for texts that take more.
     Lenient,
-    /// One for six units, but a turn after which the direction is another one counts as two: for texts with letters of
-    /// both directions, in which these turns save less than others.
+    /// The same, but a turn after which the direction is another one counts as two, since it saves less than others. A
+    /// turn at a bracket makes up for one of these. For texts with letters of both directions.
     Mixed,
 }
 
@@ -691,7 +691,8 @@ const LEAST_PASSED: usize = 3;
 /// The same in the first half of a paragraph. If the pass ends there, what it found may be lost.
 const LEAST_PASSED_AT_FIRST: usize = 6;
 
-/// How many turns the pass made, and after how many of them the last strong class is of the other direction.
+/// How many turns the pass made, and after how many of them the last strong class is of the other direction, less those
+/// at brackets since.
 #[derive(Clone, Copy)]
 struct Turns {
     made: usize,
@@ -704,17 +705,23 @@ const NO_TURNS: Turns = Turns {
     changes: 0,
 };
 
-/// Counts a turn before and after which these are the last strong classes.
-fn counted(turns: Turns, before: Class, after: Class) -> Turns
+/// Counts a turn at this unit, before and after which these are the last strong classes.
+fn counted(turns: Turns, unit: Unit, before: Class, after: Class) -> Turns
     requires made { turns.made < 2 ^ 32 }
     requires changes { turns.changes < 2 ^ 32 }
     ensures made { result.made ≡ turns.made + 1 }
     ensures changes { result.changes ≤ turns.changes + 1 }
 {
-    let changes = matches!(before, Class::L) != matches!(after, Class::L);
+    let changes = if !is_bare(unit.bracket) {
+        turns.changes.saturating_sub(1)
+    } else if matches!(before, Class::L) != matches!(after, Class::L) {
+        turns.changes + 1
+    } else {
+        turns.changes
+    };
     Turns {
         made: turns.made + 1,
-        changes: turns.changes + usize::from(changes),
+        changes,
     }
 }
 
@@ -740,8 +747,7 @@ fn most_turns(limit: TurnLimit, p: usize) -> usize
 {
     match limit {
         TurnLimit::Strict => p / 12 + 2,
-        TurnLimit::Lenient => p / 8 + 3,
-        TurnLimit::Mixed => p / 6 + 2,
+        TurnLimit::Lenient | TurnLimit::Mixed => p / 8 + 3,
     }
 }
 
@@ -849,7 +855,7 @@ pub fn squeeze<L: Ledger>(
         steps.tick();
         let known = Known { direction, strong };
         let now = turn(known, chosen, starts, m, para, p, steps);
-        turns = counted(turns, strong, now.strong);
+        turns = counted(turns, para[p], strong, now.strong);
         m = now.m;
         strong = now.strong;
         p = pass_on(direction, chosen[m - 1], para, now.end, steps);
