@@ -1,6 +1,6 @@
 """Makes the wheel of bidi_proved for pip: the package, and in it the shared object of the library.
 
-The shared object is the one that tools/c/build_library.sh or tools/c/build_shared.sh made, or that BIDI_LIBRARY names.
+The shared object is the one that c/build_library.sh or c/build_shared.sh made, or that BIDI_LIBRARY names.
 The same files make the same bytes: all times in the wheel are that of SOURCE_DATE_EPOCH, or else 1980.
 """
 import base64
@@ -51,7 +51,7 @@ def shared_object():
     found = pathlib.Path(named or made)
     if not found.exists():
         # pip builds in this folder, and not in the one where it was called.
-        build = "build it first, by `rt lib` in crates/bidi_c and tools/c/build_shared.sh"
+        build = "build it first, by `rt lib` in crates/bidi_c and c/build_shared.sh"
         raise SystemExit(f"no {found}: " + ("name it in full in BIDI_LIBRARY" if named else build))
     return found
 

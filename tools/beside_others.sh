@@ -57,7 +57,7 @@ build() {
 build lay_out_bidi_c "$library" "$heap"
 build lay_out_icu -licuuc
 build lay_out_fribidi -lfribidi
-if "$tools/fribidi/build.sh" "$work"; then
+if "$tools/../c/fribidi/build.sh" "$work"; then
     gcc -O2 -I/usr/include/fribidi -o "$work/lay_out_over_bidi" "$tools/beside/lay_out_fribidi.c" \
         "$work/libfribidi_over_bidi.so" -lfribidi "-Wl,-rpath,$work"
 fi

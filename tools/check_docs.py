@@ -9,7 +9,7 @@ words in RUN, those of a document one after another in one folder; others are sk
 single documents. A file that no command has made is made from what `cat FILE`, or `od -A n -t x1 FILE`, shows of it.
 `ucd` is a folder with the published property files and test files. If FOLDER has none, commands that name it are
 skipped, and the script says so. Commands whose tool is not installed are skipped too. Each example in C must be part of
-tools/c/manual.c, where it may be indented.
+c/manual.c, where it may be indented.
 
 A drawing that a command makes, such as docs/layout.svg, is compared with the one of that name in docs/; with --store it
 is stored there. The script also checks that docs/crates.svg is the drawing of the crates. It runs the program that
@@ -91,13 +91,13 @@ def written(command, work, path):
 
 
 def wrong_examples(file):
-    """Returns how many examples in C of a document are no part of tools/c/manual.c."""
-    source = (TOP / "tools/c/manual.c").read_text()
+    """Returns how many examples in C of a document are no part of c/manual.c."""
+    source = (TOP / "c/manual.c").read_text()
     indented = re.sub("^  ", "", source, flags=re.MULTILINE)
     examples = re.findall(r"^```c\n(.*?)^```$", file.read_text(), re.MULTILINE | re.DOTALL)
     wrong = [example for example in examples if example not in source and example not in indented]
     for example in wrong:
-        print(f"{file.name}: an example is no part of tools/c/manual.c:\n{example}")
+        print(f"{file.name}: an example is no part of c/manual.c:\n{example}")
     return len(wrong)
 
 
@@ -121,7 +121,7 @@ def run_document(file, folder, program):
         work = pathlib.Path(made)
         (work / ".bin").mkdir()
         (work / ".bin/bidi").symlink_to(program)
-        (work / ".bin/bidi-draw").symlink_to(TOP / "tools/bidi-draw")
+        (work / ".bin/bidi-draw").symlink_to(TOP / "draw/bidi-draw")
         has_published = published(folder, work / "ucd")
         path = f"{work / '.bin'}:{os.environ['PATH']}"
         for command, shown in transcripts(file.read_text()):

@@ -14,7 +14,7 @@ work=$(mktemp -d) || exit 2
 trap 'rm -r "$work"' EXIT
 mkdir "$work/bin"
 ln -s "$(readlink -f "$bidi")" "$work/bin/bidi"
-ln -s "$tools/bidi-draw" "$work/bin/bidi-draw"
+ln -s "$tools/../draw/bidi-draw" "$work/bin/bidi-draw"
 PATH=$work/bin:$PATH
 cd "$work" || exit 2
 wrong=0

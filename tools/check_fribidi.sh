@@ -7,7 +7,7 @@
 #
 # usage: tools/check_fribidi.sh
 #
-# It uses the program that `rt ci` built (BIDI may name another) and the library that tools/c/build_library.sh built,
+# It uses the program that `rt ci` built (BIDI may name another) and the library that c/build_library.sh built,
 # and takes some seconds.
 set -u
 tools=$(cd "$(dirname "$0")" && pwd)
@@ -18,7 +18,7 @@ command -v gcc > /dev/null || { echo "no gcc: FriBidi's calls are not tried"; ex
 [ -x "$program" ] || { echo "no $program: run rt ci, or rt run -- --help in crates/bidi" >&2; exit 2; }
 work=$(mktemp -d) || exit 2
 trap 'rm -r "$work"' EXIT
-"$tools/fribidi/build.sh" "$work" || exit 2
+"$top/c/fribidi/build.sh" "$work" || exit 2
 shared=$work/libfribidi_over_bidi.so
 wrong=0
 
@@ -26,8 +26,8 @@ wrong=0
 build() {
     gcc -O2 -I/usr/include/fribidi -o "$work/$1" "$2" -lfribidi -ldl || exit 2
 }
-build rows "$tools/fribidi/rows.c"
-build calls "$tools/fribidi/calls.c"
+build rows "$top/c/fribidi/rows.c"
+build calls "$top/c/fribidi/calls.c"
 build levels "$tools/engines/fribidi.c"
 
 # judged WHAT WORD..: the rows that `bidi rows` prints with these arguments are right as FriBidi's calls make them.
@@ -75,7 +75,7 @@ for alphabet in '202D 202B 0061 202C 05D0 202E 0020' '0031 0661 002B 00AD 0024 0
         --alphabet "$alphabet" > "$work/texts" || exit 2
     same "levels of $alphabet" "$work/levels"
 done
-grep -v '^#' "$tools/fribidi/texts.txt" > "$work/texts"
+grep -v '^#' "$top/c/fribidi/texts.txt" > "$work/texts"
 LD_PRELOAD=$shared "$work/calls" < /dev/null > "$work/replaced"
 [ "$(cat "$work/replaced")" = 'replaced: 10 of 10' ] || { echo "not all calls are replaced"; wrong=1; }
 same 'the replaced calls' bash -c "'$work/calls' | tail -n +2"

@@ -8,14 +8,14 @@
 #
 # usage: tools/check_install.sh
 #
-# It installs what `rt ci` and tools/c/build_library.sh built, or what was built by hand, and takes some seconds.
+# It installs what `rt ci` and c/build_library.sh built, or what was built by hand, and takes some seconds.
 set -u
 tools=$(cd "$(dirname "$0")" && pwd)
 top=$(dirname "$tools")
 version=$(cat "$top/VERSION") || exit 2
 command -v gcc > /dev/null || { echo "no gcc: what is installed is not looked at"; exit 0; }
 for file in crates/bidi/out/bidi crates/bidi_c/out/libbidi_c.a; do
-    [ -e "$top/$file" ] || { echo "no $top/$file: run rt ci and tools/c/build_library.sh" >&2; exit 2; }
+    [ -e "$top/$file" ] || { echo "no $top/$file: run rt ci and c/build_library.sh" >&2; exit 2; }
 done
 work=$(mktemp -d) || exit 2
 trap 'rm -r "$work"' EXIT
@@ -23,11 +23,11 @@ cd "$work" || exit 2
 unset DESTDIR
 wrong=0
 checks=0
-"$tools/c/build_shared.sh" || wrong=1
+"$top/c/build_shared.sh" || wrong=1
 has_fribidi=no
 if [ -e /usr/include/fribidi/fribidi.h ]; then
     has_fribidi=yes
-    "$tools/fribidi/build.sh" || wrong=1
+    "$top/c/fribidi/build.sh" || wrong=1
 else
     rm -f "$top/crates/bidi_c/out/libfribidi_over_bidi.so"
     echo "no libfribidi-dev: FriBidi's calls are not installed"
@@ -96,14 +96,14 @@ flags() {
 prints() {
     local name=$1
     shift
-    is "the demo $name" "$(cat "$tools/c/demo.out")" "$("$@" "$tools/c/ucd" 20 < "$tools/c/demo.txt" 2>&1)"
+    is "the demo $name" "$(cat "$top/c/demo.out")" "$("$@" "$top/c/ucd" 20 < "$top/c/demo.txt" 2>&1)"
 }
 
 # builds NAME WORD..: builds a demo with these arguments.
 builds() {
     local name=$1
     shift
-    gcc -O2 -o "$name" "$tools/c/demo.c" "$@" 2> "$work/said" || cat "$work/said" >&2
+    gcc -O2 -o "$name" "$top/c/demo.c" "$@" 2> "$work/said" || cat "$work/said" >&2
 }
 
 # runs PREFIX: the demo, built with the output of pkg-config, prints what is stored, over the shared object, whose
@@ -132,7 +132,7 @@ starts() {
 # replaces PREFIX: a program over FriBidi, linked with what is installed before FriBidi, calls this library alone.
 replaces() {
     [ "$has_fribidi" = yes ] || return 0
-    gcc -I/usr/include/fribidi -o calls "$tools/fribidi/calls.c" "-L$1/$libdir" -lfribidi_over_bidi -lfribidi \
+    gcc -I/usr/include/fribidi -o calls "$top/c/fribidi/calls.c" "-L$1/$libdir" -lfribidi_over_bidi -lfribidi \
         "-Wl,-rpath,$1/$libdir"
     is "FriBidi's calls of $1" "replaced: 10 of 10" "$(./calls < /dev/null 2>&1)"
 }
@@ -179,7 +179,7 @@ rm -r "$work/stage \$x"
 rejects() {
     "$tools/install.sh" "$@" > "$work/said" 2>&1
     is "status of install.sh $*" 2 $?
-    "$tools/c/install.sh" "$@" > "$work/said" 2>&1
+    "$top/c/install.sh" "$@" > "$work/said" 2>&1
     is "status of c/install.sh $*" 2 $?
 }
 mkdir empty && cd empty || exit 2

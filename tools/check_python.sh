@@ -8,7 +8,7 @@
 # usage: tools/check_python.sh
 #
 # PYTHON_BIDI in the environment names a folder with the source of python-bidi; then its own tests are run too.
-# Build the library first, as tools/c/run.sh does.
+# Build the library first, as c/run.sh does.
 set -u
 tools=$(cd "$(dirname "$0")" && pwd)
 python=$tools/../python
@@ -16,7 +16,7 @@ python=$tools/../python
 for command in python3 gcc; do
     command -v "$command" > /dev/null || { echo "no $command: the module for Python is not tested"; exit 0; }
 done
-"$tools/c/build_shared.sh" || exit 2
+"$tools/../c/build_shared.sh" || exit 2
 shared=$(ls "$tools/../crates/bidi_c/out/libbidi_c.so.$(cat "$tools/../VERSION")") || exit 2
 work=$(mktemp -d) || exit 2
 trap 'rm -r "$work"' EXIT

@@ -140,8 +140,8 @@ builds() {
     local label=$1 environment=$2
     shift 2
     inside gcc -O2 -o /tmp/demo /tmp/demo.c "$@"
-    is "$label: a program in C" "$(cat "$tools/c/demo.out")" \
-        "$(inside "$environment" /tmp/demo /tmp/ucd 20 < "$tools/c/demo.txt")"
+    is "$label: a program in C" "$(cat "$top/c/demo.out")" \
+        "$(inside "$environment" /tmp/demo /tmp/ucd 20 < "$top/c/demo.txt")"
 }
 
 # replaces LABEL PRELOAD WORD..: programs over FriBidi run on this library if this shared object is named at the start,
@@ -216,7 +216,7 @@ elif ! command -v dpkg-query > /dev/null || [ "$(closure gcc libc6-dev pkg-confi
 else
     make_root
     printf 'אב (cd) 12\n' > "$root/tmp/text.txt"
-    cp -r "$tools/c/demo.c" "$tools/c/read_file.h" "$tools/c/ucd" "$tools/fribidi/calls.c" "$tools/fribidi/rows.c" \
+    cp -r "$top/c/demo.c" "$top/c/read_file.h" "$top/c/ucd" "$top/c/fribidi/calls.c" "$top/c/fribidi/rows.c" \
         "$root/tmp"
     is "the kit in the root" "" "$(inside env | grep -i rattle; ls -d "$root/opt" "$root/work" 2> /dev/null)"
     try_archive

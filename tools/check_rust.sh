@@ -1,25 +1,25 @@
 #!/bin/bash
 # Runs the tests of the crate for Rust (rust/bidi-proved) over the library for C, with its archives and with its shared
-# object, as tools/c/install.sh installs them. It compares what the crate's examples print with docs/RUST.md, and the
+# object, as c/install.sh installs them. It compares what the crate's examples print with docs/RUST.md, and the
 # example there with that of README.md, which is one of the tests. It ends with 0 if all is right, with 1 if not, and
 # with 2 if the library can't be installed. Without cargo or gcc it does nothing, and says so.
 #
 # usage: tools/check_rust.sh
 #
-# Build the library first, as tools/c/run.sh does. Nothing is fetched: the crate has no dependency.
+# Build the library first, as c/run.sh does. Nothing is fetched: the crate has no dependency.
 set -u
 tools=$(cd "$(dirname "$0")" && pwd)
 top=$tools/..
 for command in cargo gcc; do
     "$command" --version > /dev/null 2>&1 || { echo "no $command: the crate for Rust is not tested"; exit 0; }
 done
-"$tools/c/build_shared.sh" || exit 2
+"$top/c/build_shared.sh" || exit 2
 work=$(mktemp -d) || exit 2
 trap 'rm -r "$work"' EXIT
-"$tools/c/install.sh" "$work/prefix" || exit 2
+"$top/c/install.sh" "$work/prefix" || exit 2
 # cargo writes into the crate's folder, so it runs in a copy, beside the header, which a test reads.
-mkdir -p "$work/tools/c" "$work/rust" && cp -r "$top/rust/bidi-proved" "$work/rust" &&
-    cp "$tools/c/bidi.h" "$work/tools/c" || exit 2
+mkdir -p "$work/c" "$work/rust" && cp -r "$top/rust/bidi-proved" "$work/rust" &&
+    cp "$top/c/bidi.h" "$work/c" || exit 2
 cd "$work/rust/bidi-proved" || exit 2
 wrong=0
 

@@ -45,23 +45,23 @@ names_edition() {
 [[ $version =~ ^[0-9]+\.[0-9]+\.[0-9]+$ ]] || { echo "VERSION is no version: '$version'" >&2; wrong=1; }
 says crates/command "$(sed -n 's/^pub const BIDI_VERSION: &str = "\([^ ]*\) .*$/\1/p' crates/command/src/help.rt)"
 says crates/for_c "$(sed -n 's/^pub const VERSION: &str = "\(.*\)";$/\1/p' crates/for_c/src/version.rt)"
-says tools/c/bidi.h "$(sed -n 's/^#define BIDI_VERSION "\(.*\)"$/\1/p' tools/c/bidi.h)"
-numbers=$(sed -n 's/^#define BIDI_VERSION_\(MAJOR\|MINOR\|PATCH\) \([0-9]*\)$/\2/p' tools/c/bidi.h)
-says "tools/c/bidi.h, by numbers," "$(tr '\n' . <<< "$numbers" | sed 's/\.$//')"
+says c/bidi.h "$(sed -n 's/^#define BIDI_VERSION "\(.*\)"$/\1/p' c/bidi.h)"
+numbers=$(sed -n 's/^#define BIDI_VERSION_\(MAJOR\|MINOR\|PATCH\) \([0-9]*\)$/\2/p' c/bidi.h)
+says "c/bidi.h, by numbers," "$(tr '\n' . <<< "$numbers" | sed 's/\.$//')"
 says_edition crates/standard "$(sed -n 's/^pub const EDITION: &str = "\(.*\)";$/\1/p' crates/standard/src/facts.rt)"
-says_edition tools/c/bidi.h "$(sed -n 's/^#define BIDI_EDITION "\(.*\)"$/\1/p' tools/c/bidi.h)"
+says_edition c/bidi.h "$(sed -n 's/^#define BIDI_EDITION "\(.*\)"$/\1/p' c/bidi.h)"
 for file in crates/command/src/help.rt crates/transcript_rows/data/arguments.txt docs/COMMAND.md docs/bidi.1 \
-    README.md tools/c/calls.out; do
+    README.md c/calls.out; do
     names_edition "$file"
 done
-for file in tools/c/bidi.h docs/{C,PYTHON,RUST}.md python/bidi_proved/tables.py rust/bidi-proved/src/lib.rs; do
+for file in c/bidi.h docs/{C,PYTHON,RUST}.md python/bidi_proved/tables.py rust/bidi-proved/src/lib.rs; do
     says_edition "$file" "$(grep -oE '(as|like) ["`]?[0-9]+\.[0-9]+\.[0-9]+' "$file" | grep -oE '[0-9.]+$' |
         grep -vxF "$version" | sort -u | tr '\n' ' ' | sed 's/ $//')"
 done
 says_edition crates/command "$(sed -n 's/^tables of Unicode \(.*\) built in$/\1/p' crates/command/src/help.rt)"
 says docs/bidi.1 "$(sed -n 's/^\.TH BIDI 1 "[^"]*" "bidi \(.*\)" "User Commands"$/\1/p' docs/bidi.1)"
 says docs/bidi-draw.1 "$(sed -n 's/^\.TH BIDI-DRAW 1 "[^"]*" "bidi \(.*\)" "User Commands"$/\1/p' docs/bidi-draw.1)"
-says tools/bidi-draw "$(sed -n 's/^VERSION = "\(.*\)"$/\1/p' tools/bidi-draw)"
+says draw/bidi-draw "$(sed -n 's/^VERSION = "\(.*\)"$/\1/p' draw/bidi-draw)"
 says CHANGELOG.md "$(sed -n 's/^## \([0-9.]*\)$/\1/p' CHANGELOG.md | head -n 1)"
 says python/bidi_proved "$(sed -n 's/^__version__ = "\(.*\)"$/\1/p' python/bidi_proved/__init__.py)"
 says rust/bidi-proved "$(sed -n 's/^version = "\(.*\)"$/\1/p' rust/bidi-proved/Cargo.toml)"
@@ -69,7 +69,7 @@ for file in python/bidi_proved/library.py python/make_wheel.py; do
     soname=$(sed -n 's/^SONAME = "\(.*\)"$/\1/p' "$file")
     [ "$soname" = "libbidi_c.so.${version%%.*}" ] || { echo "$file names '$soname'" >&2; wrong=$((wrong + 1)); }
 done
-grep -q '^Version: @version@$' tools/c/bidi_c.pc.in || says tools/c/bidi_c.pc.in 'something else than @version@'
+grep -q '^Version: @version@$' c/bidi_c.pc.in || says c/bidi_c.pc.in 'something else than @version@'
 if command -v rt > /dev/null; then
     kit=$(rt version | head -n 1)
     for file in crates/command/src/help.rt README.md docs/COMMAND.md; do

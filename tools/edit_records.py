@@ -7,7 +7,7 @@ signatures, contracts, types and constants of the sources. The bodies of functio
 `const fn`, and neither are proofs, comments, blank lines and the files that programs run on.
 
 tools/try_edits.py writes and reads records. The file RECORD in a crate's folder has those of the crate, one on each
-line: the wrong body and its two sums. In place of the second sum, UNTRIED says that it wasn't tried yet.
+line: the wrong body and its two sums.
 """
 import dataclasses
 import functools
@@ -20,7 +20,6 @@ import subprocess
 
 RECORD = "edits.rejected"
 HEAD = "# wrong body, sum of what it is, sum of what else decides whether it is rejected (tools/edit_records.py)\n"
-UNTRIED = "untried"
 DIGITS = 16
 DRAWN_OF = 10
 FUNCTION = re.compile(r"( *)(?:pub(?:\([a-z]+\))? )?(?:unsafe )?(?:extern \"C\" )?fn \w")

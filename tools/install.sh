@@ -17,7 +17,7 @@ filled below that folder, and begins with /. --libdir names the folder of librar
 lib/x86_64-linux-gnu; it is lib if not given. --uninstall removes the files below, and leaves the folders.
 
 Build first: \`rt run -- --help\` in crates/bidi proves and builds the program, \`rt lib\` in crates/bidi_c the library
-for C, tools/c/build_shared.sh its shared object, and tools/fribidi/build.sh FriBidi's calls over it. The first of the
+for C, c/build_shared.sh its shared object, and c/fribidi/build.sh FriBidi's calls over it. The first of the
 two proofs takes some 40 minutes on four cores, the other one a few minutes then, and both take seconds if nothing
 changed. The library and the shared objects are installed if they were built. What is installed:
 
@@ -42,20 +42,20 @@ if [ "$uninstall" = no ] && [ ! -x "$program" ]; then
     exit 2
 fi
 put 755 "$program" bin/bidi &&
-    put 755 "$top/tools/bidi-draw" bin/bidi-draw &&
+    put 755 "$top/draw/bidi-draw" bin/bidi-draw &&
     put 644 "$top/docs/bidi.1" share/man/man1/bidi.1 &&
     put 644 "$top/docs/bidi-draw.1" share/man/man1/bidi-draw.1 &&
     put_documents "$top" &&
     put_licences "$top" || exit 1
 if [ "$uninstall" = yes ]; then
-    "$top/tools/c/install.sh" --uninstall --libdir "$libdir" "$prefix" || exit 1
+    "$top/c/install.sh" --uninstall --libdir "$libdir" "$prefix" || exit 1
     echo "removed from $root"
     exit 0
 fi
 installed="installed in $root: the programs, their manual pages and the documents"
 if [ ! -e "$top/crates/bidi_c/out/libbidi_c.a" ]; then
     echo "$installed; no library for C was built"
-elif said=$("$top/tools/c/install.sh" --libdir "$libdir" "$prefix" 2>&1); then
+elif said=$("$top/c/install.sh" --libdir "$libdir" "$prefix" 2>&1); then
     printf '%s\n' "$installed; the library for C and its header" ${said:+"$said"}
 else
     echo "$installed, but not the library for C: $said" >&2

@@ -17,7 +17,7 @@
 #
 # usage: tools/release.sh [FOLDER]      (FOLDER: dist at the top; files of the same names are replaced)
 #
-# Build first: the program (`rt run -- --help` in crates/bidi) and the library (tools/c/build_library.sh). It ends with
+# Build first: the program (`rt run -- --help` in crates/bidi) and the library (c/build_library.sh). It ends with
 # 2 if one of them or a tool is missing, if VERSION is no version, or if a tracked file is not committed, and with 1 if
 # making a file fails. Without FriBidi's headers (the package libfribidi-dev) it leaves out libfribidi-over-bidi, and
 # says so.
@@ -168,7 +168,7 @@ make_library_packages() {
     strip --strip-unneeded --remove-section=.comment "$work/libbidi-c1/usr/$multiarch/$name"
     chmod 644 "$work/libbidi-c1/usr/$multiarch/$name"
     mkdir -p "$shown"
-    cp "$top/tools/c/libbidi-c1.symbols" "$shown/symbols"
+    cp "$top/c/libbidi-c1.symbols" "$shown/symbols"
     echo "libbidi_c 1 libbidi-c1 (>= $version)" > "$shown/shlibs"
     echo "activate-noawait ldconfig" > "$shown/triggers"
     build libbidi-c1 amd64 libs "Depends: $libc
@@ -196,7 +196,7 @@ make_fribidi_package() {
     local package=libfribidi-over-bidi root=$work/libfribidi-over-bidi libc
     local shared=$root/usr/$multiarch/libfribidi_over_bidi.so
     mkdir -p "$root/DEBIAN" "$root/usr/$multiarch" "$root/usr/share/doc/$package"
-    LIBRARY=$work/libbidi-c1/usr/$multiarch/libbidi_c.so.$version "$top/tools/fribidi/build.sh" "$root/usr/$multiarch"
+    LIBRARY=$work/libbidi-c1/usr/$multiarch/libbidi_c.so.$version "$top/c/fribidi/build.sh" "$root/usr/$multiarch"
     libc=$(needs_libc "$shared")
     strip --strip-unneeded --remove-section=.comment "$shared"
     chmod 644 "$shared"
@@ -247,15 +247,15 @@ make_crate() {
     pack "$work/crate" "$name" "$name.crate"
 }
 
-"$top/tools/c/build_shared.sh"
-if ! diff <(grep -o '\bbidi_[a-z0-9_]*(' "$top/tools/c/bidi.h" | tr -d '(' | sort -u) \
-    <(sed -n 's/^ \(bidi_[a-z0-9_]*\)@.*/\1/p' "$top/tools/c/libbidi-c1.symbols" | sort -u) >&2; then
-    stop "tools/c/libbidi-c1.symbols does not name the calls of bidi.h: give a new call the next version"
+"$top/c/build_shared.sh"
+if ! diff <(grep -o '\bbidi_[a-z0-9_]*(' "$top/c/bidi.h" | tr -d '(' | sort -u) \
+    <(sed -n 's/^ \(bidi_[a-z0-9_]*\)@.*/\1/p' "$top/c/libbidi-c1.symbols" | sort -u) >&2; then
+    stop "c/libbidi-c1.symbols does not name the calls of bidi.h: give a new call the next version"
 fi
 has_fribidi=no
 if [ -e "${FRIBIDI:-/usr/include/fribidi}/fribidi.h" ]; then
     has_fribidi=yes
-    "$top/tools/fribidi/build.sh"
+    "$top/c/fribidi/build.sh"
 else
     echo "no headers of FriBidi (libfribidi-dev): the package libfribidi-over-bidi is left out"
     rm -f "$dist/libfribidi-over-bidi_${debian}_amd64.deb"

@@ -19,9 +19,9 @@ whether it is rejected. With --changed the tool tries these edits of wrong/, in 
 1. a tenth of all, drawn by the hash of the commit, so that a record that isn't true makes a run fail sooner or later;
 2. those with no record, and those that are something else than what was recorded: these two kinds fail if the time ends
    before they are decided;
-3. those for which only something else changed since they were recorded, and those that are recorded as untried, in a
-   drawn order of crates. Those that aren't decided in time are stale. The last line counts them, and they don't change
-   the status. No crate begins with these as long as one hasn't begun with its edits of the first two kinds.
+3. those for which only something else changed since they were recorded, in a drawn order of crates. Those that aren't
+   decided in time are stale. The last line counts them, and they don't change the status. No crate begins with these
+   as long as one hasn't begun with its edits of the first two kinds.
 
 With --minutes=N it starts no check after N minutes, and the last that it started may end later.
 
@@ -43,7 +43,7 @@ way, because a check may give up on a function that calls a wrong one. It tries 
 so each edit that changes no function. An edit passes there only if the kit says 'refused, as it must be' and adds no
 reservation.
 
-A rejected body says something only if the right body is proved. In .ci/run `rt ci` has proved it before. Here, each
+A rejected body says something only if the right body is proved. In the gate `rt ci` has proved it before. Here, each
 callee that no edit changes must be proved, and so must the right code of one function of each crate, in the same copy
 and over the same libraries. Otherwise all edits of the crate fail.
 

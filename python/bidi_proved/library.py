@@ -1,4 +1,4 @@
-"""The shared object libbidi_c: where it is found, and its calls as ctypes sees them. tools/c/bidi.h is its header."""
+"""The shared object libbidi_c: where it is found, and its calls as ctypes sees them. c/bidi.h is its header."""
 import array
 import ctypes
 import os

@@ -10,8 +10,8 @@ TEST_FILES = pathlib.Path("/usr/share/unicode")
 
 
 def small_tables():
-    """Tables of the few characters in tools/c/ucd."""
-    return bidi.Tables.read(TOP / "tools/c/ucd")
+    """Tables of the few characters in c/ucd."""
+    return bidi.Tables.read(TOP / "c/ucd")
 
 
 def all_tables():

@@ -20,7 +20,7 @@ class Manual(unittest.TestCase):
         folder = tempfile.TemporaryDirectory()
         self.addCleanup(folder.cleanup)
         self.work = pathlib.Path(folder.name)
-        (self.work / "ucd").symlink_to(TOP / "tools/c/ucd")
+        (self.work / "ucd").symlink_to(TOP / "c/ucd")
         self.commands = {}
         for program, transcript in PROGRAM.findall(MANUAL.read_text(encoding="utf-8")):
             for command, shown in COMMAND.findall(transcript):

@@ -204,7 +204,7 @@ class Statuses(unittest.TestCase):
     }
 
     def test_exceptions(self):
-        header = (TOP / "tools/c/bidi.h").read_text()
+        header = (TOP / "c/bidi.h").read_text()
         enum = re.search(r"enum \{\n( *BIDI_DONE = 0,.*?)\};", header, re.DOTALL)[1]
         numbers = {name: int(number) for name, number in re.findall(r"^ *(BIDI_\w+) = (\d+)", enum, re.MULTILINE)}
         self.assertEqual(set(BY_STATUS), {number for name, number in numbers.items() if name not in self.NEVER})

@@ -16,7 +16,7 @@
 # own, those of the engines, so that `bidi explain --row` can show one; without it they go with the run.
 #
 # It takes the program that `rt ci` leaves, or `rt run` in crates/bidi (BIDI may name another), and the library that
-# tools/c/build_library.sh builds (BIDI_LIBRARY may name a shared object).
+# c/build_library.sh builds (BIDI_LIBRARY may name a shared object).
 set -u
 folder=${2:-/usr/share/unicode}
 here=$(cd "$(dirname "$0")" && pwd)
@@ -31,7 +31,7 @@ done
 export BIDI=${BIDI:-$top/crates/bidi/out/bidi}
 [ -x "$BIDI" ] || { echo "no program at $BIDI: run rt ci, or rt run -- --help in crates/bidi" >&2; exit 2; }
 if [ -z "${BIDI_LIBRARY:-}" ]; then
-    "$top/tools/c/build_shared.sh" || exit 2
+    "$top/c/build_shared.sh" || exit 2
     BIDI_LIBRARY=$top/crates/bidi_c/out/libbidi_c.so.$(cat "$top/VERSION")
 fi
 export BIDI_LIBRARY

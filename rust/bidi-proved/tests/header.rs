@@ -1,4 +1,4 @@
-//! src/ffi.rs declares what tools/c/bidi.h does: each call, struct and number of it is in the header, word by word.
+//! src/ffi.rs declares what c/bidi.h does: each call, struct and number of it is in the header, word by word.
 use std::collections::BTreeMap;
 use std::fs;
 use std::path::Path;
@@ -19,7 +19,7 @@ fn read(name: &str) -> String {
 
 /// The header in one line, without comments.
 fn header() -> String {
-    let text = read("../../tools/c/bidi.h");
+    let text = read("../../c/bidi.h");
     let mut parts = text.split("/*");
     let first = parts.next().unwrap().to_string();
     let code = parts.fold(first, |code, part| code + part.split_once("*/").unwrap().1);
@@ -152,5 +152,5 @@ fn enums_are_those_of_the_header() {
         }
     }
     let classes: Vec<String> = variants("numbers.rs", "Class").into_iter().map(|(variant, _)| variant).collect();
-    assert!(read("../../tools/c/bidi.h").contains(&classes.join(" ")));
+    assert!(read("../../c/bidi.h").contains(&classes.join(" ")));
 }

@@ -2,14 +2,14 @@
 # Builds the library that C links and the programs of this folder, and runs them. Compared with their stored output are
 # the demo, the examples of the manual, a typesetter, a terminal, every call, those for engines with their own front,
 # each refused allocation, threads that share tables, and reports. Then come the greatest sizes (in some 2.1 GB of
-# memory), a C++ program, and a program built as tools/c/install.sh installs the library. All but the sizes run again
+# memory), a C++ program, and a program built as c/install.sh installs the library. All but the sizes run again
 # under -fsanitize=address,undefined and under valgrind, and the threads under -fsanitize=thread. If the package
 # unicode-data is installed, the sizes run with its property files, and the official files are laid out and judged too.
 # If the command is built (`rt run -- --help` in crates/bidi), the lines that state verdicts and the reports are
 # compared with what it prints. The script says what it leaves out because something isn't installed or built: without
 # gcc everything.
 #
-# usage: tools/c/run.sh [FOLDER]      (FOLDER, with the files of the Unicode database: /usr/share/unicode)
+# usage: c/run.sh [FOLDER]      (FOLDER, with the files of the Unicode database: /usr/share/unicode)
 #
 # build_library.sh makes the library with `rt lib`: in seconds if `rt check` or `rt lib` proved the crates on this
 # machine before, else by proving each crate below it. The script ends with 0 if all is right, with 1 if not, and with 2
@@ -17,9 +17,9 @@
 set -u
 here=$(cd "$(dirname "$0")" && pwd)
 folder=${1:-/usr/share/unicode}
-crate=$here/../../crates/bidi_c
+crate=$here/../crates/bidi_c
 library=$crate/out/libbidi_c.a
-command=$here/../../crates/bidi/out/bidi
+command=$here/../crates/bidi/out/bidi
 
 if ! command -v gcc > /dev/null; then
     echo "no gcc: the programs in C are not built"

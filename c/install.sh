@@ -2,10 +2,10 @@
 # Installs the header, the library, its shared object, its file for pkg-config, FriBidi's calls over the library and the
 # licences, so that `gcc program.c $(pkg-config --cflags --libs bidi_c)` builds a program.
 #
-# usage: tools/c/install.sh [--uninstall] [--libdir DIR] PREFIX     (with DESTDIR in the environment, below that folder)
+# usage: c/install.sh [--uninstall] [--libdir DIR] PREFIX     (with DESTDIR in the environment, below that folder)
 #
 # Build the library first, with `rt lib` in crates/bidi_c, and the shared objects, if you want them, with
-# tools/c/build_shared.sh and tools/fribidi/build.sh. One of another build of the library is not installed, and the
+# c/build_shared.sh and c/fribidi/build.sh. One of another build of the library is not installed, and the
 # script says so. The part that allocates, liblibc_c.a, comes from the kit's folder c. The command rt finds it; if rt
 # isn't on PATH, as under sudo, RATTLE_C in the environment names it. --libdir names the folder of libraries below
 # PREFIX, lib if not given. The script ends with 2, before it installs anything, if a file is missing or an argument is
@@ -13,10 +13,10 @@
 set -u
 here=$(cd "$(dirname "$0")" && pwd)
 # shellcheck source=tools/prefix.sh
-. "$here/../prefix.sh"
-read_words "usage: tools/c/install.sh [--uninstall] [--libdir DIR] PREFIX" "$@"
-version=$(cat "$here/../../VERSION") || exit 2
-out=$here/../../crates/bidi_c/out
+. "$here/../tools/prefix.sh"
+read_words "usage: c/install.sh [--uninstall] [--libdir DIR] PREFIX" "$@"
+version=$(cat "$here/../VERSION") || exit 2
+out=$here/../crates/bidi_c/out
 library=$out/libbidi_c.a
 shared=$out/libbidi_c.so.$version
 fribidi=$out/libfribidi_over_bidi.so
@@ -47,7 +47,7 @@ put 644 "$here/bidi.h" include/bidi.h &&
     put 644 "$library" "$libdir/libbidi_c.a" &&
     put 644 "$heap" "$libdir/libbidi_c_heap.a" &&
     put 644 "$work/bidi_c.pc" "$libdir/pkgconfig/bidi_c.pc" &&
-    put_licences "$here/../.." || exit 1
+    put_licences "$here/.." || exit 1
 
 # goes_on FILE SCRIPT: succeeds if a shared object is to be installed or removed. It belongs to the library whose sum
 # the script that builds it stored, whatever the times of the files are. If it isn't installed, this says why.
@@ -61,11 +61,11 @@ goes_on() {
         return 1
     fi
 }
-if goes_on "$shared" tools/c/build_shared.sh; then
+if goes_on "$shared" c/build_shared.sh; then
     put 755 "$shared" "$libdir/libbidi_c.so.$version" &&
         link "libbidi_c.so.$version" "$libdir/libbidi_c.so.${version%%.*}" &&
         link "libbidi_c.so.${version%%.*}" "$libdir/libbidi_c.so" || exit 1
 fi
-if goes_on "$fribidi" tools/fribidi/build.sh; then
+if goes_on "$fribidi" c/fribidi/build.sh; then
     put 755 "$fribidi" "$libdir/${fribidi##*/}" || exit 1
 fi

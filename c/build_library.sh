@@ -3,8 +3,8 @@
 # installed. It takes seconds if `rt check` or `rt lib` proved the crates on this machine before. Otherwise it proves
 # each crate below.
 #
-# usage: tools/c/build_library.sh      (its status is 0 if they are built)
+# usage: c/build_library.sh      (its status is 0 if they are built)
 set -eu
 cd "$(dirname "$0")"
-(cd ../../crates/bidi_c && rt lib)
+(cd ../crates/bidi_c && rt lib)
 if command -v gcc > /dev/null; then ./build_shared.sh; fi

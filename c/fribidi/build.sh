@@ -5,7 +5,7 @@
 # libfribidi_over_bidi.so.of beside it has the sum of the library. The script ends with 2 if gcc, FriBidi's headers or
 # the library is missing, and with 1 if gcc fails.
 #
-# usage: tools/fribidi/build.sh [FOLDER]
+# usage: c/fribidi/build.sh [FOLDER]
 #
 # Build the archive first, with `rt lib` in crates/bidi_c. LIBRARY names another archive, or a shared object, which
 # programs then need too; RATTLE_C names the kit's folder c if rt isn't on PATH, and FRIBIDI the folder of FriBidi's
@@ -26,7 +26,7 @@ done
 work=$(mktemp -d) || exit 2
 trap 'rm -r "$work"' EXIT
 echo '{ global: fribidi_*; local: *; };' > "$work/names.map"
-gcc -O3 -funroll-loops -march=x86-64-v2 -Wall -Wextra -fPIC -fvisibility=hidden -I"$headers" -I"$here/../c" -shared \
+gcc -O3 -funroll-loops -march=x86-64-v2 -Wall -Wextra -fPIC -fvisibility=hidden -I"$headers" -I"$here/.." -shared \
     -pthread -o "$work/shared" "$here/fribidi_over_bidi.c" "${linked[@]}" -Wl,-soname,libfribidi_over_bidi.so \
     -Wl,--version-script="$work/names.map" -Wl,-z,defs,-z,relro,-z,now,-z,noexecstack,-z,nodelete,--gc-sections || exit 1
 shared=${1:-$out}/libfribidi_over_bidi.so

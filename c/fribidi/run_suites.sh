@@ -5,7 +5,7 @@
 # with 1 if not, and with 2 if the shared object can't be built. It leaves out a package whose sources the system's
 # package source doesn't have, or that does not build here, and says so.
 #
-# usage: tools/fribidi/run_suites.sh [FOLDER]      (FOLDER, in which sources and logs stay: a temporary one)
+# usage: c/fribidi/run_suites.sh [FOLDER]      (FOLDER, in which sources and logs stay: a temporary one)
 #
 # It needs the Debian package dpkg-dev, lines `deb-src` in apt's sources, and what the two need to be built: a compiler,
 # make, or meson and ninja, and for raqm the packages libfreetype-dev and libharfbuzz-dev. Not part of the gate.

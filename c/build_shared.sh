@@ -4,15 +4,15 @@
 # with the symbol version LIBBIDI_C_ and that number. Beside it, libbidi_c.so.VERSION.of has the sum of that archive.
 # The script ends with 2 if a file is missing, and with 1 if the archive lacks a call of the header.
 #
-# usage: tools/c/build_shared.sh
+# usage: c/build_shared.sh
 #
 # Build the archive first, with `rt lib` in crates/bidi_c. RATTLE_C names the kit's folder c if rt isn't on PATH.
 set -u
 here=$(cd "$(dirname "$0")" && pwd)
-version=$(cat "$here/../../VERSION")
-library=$here/../../crates/bidi_c/out/libbidi_c.a
+version=$(cat "$here/../VERSION")
+library=$here/../crates/bidi_c/out/libbidi_c.a
 heap=${RATTLE_C:-$(dirname "$(readlink -f "$(command -v rt)")")/../c}/liblibc_c.a
-shared=$here/../../crates/bidi_c/out/libbidi_c.so.$version
+shared=$here/../crates/bidi_c/out/libbidi_c.so.$version
 for file in "$library" "$heap"; do
     [ -e "$file" ] || { echo "no $file" >&2; exit 2; }
 done
