@@ -666,15 +666,15 @@ fn next_remaining<L: Ledger>(para: &[Unit], start: usize, steps: &mut Steps<L>) 
     p
 }
 
-/// How many turns the pass may make near the start of a paragraph before it ends.
+/// How many turns the pass may make before it ends.
 #[derive(Clone, Copy)]
 pub enum TurnLimit {
-    /// One for twelve units: for texts that take few instructions in any case.
+    /// Near the start one for twelve units: for texts that take few instructions in any case.
     Strict,
-    /// One for eight units: for texts that take more.
+    /// Near the start one for eight units: for texts that take more.
     Lenient,
-    /// The same, but a turn after which the direction is another one counts as two, since it saves less than others. A
-    /// turn at a bracket makes up for one of these. For texts with letters of both directions.
+    /// The same, but in the whole paragraph a turn after which the direction is another one counts as two, since it
+    /// saves less than others. A turn at a bracket makes up for one of these. For texts with letters of both directions.
     Mixed,
 }
 
@@ -691,54 +691,53 @@ const LEAST_PASSED: usize = 3;
 /// The same in the first half of a paragraph. If the pass ends there, what it found may be lost.
 const LEAST_PASSED_AT_FIRST: usize = 6;
 
-/// How many turns the pass made, and after how many of them the last strong class is of the other direction, less those
-/// at brackets since.
+/// How many turns the pass made, and how many of them `TurnLimit::Mixed` counts twice.
 #[derive(Clone, Copy)]
 struct Turns {
     made: usize,
-    changes: usize,
+    twice: usize,
 }
 
 /// What is counted before the first turn.
 const NO_TURNS: Turns = Turns {
     made: 0,
-    changes: 0,
+    twice: 0,
 };
 
-/// Counts a turn at this unit, before and after which these are the last strong classes.
-fn counted(turns: Turns, unit: Unit, before: Class, after: Class) -> Turns
+/// Returns these turns with another one, at this unit, before and after which these are the last strong classes.
+fn with_turn(turns: Turns, unit: Unit, before: Class, after: Class) -> Turns
     requires made { turns.made < 2 ^ 32 }
-    requires changes { turns.changes < 2 ^ 32 }
+    requires twice { turns.twice < 2 ^ 32 }
     ensures made { result.made ≡ turns.made + 1 }
-    ensures changes { result.changes ≤ turns.changes + 1 }
+    ensures twice { result.twice ≤ turns.twice + 1 }
 {
-    let changes = if !is_bare(unit.bracket) {
-        turns.changes.saturating_sub(1)
+    let twice = if !is_bare(unit.bracket) {
+        turns.twice.saturating_sub(1)
     } else if matches!(before, Class::L) != matches!(after, Class::L) {
-        turns.changes + 1
+        turns.twice + 1
     } else {
-        turns.changes
+        turns.twice
     };
     Turns {
         made: turns.made + 1,
-        changes,
+        twice,
     }
 }
 
-/// How many turns the pass may still make before it asks again, the position at which it asked last, and how many
-/// changes of the direction were counted then.
+/// How many turns the pass may still make before it asks again, the position at which it asked last, and how many turns
+/// counted twice then.
 #[derive(Clone, Copy)]
 struct Granted {
     remaining: usize,
     asked: usize,
-    changes: usize,
+    twice: usize,
 }
 
 /// What is granted before the pass asks.
 const UNASKED: Granted = Granted {
     remaining: 0,
     asked: 0,
-    changes: 0,
+    twice: 0,
 };
 
 /// Returns how many turns the pass may have made at this position near the start.
@@ -751,12 +750,12 @@ fn most_turns(limit: TurnLimit, p: usize) -> usize
     }
 }
 
-/// Returns how many turns so many changes of the direction count besides.
-fn more_for(limit: TurnLimit, changes: usize) -> usize
-    ensures { result ≤ changes }
+/// Returns how many more turns count if so many may count twice.
+fn counted_again(limit: TurnLimit, twice: usize) -> usize
+    ensures { result ≤ twice }
 {
     match limit {
-        TurnLimit::Mixed => changes,
+        TurnLimit::Mixed => twice,
         _ => 0,
     }
 }
@@ -766,14 +765,14 @@ fn more_for(limit: TurnLimit, changes: usize) -> usize
 fn more_turns(limit: TurnLimit, granted: Granted, p: usize, n: usize, turns: Turns) -> usize
     requires asked { granted.asked ≤ p }
     requires made { turns.made ≤ p }
-    requires changes { turns.changes ≤ p }
+    requires twice { turns.twice ≤ p }
     requires short { p < 2 ^ 32 }
 {
     if p < EARLY {
-        let counted = turns.made + more_for(limit, turns.changes);
+        let counted = turns.made + counted_again(limit, turns.twice);
         return (most_turns(limit, p) + 1).saturating_sub(counted);
     }
-    let counted = WINDOW + more_for(limit, turns.changes.saturating_sub(granted.changes));
+    let counted = WINDOW + counted_again(limit, turns.twice.saturating_sub(granted.twice));
     let least = if p < n / 2 {
         LEAST_PASSED_AT_FIRST * counted
     } else {
@@ -797,7 +796,7 @@ fn granted_or_more(
 ) -> Granted
     requires asked { granted.asked ≤ p }
     requires made { turns.made ≤ p }
-    requires changes { turns.changes ≤ p }
+    requires twice { turns.twice ≤ p }
     requires short { p < 2 ^ 32 }
     ensures within { granted.remaining ≤ room → result.remaining ≤ room }
     ensures asked { result.asked ≤ p }
@@ -808,7 +807,7 @@ fn granted_or_more(
     Granted {
         remaining: room.min(more_turns(limit, granted, p, n, turns)),
         asked: p,
-        changes: turns.changes,
+        twice: turns.twice,
     }
 }
 
@@ -823,9 +822,8 @@ pub struct Few {
 }
 
 /// Chooses the few units that are to be resolved in place of this paragraph, in a sequence of this direction, and the
-/// position at which each begins. Ends before the paragraph does if there is no room for more, if the pass makes more
-/// turns than `limit` says near the start, or if turns become so frequent that it saves nothing. Each position up to
-/// that end is a step.
+/// position at which each begins. Ends before the paragraph does if there is no room for more, or if the pass makes more
+/// turns than `limit` says. Each position up to that end is a step.
 #[inline(never)]
 pub fn squeeze<L: Ledger>(
     para: &[Unit],
@@ -855,7 +853,7 @@ pub fn squeeze<L: Ledger>(
         steps.tick();
         let known = Known { direction, strong };
         let now = turn(known, chosen, starts, m, para, p, steps);
-        turns = counted(turns, para[p], strong, now.strong);
+        turns = with_turn(turns, para[p], strong, now.strong);
         m = now.m;
         strong = now.strong;
         p = pass_on(direction, chosen[m - 1], para, now.end, steps);

@@ -41,7 +41,8 @@ fn may_save(contents: Contents, n: usize) -> bool {
     n >= LEAST && (n >= LEAST_REMAINING || !contents.all_remain())
 }
 
-/// Returns how long the search for few units goes on near the start: longer in paragraphs that take more without it.
+/// Returns how many turns the search for few units may make: more near the start in paragraphs that take more without
+/// it, and fewer if the direction changes often.
 fn limit_for(contents: Contents) -> TurnLimit {
     if !contents.all_remain() {
         TurnLimit::Lenient

@@ -103,7 +103,7 @@ impl Room {
     /// Makes a room for texts of up to `n` units, at most 16,777,216, with the layout of an empty text. If `encodes`,
     /// it has offsets, and texts may be in code units.
     ///
-    /// It takes 87 bytes for each unit, and 115 with offsets. Fails with `TooBig` if and only if `n` is greater than
+    /// It takes 98 bytes for each unit, and 126 with offsets. Fails with `TooBig` if and only if `n` is greater than
     /// 16,777,216, else with `Memory` if there is not enough.
     pub fn with_room(alloc: Global, n: usize, encodes: bool) -> Result<Room, RoomFault>
         ensures made { IfOk result (λ room. room ≡ new_room n encodes) }
@@ -120,13 +120,13 @@ impl Room {
         requires { n ≤ longest_text }
         ensures { IfOk result (λ room. room ≡ new_room n encodes) }
     {
-        let few = items_if(encodes, n);
+        let encoded = items_if(encodes, n);
         let offsets = items_if(encodes, n + 1);
         let units = unit_column(alloc, n)?;
-        let spare_units = unit_column(alloc, few)?;
+        let spare_units = unit_column(alloc, encoded)?;
         let starts = offset_column(alloc, offsets)?;
         let spare = offset_column(alloc, offsets)?;
-        let indices = Vec::from_elem(alloc, 0, few)?.into_boxed_slice();
+        let indices = Vec::from_elem(alloc, 0, encoded)?.into_boxed_slice();
         let mut scratch = Scratch::reserve(alloc, n).map_err(|_| AllocError)?;
         lay_out_empty(&mut scratch);
         Ok(Room {

@@ -26,7 +26,7 @@ loop-p-init g c =
       starts_fit = omega arith;
       asked = omega arith;
       turned = omega arith;
-      changed = omega arith;
+      twice = omega arith;
       strong = refl;
       unchanged = record { units = refl; positions = refl };
       counted = omega arith;
@@ -71,8 +71,8 @@ loop-p-preserved g c =
       fits = omega (arith, after.more, within, c.loop-p.invariant.fits, c.min-room.ensures, c.if-granted-eq0.false);
       starts_fit = omega (arith, after.more, within, c.loop-p.invariant.starts_fit, c.min-room.ensures, c.if-granted-eq0.false);
       asked = omega (arith, more.asked, after.later, passing.from_start);
-      turned = omega (arith, c.loop-p.invariant.turned, c.counted-turns.ensures.made, after.later, passing.from_start);
-      changed = omega (arith, c.loop-p.invariant.changed, c.counted-turns.ensures.changes, after.later, passing.from_start);
+      turned = omega (arith, c.loop-p.invariant.turned, c.with_turn-turns.ensures.made, after.later, passing.from_start);
+      twice = omega (arith, c.loop-p.invariant.twice, c.with_turn-turns.ensures.twice, after.later, passing.from_start);
       strong = after.strong
           ∙ sym (next_alike d old (at us p) (class_after us p) c.loop-p.strong c.loop-p.invariant.strong)
           ∙ ap (λ (s : BidiClass). if is_strong (next_for d old (at us p) (class_after us p)).class then (next_for d old (at us p) (class_after us p)).class else s)

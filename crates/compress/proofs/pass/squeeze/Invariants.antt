@@ -13,7 +13,7 @@ invariant-loop-p g l = record {
   starts_fit : l.m + l.granted.remaining ≤ length l.starts;
   asked : l.granted.asked ≤ l.p;
   turned : l.turns.made ≤ l.p;
-  changed : l.turns.changes ≤ l.p;
+  twice : l.turns.twice ≤ l.p;
   strong : l.strong ≡ (known_after l.direction (stack_of l.para l.chosen l.starts l.m l.p)).strong;
   unchanged : AreUnchangedFrom l.p l.initial.chosen l.initial.starts l.chosen l.starts;
   counted : l.initial.steps ≤ l.steps;

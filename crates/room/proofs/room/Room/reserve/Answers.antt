@@ -23,7 +23,7 @@ invariant_of-result c =
           c.lay_out_empty.new.scratch) (sym none) c.lay_out_empty.ensures.holds);
       in_order = c.lay_out_empty.ensures.in_order;
       columns = λ is.
-          let few : c.items_if-few.result ≡ c.args.n = c.items_if-few.ensures ∙
+          let few : c.items_if-encoded.result ≡ c.args.n = c.items_if-encoded.ensures ∙
           ap (λ (b : Bool). if b then c.args.n else 0) is in
           let offsets : c.items_if-offsets.result ≡ c.args.n + 1 = c.items_if-offsets.ensures ∙
           ap (λ (b : Bool). if b then c.args.n + 1 else 0) is in
@@ -36,7 +36,7 @@ invariant_of-result c =
                 c.in_ok-from_elem.ensures.len ∙ few ∙ sym room;
           };
       no_columns = λ is.
-          let few : c.items_if-few.result ≡ 0 = c.items_if-few.ensures ∙
+          let few : c.items_if-encoded.result ≡ 0 = c.items_if-encoded.ensures ∙
           ap (λ (b : Bool). if b then c.args.n else 0) is in
           let offsets : c.items_if-offsets.result ≡ 0 = c.items_if-offsets.ensures ∙
           ap (λ (b : Bool). if b then c.args.n + 1 else 0) is in
