@@ -2,12 +2,12 @@
 # Builds the library that C links and the programs of this folder, and runs them. Compared with their stored output are
 # the demo, the examples of the manual, a typesetter, a terminal, every call, those for engines with their own front,
 # each refused allocation, threads that share tables, and reports. Then come the greatest sizes (in some 2.1 GB of
-# memory), a C++ program, and a program built as c/install.sh installs the library. All but the sizes run again
-# under -fsanitize=address,undefined and under valgrind, and the threads under -fsanitize=thread. If the package
-# unicode-data is installed, the sizes run with its property files, and the official files are laid out and judged too.
-# If the command is built (`rt run -- --help` in crates/bidi), the lines that state verdicts and the reports are
-# compared with what it prints. The script says what it leaves out because something isn't installed or built: without
-# gcc everything.
+# memory) and a C++ program. All but the sizes run again under -fsanitize=address,undefined and under valgrind, and the
+# threads under -fsanitize=thread. If the package unicode-data is installed, the sizes run with its property files, and
+# the official files are laid out and judged too. If the command is built (`rt run -- --help` in crates/bidi), the lines
+# that state verdicts and the reports are compared with what it prints. The script says what it leaves out because
+# something isn't installed or built: without gcc everything. tools/check_install.sh builds programs over what
+# c/install.sh installs.
 #
 # usage: c/run.sh [FOLDER]      (FOLDER, with the files of the Unicode database: /usr/share/unicode)
 #
@@ -25,8 +25,7 @@ if ! command -v gcc > /dev/null; then
     echo "no gcc: the programs in C are not built"
     exit 0
 fi
-kit=${RATTLE_C:-$(dirname "$(readlink -f "$(command -v rt)")")/../c}
-heap=$kit/liblibc_c.a
+heap=${RATTLE_C:-$(dirname "$(readlink -f "$(command -v rt)")")/../c}/liblibc_c.a
 work=$(mktemp -d) || exit 2
 trap 'rm -r "$work"' EXIT
 if ! "$here/build_library.sh" > "$work/lib" 2>&1 || [ ! -e "$library" ] || [ ! -e "$heap" ]; then
@@ -158,17 +157,6 @@ if command -v g++ > /dev/null; then
     expect "C++ header" "$here/header.out" "$work/header"
 else
     echo "no g++: the C++ program is not built"
-fi
-if command -v pkg-config > /dev/null; then
-    RATTLE_C=$kit "$here/install.sh" "$work/installed"
-    # shellcheck disable=SC2046
-    gcc -O2 -o "$work/installed_demo" "$here/demo.c" \
-        $(PKG_CONFIG_PATH=$work/installed/lib/pkgconfig pkg-config --cflags --libs bidi_c) 2> "$work/errors" ||
-        fails "gcc installed"
-    LD_LIBRARY_PATH=$work/installed/lib expect "installed demo" "$here/demo.out" "$work/installed_demo" "$here/ucd" 20 \
-        < "$here/demo.txt"
-else
-    echo "no pkg-config: no program is built over the installed library"
 fi
 if command -v valgrind > /dev/null; then
     all valgrind valgrind -q --leak-check=full --error-exitcode=9
