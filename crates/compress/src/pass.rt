@@ -666,149 +666,63 @@ fn next_remaining<L: Ledger>(para: &[Unit], start: usize, steps: &mut Steps<L>) 
     p
 }
 
-/// How many turns the pass may make before it ends.
+/// How many units a turn of the pass must pass on average: if it passes fewer, resolving them takes less than the pass.
 #[derive(Clone, Copy)]
 pub enum TurnLimit {
-    /// Near the start one for twelve units: for texts that take few instructions in any case.
+    /// Ten: for paragraphs from which X9 removes nothing, which take fewer instructions without the pass.
     Strict,
-    /// Near the start one for eight units: for texts that take more.
+    /// Seven: for paragraphs from which X9 removes some units.
     Lenient,
-    /// The same, but in the whole paragraph a turn after which the direction is another one counts as two, since it
-    /// saves less than others. A turn at a bracket makes up for one of these. For texts with letters of both directions.
-    Mixed,
 }
 
-/// Before this position few turns are allowed, so that the pass ends early if directions change often.
-const EARLY: usize = 256;
+/// How many units a turn must pass after the first bracket, since BD16 and N0 then take more for each unit.
+const LEAST_WITH_BRACKETS: usize = 4;
 
-/// How many turns after `EARLY` the pass makes before it asks again.
-const WINDOW: usize = 24;
-
-/// How many units a turn passes at least, on average since the pass asked last. In a text with more turns, the pass
-/// saves nothing.
-const LEAST_PASSED: usize = 3;
-
-/// The same in the first half of a paragraph. If the pass ends there, what it found may be lost.
-const LEAST_PASSED_AT_FIRST: usize = 6;
-
-/// How many turns the pass made, and how many of them `TurnLimit::Mixed` counts twice.
-#[derive(Clone, Copy)]
-struct Turns {
-    made: usize,
-    twice: usize,
-}
-
-/// What is counted before the first turn.
-const NO_TURNS: Turns = Turns {
-    made: 0,
-    twice: 0,
-};
-
-/// Returns these turns with another one, at this unit, before and after which these are the last strong classes.
-fn with_turn(turns: Turns, unit: Unit, before: Class, after: Class) -> Turns
-    requires made { turns.made < 2 ^ 32 }
-    requires twice { turns.twice < 2 ^ 32 }
-    ensures made { result.made ≡ turns.made + 1 }
-    ensures twice { result.twice ≤ turns.twice + 1 }
-{
-    let twice = if !is_bare(unit.bracket) {
-        turns.twice.saturating_sub(1)
-    } else if matches!(before, Class::L) != matches!(after, Class::L) {
-        turns.twice + 1
-    } else {
-        turns.twice
-    };
-    Turns {
-        made: turns.made + 1,
-        twice,
-    }
-}
-
-/// How many turns the pass may still make before it asks again, the position at which it asked last, and how many turns
-/// counted twice then.
-#[derive(Clone, Copy)]
-struct Granted {
-    remaining: usize,
-    asked: usize,
-    twice: usize,
-}
-
-/// What is granted before the pass asks.
-const UNASKED: Granted = Granted {
-    remaining: 0,
-    asked: 0,
-    twice: 0,
-};
-
-/// Returns how many turns the pass may have made at this position near the start.
-fn most_turns(limit: TurnLimit, p: usize) -> usize
-    ensures { result ≤ p + 3 }
+/// Returns how many units a turn must pass before the first bracket.
+fn least_passed(limit: TurnLimit) -> usize
+    ensures { result ≤ 10 }
 {
     match limit {
-        TurnLimit::Strict => p / 12 + 2,
-        TurnLimit::Lenient | TurnLimit::Mixed => p / 8 + 3,
+        TurnLimit::Strict => 10,
+        TurnLimit::Lenient => 7,
     }
 }
 
-/// Returns how many more turns count if so many may count twice.
-fn counted_again(limit: TurnLimit, twice: usize) -> usize
-    ensures { result ≤ twice }
+/// Returns how many units a turn must pass after a turn at this unit; before it, it was `least`.
+fn least_after(least: usize, unit: Unit) -> usize
+    requires { least ≤ 10 }
+    ensures { result ≤ 10 }
 {
-    match limit {
-        TurnLimit::Mixed => twice,
-        _ => 0,
-    }
-}
-
-/// Returns how many turns the pass may make from the position `p` on in a paragraph of `n` units, after these turns,
-/// before it asks again: none if there were too many, near the start or since it asked last.
-fn more_turns(limit: TurnLimit, granted: Granted, p: usize, n: usize, turns: Turns) -> usize
-    requires asked { granted.asked ≤ p }
-    requires made { turns.made ≤ p }
-    requires twice { turns.twice ≤ p }
-    requires short { p < 2 ^ 32 }
-{
-    if p < EARLY {
-        let counted = turns.made + counted_again(limit, turns.twice);
-        return (most_turns(limit, p) + 1).saturating_sub(counted);
-    }
-    let counted = WINDOW + counted_again(limit, turns.twice.saturating_sub(granted.twice));
-    let least = if p < n / 2 {
-        LEAST_PASSED_AT_FIRST * counted
+    if is_bare(unit.bracket) {
+        least
     } else {
-        LEAST_PASSED * counted
-    };
-    if granted.asked >= EARLY && p - granted.asked < least {
-        return 0;
+        LEAST_WITH_BRACKETS
     }
-    WINDOW
 }
 
-/// Returns what is granted at the position `p` in a paragraph of `n` units: what remains, or more if no turn does. Not
-/// more than `room` units can be chosen.
-fn granted_or_more(
-    granted: Granted,
-    limit: TurnLimit,
-    p: usize,
-    n: usize,
-    turns: Turns,
-    room: usize,
-) -> Granted
-    requires asked { granted.asked ≤ p }
-    requires made { turns.made ≤ p }
-    requires twice { turns.twice ≤ p }
-    requires short { p < 2 ^ 32 }
-    ensures within { granted.remaining ≤ room → result.remaining ≤ room }
-    ensures asked { result.asked ≤ p }
+/// Returns how many units the turns before the next one may have passed too few, in a paragraph of `n` units.
+fn most_missing(n: usize) -> usize
+    ensures { result ≤ n + 128 }
 {
-    if granted.remaining > 0 {
-        return granted;
-    }
-    Granted {
-        remaining: room.min(more_turns(limit, granted, p, n, turns)),
-        asked: p,
-        twice: turns.twice,
-    }
+    n / 64 + (n / 10).min(112)
+}
+
+/// Returns the position to which the turns must have come before the first one. It is after the start, so that the first
+/// turns may pass only some `n / 64` units too few: what they find is lost if the pass ends.
+fn first_due(n: usize) -> usize
+    ensures { result ≤ 128 }
+{
+    (n / 10).min(112).saturating_sub(8)
+}
+
+/// Returns whether the pass makes another turn at the position `p` of a paragraph of `n` units, after `m` units were
+/// chosen, if there is room for `room` of them: whether it came near enough to the position `due`.
+fn goes_on(p: usize, n: usize, m: usize, room: usize, due: usize, most: usize) -> bool
+    ensures within { result ≡ true → p < n }
+    ensures fits { result ≡ true → m < room }
+    ensures due { result ≡ true → due ≤ p + most }
+{
+    p < n && m < room && due.saturating_sub(most) <= p
 }
 
 /// The few units that are resolved in place of a paragraph: how many of them were chosen, and the position up to which
@@ -822,8 +736,8 @@ pub struct Few {
 }
 
 /// Chooses the few units that are to be resolved in place of this paragraph, in a sequence of this direction, and the
-/// position at which each begins. Ends before the paragraph does if there is no room for more, or if the pass makes more
-/// turns than `limit` says. Each position up to that end is a step.
+/// position at which each begins. Ends before the paragraph does if there is no room for more, or if its turns pass too
+/// few units (`limit`). Each position up to that end is a step.
 #[inline(never)]
 pub fn squeeze<L: Ledger>(
     para: &[Unit],
@@ -839,29 +753,32 @@ pub fn squeeze<L: Ledger>(
     ensures unchanged { AreUnchangedFrom result.end chosen.old starts.old chosen.new starts.new }
 {
     let room = chosen.len().min(starts.len());
-    let mut granted = UNASKED;
+    let most = most_missing(para.len());
+    let mut due = first_due(para.len());
+    let mut least = least_passed(limit);
     let mut m = 0;
-    let mut turns = NO_TURNS;
     let mut strong = direction;
     let mut p = next_remaining(para, 0, steps);
-    while p < para.len() {
-        granted = granted_or_more(granted, limit, p, para.len(), turns, room - m);
-        if granted.remaining == 0 {
-            return Few { chosen: m, end: p };
-        }
-        granted.remaining -= 1;
+    while goes_on(p, para.len(), m, room, due, most) {
         steps.tick();
+        // Units that earlier turns passed beyond what they had to don't count for later ones.
+        due = due.max(p) + least;
         let known = Known { direction, strong };
         let now = turn(known, chosen, starts, m, para, p, steps);
-        turns = with_turn(turns, para[p], strong, now.strong);
         m = now.m;
         strong = now.strong;
-        p = pass_on(direction, chosen[m - 1], para, now.end, steps);
+        let top = chosen[m - 1];
+        least = least_after(least, top);
+        p = pass_on(direction, top, para, now.end, steps);
     }
     Few { chosen: m, end: p }
 }
 
+/// How many units one copy moves.
+const FOUR: usize = 4;
+
 /// Copies the four units from `p` on to the positions from `m + p` on.
+// A copy of constant length is three moves of 16 bytes. Unit by unit it takes 16 moves.
 fn copy_four(chosen: &mut [Unit], m: usize, rest: &[Unit], p: usize)
     requires from { p + 4 ≤ length rest.now }
     requires to { m + length rest.now ≤ length chosen.old }
@@ -870,19 +787,16 @@ fn copy_four(chosen: &mut [Unit], m: usize, rest: &[Unit], p: usize)
     ensures after { drop (m + length rest.now) chosen.new ≡ drop (m + length rest.now) chosen.old }
 {
     let q = m + p;
-    chosen[q] = rest[p];
-    chosen[q + 1] = rest[p + 1];
-    chosen[q + 2] = rest[p + 2];
-    chosen[q + 3] = rest[p + 3];
+    chosen[q..q + FOUR].copy_from_slice(&rest[p..p + FOUR]);
 }
 
-/// How many units are copied together.
-const COPIED: usize = 4;
+/// How many units a turn of the loop copies.
+const COPIED: usize = 2 * FOUR;
 
-/// Copies these units to the positions from `m` on, four at a time as long as there are four, with a step for each.
+/// Copies these units to the positions from `m` on, eight at a time as long as there are eight, with a step for each.
 /// Returns how many are copied.
-// Units are copied by hand: `copy_from_slice` takes some four instructions more for each.
-fn copy_fours<L: Ledger>(
+// With one copy a turn, the compiler makes the loop one call of `memcpy`, whose turns valgrind counts byte by byte.
+fn copy_eights<L: Ledger>(
     chosen: &mut [Unit],
     m: usize,
     rest: &[Unit],
@@ -898,6 +812,7 @@ fn copy_fours<L: Ledger>(
     while rest.len() - p >= COPIED {
         steps.add(COPIED);
         copy_four(chosen, m, rest, p);
+        copy_four(chosen, m, rest, p + FOUR);
         p += COPIED;
     }
     p
@@ -910,7 +825,7 @@ fn copy_units<L: Ledger>(chosen: &mut [Unit], m: usize, rest: &[Unit], steps: &m
     ensures after { drop (m + length rest.now) chosen.new ≡ drop (m + length rest.now) chosen.old }
     ensures steps { steps.new ≡ steps.old + length rest.now }
 {
-    let start = copy_fours(chosen, m, rest, steps);
+    let start = copy_eights(chosen, m, rest, steps);
     for p in start..rest.len() {
         steps.tick();
         chosen[m + p] = rest[p];

@@ -41,15 +41,12 @@ fn may_save(contents: Contents, n: usize) -> bool {
     n >= LEAST && (n >= LEAST_REMAINING || !contents.all_remain())
 }
 
-/// Returns how many turns the search for few units may make: more near the start in paragraphs that take more without
-/// it, and fewer if the direction changes often.
+/// Returns how long the search for few units goes on: longer in paragraphs that take more without it.
 fn limit_for(contents: Contents) -> TurnLimit {
-    if !contents.all_remain() {
-        TurnLimit::Lenient
-    } else if contents.is_mixed() {
-        TurnLimit::Mixed
-    } else {
+    if contents.all_remain() {
         TurnLimit::Strict
+    } else {
+        TurnLimit::Lenient
     }
 }
 
@@ -93,13 +90,15 @@ fn resolve_flat<L: Ledger>(
     resolve_sequences(para, found, work, levels, steps);
 }
 
-/// Returns whether so many fewer units are resolved that it takes less time, although the others are copied.
+/// Returns whether so many fewer units are resolved that it takes less time, although the others are copied: a chosen
+/// unit takes what three others take, and to resolve a unit takes six times what it takes to copy it.
 fn saves(few: Few, n: usize) -> bool
     requires { few.chosen ≤ few.end }
     ensures half { result ≡ true → few.chosen + few.chosen ≤ few.end }
 {
     let others = few.end - few.chosen;
-    others >= n / 4 && others >= few.chosen
+    let saved = others.saturating_sub(2 * few.chosen);
+    saved >= n / 6 && others >= few.chosen
 }
 
 /// Applies X1 to I2 to a flat paragraph of this level by few of its units: resolves these as a paragraph of their own,
