@@ -75,17 +75,21 @@ no_separator us k j within below none =
     list_any_at (is_class B) (classes_of (take k us)) j L (omega (arith, long, length-classes_of (take k us)))
     (ap (is_class B) read ∙ separator_is_b _ separates)))
 
--- if none of four units more is a separator, the first paragraph continues after them
-pub goes_on_four : (us : List BidiUnit) (k : ℕ) → k + 4 ≤ length us →
-    list_any (is_class B) (classes_of (take (k + 4) us)) ≡ false → first_length us ≡ k + first_length (drop k us) →
-    first_length us ≡ (k + 4) + first_length (drop (k + 4) us)
-goes_on_four us k within none e =
-    let plain : (j : ℕ) → j < k + 4 → is_separator (get_or us j no_unit).class ≡ false =
-    λ j below. no_separator us (k + 4) j within below none in
-    let one = goes_on_to us k (k + 1) refl (omega arith) (plain k (omega arith)) e in
-    let two = goes_on_to us (k + 1) (k + 2) (omega arith) (omega arith) (plain (k + 1) (omega arith)) one in
-    let three = goes_on_to us (k + 2) (k + 3) (omega arith) (omega arith) (plain (k + 2) (omega arith)) two in
-    goes_on_to us (k + 3) (k + 4) (omega arith) (omega arith) (plain (k + 3) (omega arith)) three
+goes_on_by : (us : List BidiUnit) (k n : ℕ) → k + n ≤ length us →
+    ((j : ℕ) → j < k + n → is_separator (get_or us j no_unit).class ≡ false) →
+    first_length us ≡ k + first_length (drop k us) → first_length us ≡ (k + n) + first_length (drop (k + n) us)
+goes_on_by us k zero within plain e =
+    subst (λ (i : ℕ). first_length us ≡ i + first_length (drop i us)) {x = k} {y = k + 0} (omega arith) e
+goes_on_by us k (suc n) within plain e =
+    goes_on_to us (k + n) (k + suc n) (omega arith) (omega (arith, within)) (plain (k + n) (omega arith))
+    (goes_on_by us k n (omega (arith, within)) (λ j below. plain j (omega (arith, below))) e)
+
+-- if none of eight units more is a separator, the first paragraph continues after them
+pub goes_on_eight : (us : List BidiUnit) (k : ℕ) → k + 8 ≤ length us →
+    list_any (is_class B) (classes_of (take (k + 8) us)) ≡ false → first_length us ≡ k + first_length (drop k us) →
+    first_length us ≡ (k + 8) + first_length (drop (k + 8) us)
+goes_on_eight us k within none e =
+    goes_on_by us k 8 within (λ j below. no_separator us (k + 8) j within below none) e
 
 -- the set of the classes of a front, with those of one unit more
 pub set_more : (set : ClassSet) (us : List BidiUnit) (k next : ℕ) → next ≡ k + 1 → k < length us →

@@ -209,24 +209,24 @@ fn with_four(before: ClassSet, text: &[Unit], p: usize) -> ClassSet
 }
 
 /// How many units the search for the end of a paragraph passes together.
-const BLOCK: usize = 4;
+const BLOCK: usize = 8;
 
-/// Returns the classes of the units before `p`, and of the four from `p` on. Returns `None` if there are not four, or
+/// Returns the classes of the units before `p`, and of the eight from `p` on. Returns `None` if there are not eight, or
 /// if one of these classes is a separator.
 fn pass_block(before: ClassSet, text: &[Unit], p: usize) -> Option<ClassSet>
     requires within { p ≤ length text.now }
     requires before { IsSetOf before (classes_of (take p text.now)) }
-    ensures four { IfSome result (λ _. p + 4 ≤ length text.now) }
-    ensures classes { IfSome result (λ classes. IsSetOf classes (classes_of (take (p + 4) text.now))) }
+    ensures eight { IfSome result (λ _. p + 8 ≤ length text.now) }
+    ensures classes { IfSome result (λ classes. IsSetOf classes (classes_of (take (p + 8) text.now))) }
     ensures passed { IfSome result
-        (λ _. list_any (is_class BidiClass.B) (classes_of (take (p + 4) text.now)) ≡ false) }
-    ensures none { IsNone result → p + 4 ≤ length text.now
-        → list_any (is_class BidiClass.B) (classes_of (take (p + 4) text.now)) ≡ true }
+        (λ _. list_any (is_class BidiClass.B) (classes_of (take (p + 8) text.now)) ≡ false) }
+    ensures none { IsNone result → p + 8 ≤ length text.now
+        → list_any (is_class BidiClass.B) (classes_of (take (p + 8) text.now)) ≡ true }
 {
     if text.len() - p < BLOCK {
         return None;
     }
-    let classes = with_four(before, text, p);
+    let classes = with_four(with_four(before, text, p), text, p + 4);
     if classes.has(Class::B) {
         None
     } else {
@@ -234,8 +234,8 @@ fn pass_block(before: ClassSet, text: &[Unit], p: usize) -> Option<ClassSet>
     }
 }
 
-/// Passes units from `start` on, four at a time, as long as none of the next four is a separator. Each unit is a step.
-fn pass_fours<L: Ledger>(
+/// Passes units from `start` on, eight at a time, as long as none of the next eight is a separator. Each unit is a step.
+fn pass_eights<L: Ledger>(
     text: &[Unit],
     start: usize,
     before: ClassSet,
@@ -257,8 +257,8 @@ fn pass_fours<L: Ledger>(
 }
 
 /// P1: Returns the first paragraph of a text that was scanned up to `start`: `before` are the classes of the units
-/// before `start`, and `strong` is the first strong one of them (P2). Each unit from `start` on is a step. Passes four
-/// units at a time up to the first four that have a separator. Never inlined, so that short paragraphs don't pay for
+/// before `start`, and `strong` is the first strong one of them (P2). Each unit from `start` on is a step. Passes eight
+/// units at a time up to the first eight that have a separator. Never inlined, so that short paragraphs don't pay for
 /// it.
 #[inline(never)]
 fn scan_far<L: Ledger>(
@@ -276,7 +276,7 @@ fn scan_far<L: Ledger>(
     ensures steps { steps.new + start ≡ steps.old + result.length }
 {
     let side = Side::Unknown.noting(strong);
-    let front = pass_fours(text, start, before, steps);
+    let front = pass_eights(text, start, before, steps);
     let mut classes = front.classes;
     for p in front.length..text.len() {
         steps.tick();

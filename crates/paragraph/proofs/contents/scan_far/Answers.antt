@@ -6,10 +6,10 @@ use Rattle.paragraph.proofs.contents.scan_far.Goals as goal
 
 pub loop-p-init : goal.loop-p-init
 loop-p-init g c =
-    let front = c.pass_fours-front.ensures in
+    let front = c.pass_eights-front.ensures in
     record {
       front = front.front;
-      strong = first_strong_stays_later c.args.text.now c.args.start c.pass_fours-front.result.length front.later
+      strong = first_strong_stays_later c.args.text.now c.args.start c.pass_eights-front.result.length front.later
           front.front.within c.args.strong c.requires.strong;
       steps = front.steps;
     }

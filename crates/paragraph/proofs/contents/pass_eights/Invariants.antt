@@ -1,6 +1,6 @@
 use Rattle.std.proofs.Common.{◌≡◌, ◌+◌, ◌-◌, ◌≤◌, length}
 use Rattle.paragraph.specs.Contents.{IsFront}
-use Rattle.paragraph.proofs.contents.pass_fours.Given as goal
+use Rattle.paragraph.proofs.contents.pass_eights.Given as goal
 
 abbrev pub invariant-loop-more : goal.invariant-loop-more
 invariant-loop-more g l = record {
