@@ -97,7 +97,7 @@ fn saves(few: Few, n: usize) -> bool
     ensures half { result ≡ true → few.chosen + few.chosen ≤ few.end }
 {
     let others = few.end - few.chosen;
-    let saved = others.saturating_sub(2 * few.chosen);
+    let saved = others.saturating_sub(few.chosen).saturating_sub(few.chosen);
     saved >= n / 6 && others >= few.chosen
 }
 
