@@ -2,10 +2,9 @@
 # Refuses each growth of memory in turn, in the tests that are made for it and in the program: the first one, the
 # second, .. until a run has no such growth. Each test must pass each time: it expects the usual result or a `Memory`
 # error, and no other. The program must end as usual, or print `bidi: out of memory` and end with 3. It prints, for each
-# crate that takes memory, how many growths were refused, and ends with 0 if all passed.
+# library that takes memory and for the program, how many growths were refused, and ends with 0 if all passed.
 #
-# usage: tools/refused_growths.sh [CRATE ..]    (of table_tests, file_tests, engine_tests, layout_tests, text_tests,
-#        command_tests, bidi; with none all of them)
+# usage: tools/refused_growths.sh [CRATE ..]    (of library_tests, command_tests, bidi; with none all of them)
 #
 # It runs what `rt ci` built, or `rt test` and `rt run` in a crate's folder, and takes two minutes. It needs a C
 # compiler (CC, else cc), and ends with 2 if that or a program is missing.
@@ -126,23 +125,19 @@ program_of_bidi() {
     echo "bidi: $growths growths refused, each in turn: the program, over files of the system"
 }
 
-for crate in ${*:-table_tests file_tests engine_tests layout_tests text_tests command_tests bidi}; do
+for crate in ${*:-library_tests command_tests bidi}; do
     case $crate in
-        table_tests)
-            tests_of table_tests 'the three readers of tables, and a source that had failed' \
-                table_faults::says_that_memory_was_refused table_faults::a_source_that_had_failed ;;
-        file_tests)
-            tests_of file_tests 'both kinds of judge, and files judged after it' \
-                judging::no_growth_comes_after_making characters_rows::no_growth_comes_after_making ;;
-        engine_tests)
-            tests_of engine_tests \
+        library_tests)
+            tests_of library_tests 'the three readers of tables, and a source that had failed' \
+                table_faults::says_that_memory_was_refused table_faults::a_source_that_had_failed
+            tests_of library_tests 'both kinds of judge, and files judged after it' \
+                judging::no_growth_comes_after_making characters_rows::no_growth_comes_after_making
+            tests_of library_tests \
                 'IsolateMap and Explicit of explicit, Sequences of sequences, Pairs of resolve, Resolver' \
-                rooms::says_that_memory_was_refused ;;
-        layout_tests)
-            tests_of layout_tests 'Scratch, and a thousand layouts after it' \
-                line_rows::no_growth_comes_after_making ;;
-        text_tests)
-            tests_of text_tests 'print_levels and print_reorder' \
+                rooms::says_that_memory_was_refused
+            tests_of library_tests 'Scratch, and a thousand layouts after it' \
+                line_rows::no_growth_comes_after_making
+            tests_of library_tests 'print_levels and print_reorder' \
                 printed_out_of_memory::prints_or_says_that_memory_was_refused ;;
         command_tests)
             tests_of command_tests 'run over files in memory' \

@@ -1,4 +1,4 @@
-//! The tables with which texts are printed.
+//! Tables of the small files.
 use std::alloc::Global;
 use ucdfiles::bracket_table::BracketTable;
 use ucdfiles::class_table::ClassTable;

@@ -1,6 +1,6 @@
 //! Refused memory: `tools/refused_growths.sh` runs this test with each growth refused in turn. A call then returns the
 //! usual result or a `Memory` error, and no other.
-use crate::given::tables;
+use crate::small_tables::tables;
 use printing::fault::PrintFault;
 use printing::print::{print_levels, print_reorder};
 use std::alloc::Global;

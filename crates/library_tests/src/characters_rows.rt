@@ -1,24 +1,10 @@
 //! A judge of a file of characters, made and used while an allocation fails.
+use crate::small_tables::tables;
 use bidtests::judge::Judge;
 use bidtests::verdict::{Place, Verdict};
 use std::alloc::Global;
-use ucdfiles::bracket_table::BracketTable;
-use ucdfiles::class_table::ClassTable;
 use ucdfiles::fault::TableFault;
-use ucdfiles::mirror_table::MirrorTable;
-use ucdfiles::small::{BRACKETS, CLASSES, MIRRORS};
-use ucdfiles::tables::Tables;
 use units::level::Direction;
-use units::slice_source::SliceSource;
-
-/// Returns the tables of the small files.
-fn tables(alloc: Global) -> Result<Tables, TableFault> {
-    Ok(Tables::new(
-        ClassTable::read(alloc, &mut SliceSource::new(CLASSES))?,
-        BracketTable::read(alloc, &mut SliceSource::new(BRACKETS))?,
-        MirrorTable::read(alloc, &mut SliceSource::new(MIRRORS))?,
-    ))
-}
 
 /// Returns the verdict on a row of characters, with the tables of the small files.
 fn characters_verdict(alloc: Global) -> Result<Verdict, TableFault> {
