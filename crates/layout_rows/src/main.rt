@@ -3,11 +3,12 @@
 //!
 //! `VERB; OPTIONS; TEXT; RESULT`: what a verb says of one text. `layout` takes several texts, one after another in one
 //! room. A text of classes or code points is also laid out by the calls of `lines` alone, and a row fails if that gives
-//! another layout. The tables are those that are built in.
+//! another layout. `filled` takes several texts in one scratch. The tables are those that are built in.
 #![tactic(auto)]
 
 mod alone;
 mod by_lines;
+mod filled;
 mod given;
 mod in_room;
 mod layouts;
@@ -21,6 +22,7 @@ mod texts;
 use alone::push_alone;
 use anyhow::{Result, bail};
 use by_lines::{compare, push_by_lines};
+use filled::push_filled;
 use given::Given;
 use in_room::{push_lines, push_of_lines, push_paragraphs, push_starts, push_whole_levels};
 use layouts::{laid_out, push_layouts};
@@ -144,6 +146,7 @@ impl Check for LayoutRows {
             ["breaks", len, at] => push_breaks(alloc, len, at, out),
             ["made", what, n] => push_what(alloc, what, n, out),
             ["order" | "resets", ..] => push_part(alloc, fields, out),
+            ["filled", ref texts @ ..] => push_filled(alloc, &self.tables, texts, out),
             [verb, ref texts @ ..] => self.push_with_options(alloc, verb, texts, out),
             [] => bail!("no verb"),
         }

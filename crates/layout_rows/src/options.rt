@@ -48,6 +48,8 @@ pub struct Options {
     pub lists: Option<(usize, usize)>,
     /// The code points as which the text is shown: `as CODE ..`.
     pub shown_as: Vec<u32>,
+    /// How many calls lay out the text: `times N`.
+    pub times: usize,
 }
 
 /// Returns a limit, which a word writes as a number.
@@ -85,6 +87,7 @@ impl Options {
             line: (0, 0),
             lists: None,
             shown_as: Vec::new(alloc),
+            times: 1,
         }
     }
 
@@ -116,6 +119,7 @@ impl Options {
             "to" => self.line = (line.0, number_of(value)?),
             "lists" => self.lists = Some(two_numbers(alloc, value)?),
             "as" => self.shown_as = codes_of(alloc, value)?,
+            "times" => self.times = number_of(value)?,
             _ => bail!("no option is named {name}"),
         }
         Ok(())

@@ -1,6 +1,6 @@
-//! Tests of libraries that no row of a file can say: each allocation that fails in turn, buffers of many sizes, layouts
-//! again and again in what was made once, and a constant. They are in a crate of their own, so that no library is
-//! proved a second time with its tests.
+//! Tests of libraries that no row of a file can say: each allocation that fails in turn, layouts again and again in what
+//! was made once, and a constant. They are in a crate of their own, so that no library is proved a second time with its
+//! tests.
 #![tactic(auto)]
 
 #[cfg(test)]

@@ -1,6 +1,6 @@
 //! Checks rows of the rules of UAX #9, each by itself and together, from the cutting of a text into paragraphs to the
 //! resolved levels. Its arguments name files of rows. A row is `VERB; DIRECTION; UNITS; RESULT`, or `VERB; DIRECTION;
-//! DEPTH; BRACKETS; UNITS; RESULT` with other limits than 125 and 63.
+//! DEPTH; BRACKETS; UNITS; RESULT` with other limits than 125 and 63. `made; POSITIONS; RESULT` makes buffers.
 #![tactic(auto)]
 
 ghost use Rattle.std.specs.Prelude.{◌≡◌, ◌<◌};
@@ -8,6 +8,7 @@ ghost use Rattle.std.specs.Prelude.{◌≡◌, ◌<◌};
 mod before;
 mod given;
 mod in_order;
+mod made;
 mod results;
 mod rules;
 mod verb;
@@ -16,6 +17,7 @@ use anyhow::{Result, bail};
 use before::{push_explicit, push_paragraphs, push_partners, push_sequences, push_successors};
 use given::{Given, given_of, is_paragraph, out_of_memory};
 use in_order::{push_in_order, push_pairs};
+use made::push_made;
 use paragraph::resolver::Resolver;
 use results::{Results, results_in};
 use row_files::files::{Check, check_files};
@@ -119,8 +121,9 @@ fn push_for(alloc: Global, verb: Verb, inputs: &[&str], out: &mut String) -> Res
 
 impl Check for RuleRows {
     fn come_out(&self, alloc: Global, fields: &[&str], out: &mut String) -> Result<()> {
-        match fields {
-            [verb, inputs @ ..] => push_for(alloc, Verb::of(verb)?, inputs, out),
+        match *fields {
+            ["made", n] => push_made(alloc, n, out),
+            [verb, ref inputs @ ..] => push_for(alloc, Verb::of(verb)?, inputs, out),
             [] => bail!("no verb"),
         }
     }
