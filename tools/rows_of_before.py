@@ -6,8 +6,8 @@ usage: tools/rows_of_before.py
 What a test states was code, in crates of tests alone; now it is rows of files, which the programs that end in _rows
 check. TABLE has for each crate of before a line for each of its tests:
 
-    MODULE::TEST -> CRATE/FILE NUMBER, ..    NUMBER rows of crates/CRATE/data/FILE say what it said, by the
-                                             numbers in crates/CRATE/stdout
+    MODULE::TEST -> CRATE/FILE NUMBER, ..    NUMBER rows of crates/CRATE/data/FILE, or of long_FILE beside it,
+                                             say what it said, by the numbers in crates/CRATE/stdout
     MODULE::TEST stays: REASON               it is still a test of that crate, or of the one that CRATE_NOW names
 
 The script prints each test of these crates that COMMIT has and TABLE hasn't, and the reverse; each file that is missing
@@ -170,7 +170,7 @@ paragraph_rows::marks_after_brackets -> rule_rows/levels.txt 3
 paragraph_rows::full_stack -> rule_rows/levels.txt 2
 paragraph_rows::given_limits -> rule_rows/levels.txt 6
 resolve_rows::closers -> rule_rows/brackets.txt 4
-rooms::rooms_of_any_size_are_made -> rule_rows/made.txt 4, rule_rows/long_made.txt 3
+rooms::rooms_of_any_size_are_made -> rule_rows/made.txt 7
 rooms::too_much_room -> rule_rows/made.txt 1
 rooms::says_that_memory_was_refused stays: it is run with each allocation failing in turn (tools/refused_growths.sh)
 rule_rows::each_rule_by_itself -> rule_rows/weak.txt 17, rule_rows/neutral.txt 2
@@ -262,8 +262,8 @@ room_shown::shows_code_points -> layout_rows/shown.txt 1
 room_shown::shows_numbers -> layout_rows/shown.txt 1
 room_shown::shows_utf8 -> layout_rows/shown.txt 2
 room_shown::shows_utf16 -> layout_rows/shown.txt 1
-room_sizes::rooms_of_any_size_are_made -> layout_rows/made.txt 10, layout_rows/long_made.txt 4
-room_sizes::rooms_of_any_size_are_reserved -> layout_rows/made.txt 10, layout_rows/long_made.txt 4
+room_sizes::rooms_of_any_size_are_made -> layout_rows/made.txt 14
+room_sizes::rooms_of_any_size_are_reserved -> layout_rows/made.txt 14
 room_sizes::a_room_that_is_too_big_is_not_made -> layout_rows/made.txt 1
 text_rows::shows_each_line -> layout_rows/shown.txt 2
 text_rows::names_the_first_faulty_break -> layout_rows/shown.txt 2
@@ -285,38 +285,38 @@ room_rejected::leaves_lists_that_are_too_short -> layout_rows/calls.txt 4
 """
 
 TABLE["room_tests"] = """
-whole_room::a_first_strong_isolate_in_each_call -> layout_rows/long_filled.txt 1
-whole_room::a_right_to_left_isolate_in_each_call -> layout_rows/long_filled.txt 1
-whole_room::a_right_to_left_letter_in_each_call -> layout_rows/long_filled.txt 1
-whole_room::each_text_may_fill_the_room -> layout_rows/long_filled.txt 1
-whole_room::rooms_of_any_size_are_made -> layout_rows/made.txt 1, layout_rows/filled.txt 2, layout_rows/long_filled.txt 4
+whole_room::a_first_strong_isolate_in_each_call -> layout_rows/filled.txt 1
+whole_room::a_right_to_left_isolate_in_each_call -> layout_rows/filled.txt 1
+whole_room::a_right_to_left_letter_in_each_call -> layout_rows/filled.txt 1
+whole_room::each_text_may_fill_the_room -> layout_rows/filled.txt 1
+whole_room::rooms_of_any_size_are_made -> layout_rows/made.txt 1, layout_rows/filled.txt 6
 """
 
 TABLE["print_tests"] = """
 letters_made::makes_letters_of_any_number_of_items -> printed_rows/letters.txt 6, printed_rows/long_texts.txt 12
-rows_agree::lines_of_classes_as_at_first -> printed_rows/long_pieces.txt 4
-rows_agree::long_lines_of_classes_as_at_first -> printed_rows/long_pieces.txt 1
-rows_agree::long_rows_of_characters_as_at_first -> printed_rows/long_pieces.txt 1
+rows_agree::lines_of_classes_as_at_first -> printed_rows/pieces.txt 4
+rows_agree::long_lines_of_classes_as_at_first -> printed_rows/pieces.txt 1
+rows_agree::long_rows_of_characters_as_at_first -> printed_rows/pieces.txt 1
 rows_agree::positions_as_at_first -> printed_rows/pieces.txt 1
-rows_agree::rows_of_characters_as_at_first -> printed_rows/long_pieces.txt 1
-texts_agree::levels_as_at_first -> printed_rows/long_pieces.txt 1
-texts_agree::levels_of_long_texts_as_at_first -> printed_rows/long_pieces.txt 1
-texts_agree::levels_of_many_paragraphs_as_at_first -> printed_rows/long_pieces.txt 1
-texts_agree::lines_as_at_first -> printed_rows/long_pieces.txt 4
-texts_agree::long_lines_as_at_first -> printed_rows/long_pieces.txt 2
+rows_agree::rows_of_characters_as_at_first -> printed_rows/pieces.txt 1
+texts_agree::levels_as_at_first -> printed_rows/pieces.txt 1
+texts_agree::levels_of_long_texts_as_at_first -> printed_rows/pieces.txt 1
+texts_agree::levels_of_many_paragraphs_as_at_first -> printed_rows/pieces.txt 1
+texts_agree::lines_as_at_first -> printed_rows/pieces.txt 4
+texts_agree::long_lines_as_at_first -> printed_rows/pieces.txt 2
 """
 
 TABLE["table_tests"] = """
 arbitrary_tables::arbitrary_bytes_state_no_table -> table_rows/sources.txt 3
 kit_classes::new_characters_differ_as_listed -> table_rows/standard.txt 7
 kit_classes::older_characters_differ_as_listed -> table_rows/standard.txt 1
-large_tables::as_many_classes_as_allowed -> table_rows/long_limits.txt 1
-large_tables::as_many_brackets_as_allowed -> table_rows/long_limits.txt 2
-large_tables::as_many_mirror_images_as_allowed -> table_rows/long_limits.txt 2
-large_tables::characters_of_an_earlier_line -> table_rows/limits.txt 6, table_rows/long_limits.txt 6
+large_tables::as_many_classes_as_allowed -> table_rows/limits.txt 1
+large_tables::as_many_brackets_as_allowed -> table_rows/limits.txt 2
+large_tables::as_many_mirror_images_as_allowed -> table_rows/limits.txt 2
+large_tables::characters_of_an_earlier_line -> table_rows/limits.txt 12
 standard_tables::standard_tables_are_those_of_unicode -> table_rows/standard.txt 4
 table_faults::faults_of_classes -> table_rows/classes.txt 9
-table_faults::too_many_data_lines -> table_rows/long_limits.txt 1
+table_faults::too_many_data_lines -> table_rows/limits.txt 1
 table_faults::too_many_default_lines -> table_rows/limits.txt 1
 table_faults::over_long_lines -> table_rows/limits.txt 3
 table_faults::sources_that_fail -> table_rows/sources.txt 6
@@ -382,10 +382,9 @@ def tests_now(crate):
 
 
 def rows_in(crate, name):
-    """Returns how many rows of a file the program of a crate checks, as its stored output says."""
+    """Returns how many rows of a file, and of long_FILE, the program of a crate checks, as its stored output says."""
     output = (TOP / "crates" / crate / "stdout").read_text()
-    found = re.search(rf"^{re.escape(name)}: \d+ of (\d+) rows passed$", output, re.MULTILINE)
-    return int(found[1]) if found else 0
+    return sum(map(int, re.findall(rf"^(?:long_)?{re.escape(name)}: \d+ of (\d+) rows passed$", output, re.MULTILINE)))
 
 
 def places_of(crate, table):
