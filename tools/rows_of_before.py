@@ -86,10 +86,10 @@ judge::judges_files_of_classes -> transcript_rows/judge.txt 10
 judge::reads_no_tables_for_classes -> transcript_rows/judge.txt 1
 judge::rejects_an_over_long_line -> transcript_rows/judge.txt 3
 known::prints_what_the_contracts_say stays: it calls functions whose contracts state what is printed
-large::a_right_row_on_the_longest_line_is_judged -> transcript_rows/large.txt 2
-large::a_text_of_a_byte_more_is_read_up_to_it -> transcript_rows/large.txt 1
-large::a_text_of_as_many_bytes_as_allowed_is_read -> transcript_rows/large.txt 1
-large::a_wrong_row_on_the_longest_line_is_judged -> transcript_rows/large.txt 4
+large::a_right_row_on_the_longest_line_is_judged -> transcript_rows/long_large.txt 2
+large::a_text_of_a_byte_more_is_read_up_to_it -> transcript_rows/long_large.txt 1
+large::a_text_of_as_many_bytes_as_allowed_is_read -> transcript_rows/long_large.txt 1
+large::a_wrong_row_on_the_longest_line_is_judged -> transcript_rows/long_large.txt 4
 levels::prints_levels_under_a_direction -> transcript_rows/levels.txt 6
 levels::prints_the_levels_of_a_file -> transcript_rows/levels.txt 4
 levels::prints_x_where_a_position_is_removed -> transcript_rows/levels.txt 1
