@@ -79,7 +79,10 @@ fn push_calls(
     for call in 1..options.times {
         let layout = laid_out(alloc, scratch, units, options)?;
         let same = layout.as_str() == first.as_str();
-        ensure!(same, "call {call} gives {layout}, and the first one {first}");
+        ensure!(
+            same,
+            "call {call} gives {layout}, and the first one {first}"
+        );
     }
     push_word(out, first.as_str())?;
     Ok(())
