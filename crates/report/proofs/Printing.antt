@@ -17,7 +17,7 @@ use Rattle.printing.specs.FailedWrites.{HasFailed}
 use Rattle.printing.specs.declared.written.Written.TheVariants.{Whole, CutOff}
 use Rattle.report.specs.FileReports.{report_of, decided_cases}
 use Rattle.report.specs.Reporting.{Reporting, Reports, report_at_end}
-use Rattle.report.specs.PrintedReports.{BreaksOff, EndsUnwritten, HasReported, HasWrittenFirst, IsFaultOf, IsWriteFault, Prints, PrintsEnd, PrintsKnownCases, ReportsFailure}
+use Rattle.report.specs.PrintedReports.{BreaksOff, EndsUnwritten, HasReported, HasWrittenFirst, IsFaultOf, IsWriteFault, Prints, PrintsEnd, PrintsKnownCases, ReportsCut}
 use Rattle.report.specs.ReportText.{first_cases_text, report_text, wrong_case_text}
 use Rattle.report.proofs.DecidedCases.{reported-decided}
 
@@ -143,30 +143,34 @@ module _ (Failed Ended : Type 0) (r : Reporting) (most : ℕ) (a b : Option (Lis
   end-fails Gave given gave ended (Err fault) h = (given, gave, write-ends given fault ended h)
 
 module _ (failed : Error → Type 0) where
-  unwritten-fails : (Failed Ended : Type 0) (fault : ReportFault) → HasFailed failed →
-      EndsUnwritten Failed Ended fault → ReportsFailure failed fault
-  unwritten-fails Failed Ended (Read Whole) so h = absurd h
-  unwritten-fails Failed Ended (Read CutOff) so h = so
-  unwritten-fails Failed Ended Write so h = so
-  unwritten-fails Failed Ended NobodyReads so h = absurd h
+  unwritten-cuts : (Failed Ended : Type 0) (fault : ReportFault) → HasFailed failed → EndsUnwritten Failed Ended fault →
+      ReportsCut failed fault
+  unwritten-cuts Failed Ended (Read Whole) so h = absurd h
+  unwritten-cuts Failed Ended (Read CutOff) so h = so
+  unwritten-cuts Failed Ended Write so h = tt
+  unwritten-cuts Failed Ended NobodyReads so h = absurd h
 
   -- the fault of a report after a write failed with this error
-  pub piece-fails : {S : Type 0} (gives : S → List ℕ → S → Type 0) (Failed Ended : Type 0) (now next : S)
+  pub piece-cuts : {S : Type 0} (gives : S → List ℕ → S → Type 0) (Failed Ended : Type 0) (now next : S)
       (error : Error) (fault : ReportFault) → failed error
       → (error_kind error ≡ BrokenPipe → (fault ≡ NobodyReads) × (next ≡ now))
       → (error_kind error ≢ BrokenPipe → (given : List ℕ) × gives now given next × EndsUnwritten Failed Ended fault)
-      → ReportsFailure failed fault
-  piece-fails gives Failed Ended now next error fault so unread write =
-      by-kind (ReportsFailure failed fault) (error_kind error)
-      (λ e. subst (ReportsFailure failed) (sym (unread e).0) (error, so, e))
-      (λ e. unwritten-fails Failed Ended fault (error, so, e) (write e).2)
+      → ReportsCut failed fault
+  piece-cuts gives Failed Ended now next error fault so unread write =
+      by-kind (ReportsCut failed fault) (error_kind error)
+      (λ e. subst (ReportsCut failed) (sym (unread e).0) tt)
+      (λ e. unwritten-cuts Failed Ended fault (error, so, e) (write e).2)
 
-  -- the fault of a write error reports it
-  pub write-fails : (error : Error) (fault : ReportFault) → failed error → IsFaultOf error fault →
-      ReportsFailure failed fault
-  write-fails error fault so is = by-kind (ReportsFailure failed fault) (error_kind error)
-      (λ e. subst (ReportsFailure failed) (sym (is.broken e)) (error, so, e))
-      (λ e. subst (ReportsFailure failed) (sym (is.other e)) (error, so, e))
+  write-cuts : (fault : ReportFault) → IsWriteFault fault → ReportsCut failed fault
+  write-cuts (Read written) h = absurd h
+  write-cuts Write h = tt
+  write-cuts NobodyReads h = tt
+
+  -- the fault of a report whose source has ended
+  pub end-cuts : {A : Type 0} (result : Result A ReportFault) → IfErr result IsWriteFault →
+      IfErr result (ReportsCut failed)
+  end-cuts (Ok x) h = tt
+  end-cuts (Err fault) h = write-cuts fault h
 
 -- the text of a whole report: the cases reported before the end, those of a last line, and the foot
 pub whole-printed : (r s e : Reporting) (most remaining : ℕ) (ws : List WrongCase) (given : List ℕ)

@@ -8,7 +8,7 @@ use Rattle.report.specs.declared.terms.Terms.{Terms}
 use Rattle.bidtests.specs.declared.kind.Kind.{Kind}
 use Rattle.report.specs.declared.print.ReportFault.{ReportFault}
 use Rattle.report.specs.declared.print.ReportFault.TheVariants.{Read, Write, NobodyReads}
-use Rattle.printing.specs.FailedWrites.{HasFailed, HasNoReader, IsCutAfter}
+use Rattle.printing.specs.FailedWrites.{IsCutAfter}
 use Rattle.printing.specs.ReadTexts.{IsWritten}
 use Rattle.printing.specs.declared.written.Written.{Written}
 use Rattle.printing.specs.declared.written.Written.TheVariants.{CutOff}
@@ -72,12 +72,12 @@ EndsUnwritten Failed Ended (Read CutOff) = Failed
 EndsUnwritten Failed Ended Write = Ended
 EndsUnwritten Failed Ended _ = ⊥
 
--- a fault reports a failed write only after a call of the writer failed, and says whether nobody reads; `failed` says
--- with which errors the last call failed
-abbrev pub ReportsFailure : (Error → Type 0) → ReportFault → Type 0
-ReportsFailure failed (Read written) = IsCutAfter failed written
-ReportsFailure failed Write = HasFailed failed
-ReportsFailure failed NobodyReads = HasNoReader failed
+-- a fault of the source reports that the output is cut off only after a call of the writer failed; `failed` says with
+-- which errors the last call failed
+abbrev pub ReportsCut : (Error → Type 0) → ReportFault → Type 0
+ReportsCut failed (Read written) = IsCutAfter failed written
+ReportsCut failed Write = Unit {0}
+ReportsCut failed NobodyReads = Unit {0}
 
 -- the fault is that of a write
 abbrev pub IsWriteFault : ReportFault → Type 0

@@ -5,7 +5,7 @@ ghost use Rattle.report.specs.declared.wrong_case.WrongCase.{WrongCase as Report
 ghost use Rattle.std.specs.IoError.{error_kind};
 ghost use Rattle.std.specs.declared.io.ErrorKind.TheVariants.{BrokenPipe};
 ghost use Rattle.report.specs.PrintedReports.{BreaksOff, EndsUnwritten, HasReported, HasWrittenFirst};
-ghost use Rattle.report.specs.PrintedReports.{IsFaultOf, IsWriteFault, Prints, PrintsEnd, ReportsFailure};
+ghost use Rattle.report.specs.PrintedReports.{IsFaultOf, IsWriteFault, Prints, PrintsEnd, ReportsCut};
 ghost use Rattle.report.specs.ReportText.{wrong_cases_text};
 
 use crate::report::Report;
@@ -129,7 +129,7 @@ fn print_source<S: ByteSource, W: Output>(
     ensures fault { IfErr result (λ fault. (given : List ℕ) × S.gives source.old given source.new
         × BreaksOff (S.failures source.new ≡ 1) (S.ended source.new) report.old most given
         (W.contents w.old) (W.contents w.new) fault) }
-    ensures failed { IfErr result (ReportsFailure (W.failed_with w.new)) }
+    ensures cut_off { IfErr result (ReportsCut (W.failed_with w.new)) }
 {
     let written = Written::Whole;
     let mut remaining = most;
@@ -151,7 +151,6 @@ fn print_source<S: ByteSource, W: Output>(
 fn print_end<W: Output>(w: &mut W, ended: &Report<'_>, most: u64) -> Result<bool, ReportFault>
     ensures printed { IfOk result (PrintsEnd most ended.now (W.contents w.old) (W.contents w.new)) }
     ensures fault { IfErr result IsWriteFault }
-    ensures failed { IfErr result (ReportsFailure (W.failed_with w.new)) }
 {
     print_first(w, ended.found(), most)?;
     print_foot(w, ended.malformed(), &ended.case_counts())?;
@@ -181,7 +180,7 @@ pub fn print_report<S: ByteSource, W: Output>(
     ensures fault { IfErr result (λ fault. (given : List ℕ) × S.gives source.old given source.new
         × BreaksOff (S.failures source.new ≡ 1) (S.ended source.new) report.entry most given
         (W.contents w.old) (W.contents w.new) fault) }
-    ensures failed { IfErr result (ReportsFailure (W.failed_with w.new)) }
+    ensures cut_off { IfErr result (ReportsCut (W.failed_with w.new)) }
 {
     let remaining = print_source(w, &mut report, source, most)?;
     report.finish();

@@ -1,5 +1,5 @@
 use Rattle.std.proofs.lemmas.Result.{IfOk-weaker}
-use Rattle.report.proofs.Printing.{end-fails, whole-printed}
+use Rattle.report.proofs.Printing.{end-cuts, end-fails, whole-printed}
 use Rattle.report.proofs.print.print_report.Goals as goal
 
 pub returns-clause-printed : goal.returns-clause-printed
@@ -17,3 +17,6 @@ returns-clause-fault g c =
     let reported = c.in_ok-remaining.ensures.reported in
     end-fails _ _ _ _ _ _ (λ xs. g.S.ByteSource.gives c.args.source.now xs c.print_source.new.source) _ reported.2
     c.in_ok-remaining.ensures.whole c.print_end.result c.print_end.ensures.fault
+
+pub returns-clause-cut_off : goal.returns-clause-cut_off
+returns-clause-cut_off g c = end-cuts _ c.print_end.result c.print_end.ensures.fault

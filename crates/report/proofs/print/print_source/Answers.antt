@@ -1,5 +1,5 @@
 use Rattle.std.proofs.Common.{rules, ◌≡◌, ◌++◌, [], take, ap, ◌∙◌, append-nil}
-use Rattle.report.proofs.Printing.{nothing-reported, nothing-written, decided-written, piece-fails, piece-ends, reported-more, written-more}
+use Rattle.report.proofs.Printing.{nothing-reported, nothing-written, decided-written, piece-cuts, piece-ends, reported-more, written-more}
 use Rattle.report.proofs.print.print_source.Goals as goal
 
 pub loop-n-init : goal.loop-n-init
@@ -36,9 +36,9 @@ returns-in-Err-print_piece-clause-fault g c =
     given c.in-Err-print_piece.error c.end_unwritten.result c.end_unwritten.ensures.unread
     c.end_unwritten.ensures.write
 
-pub returns-in-Err-print_piece-clause-failed : goal.returns-in-Err-print_piece-clause-failed
-returns-in-Err-print_piece-clause-failed g c =
-    piece-fails _ g.S.ByteSource.gives _ _ c.read.new.self _ c.in-Err-print_piece.error c.end_unwritten.result
+pub returns-in-Err-print_piece-clause-cut_off : goal.returns-in-Err-print_piece-clause-cut_off
+returns-in-Err-print_piece-clause-cut_off g c =
+    piece-cuts _ g.S.ByteSource.gives _ _ c.read.new.self _ c.in-Err-print_piece.error c.end_unwritten.result
     c.in-Err-print_piece.ensures.failed c.end_unwritten.ensures.unread c.end_unwritten.ensures.write
 
 pub loop-n-preserved : goal.loop-n-preserved
