@@ -3,9 +3,10 @@
 # for C, the header, the manual pages, `bidi-draw`, the changelog, the module for Python, the crate for Rust, the
 # installed file for pkg-config, the soname's number and, if the program is built, `bidi --version`. It checks likewise
 # that every place that names the built-in edition of Unicode agrees with data/EDITION: the facts, the header, the
-# command with its version and its help, the manual page, the documents, the module for Python, the crate for Rust and
-# the tests. If there is `rt`, it also checks that the command and the documents name the kit that `rt version` names.
-# It ends with 0 if all agree, and with 1 if not.
+# command with its version and its help, the manual page, the documents, the drawing of the crates, NOTICES, the
+# changelog, the module for Python, the crate for Rust and the tests. Some of these also name the edition of
+# crates/standard_15. If there is `rt`, it also checks that the command and the documents name the kit that `rt version`
+# names. It ends with 0 if all agree, and with 1 if not.
 #
 # usage: tools/check_version.sh
 set -u
@@ -31,15 +32,24 @@ says_edition() {
     fi
 }
 
-# names_edition FILE: the file names an edition of Unicode, and each that it names is that of data/EDITION, whole or
-# without its last number.
+# names_edition FILE [OLDER]: the file names an edition of Unicode, and each that it names is that of data/EDITION,
+# whole or without its last number. If OLDER is given, the file names that edition too.
 names_edition() {
-    local named found=0
+    local named found=0 older=0
     while read -r named; do
+        if [ "$named" = "${2:-}" ]; then
+            older=1
+            continue
+        fi
         found=1
         [ "$named" = "${edition%.*}" ] || says_edition "$1" "$named"
-    done < <(tr '\n' ' ' < "$1" | grep -oE 'Unicode +\\? *`?[0-9]+\.[0-9]+(\.[0-9]+)?' | grep -oE '[0-9.]+$')
+    done < <(tr '\n' ' ' < "$1" | grep -oE '(Unicode +\\? *`?|data/unicode-)[0-9]+\.[0-9]+(\.[0-9]+)?' |
+        grep -oE '[0-9.]+$')
     [ "$found" -eq 1 ] || says_edition "$1" none
+    if [ -n "${2:-}" ] && [ "$older" -eq 0 ]; then
+        echo "$1 does not name the edition $2 of crates/standard_15" >&2
+        wrong=$((wrong + 1))
+    fi
 }
 
 [[ $version =~ ^[0-9]+\.[0-9]+\.[0-9]+$ ]] || { echo "VERSION is no version: '$version'" >&2; wrong=1; }
@@ -54,6 +64,12 @@ for file in crates/command/src/help.rt crates/transcript_rows/data/arguments.txt
     README.md c/calls.out; do
     names_edition "$file"
 done
+older=$(sed -n 's/^pub const EDITION: &str = "\(.*\)";$/\1/p' crates/standard_15/src/facts.rt)
+for file in NOTICES docs/PROVED.md docs/ARCHITECTURE.md docs/crates.svg docs/crates_drawing.txt; do
+    names_edition "$file" "$older"
+done
+built_in='s/^- The built-in tables are those of Unicode \([0-9.]*[0-9]\).*$/\1/p'
+says_edition CHANGELOG.md "$(sed -n "$built_in" CHANGELOG.md | head -n 1)"
 for file in c/bidi.h docs/{C,PYTHON,RUST}.md python/bidi_proved/tables.py rust/bidi-proved/src/lib.rs; do
     says_edition "$file" "$(grep -oE '(as|like) ["`]?[0-9]+\.[0-9]+\.[0-9]+' "$file" | grep -oE '[0-9.]+$' |
         grep -vxF "$version" | sort -u | tr '\n' ' ' | sed 's/ $//')"
@@ -62,6 +78,9 @@ says_edition crates/command "$(sed -n 's/^tables of Unicode \(.*\) built in$/\1/
 says docs/bidi.1 "$(sed -n 's/^\.TH BIDI 1 "[^"]*" "bidi \(.*\)" "User Commands"$/\1/p' docs/bidi.1)"
 says docs/bidi-draw.1 "$(sed -n 's/^\.TH BIDI-DRAW 1 "[^"]*" "bidi \(.*\)" "User Commands"$/\1/p' docs/bidi-draw.1)"
 says draw/bidi-draw "$(sed -n 's/^VERSION = "\(.*\)"$/\1/p' draw/bidi-draw)"
+for file in docs/COMMAND.md crates/transcript_rows/data/arguments.txt; do
+    says "$file" "$(sed -n 's/^\(| \)\?bidi \([0-9.]*\) (rules .*$/\2/p' "$file")"
+done
 says CHANGELOG.md "$(sed -n 's/^## \([0-9.]*\)$/\1/p' CHANGELOG.md | head -n 1)"
 says python/bidi_proved "$(sed -n 's/^__version__ = "\(.*\)"$/\1/p' python/bidi_proved/__init__.py)"
 says rust/bidi-proved "$(sed -n 's/^version = "\(.*\)"$/\1/p' rust/bidi-proved/Cargo.toml)"
@@ -72,7 +91,7 @@ done
 grep -q '^Version: @version@$' c/bidi_c.pc.in || says c/bidi_c.pc.in 'something else than @version@'
 if command -v rt > /dev/null; then
     kit=$(rt version | head -n 1)
-    for file in crates/command/src/help.rt README.md docs/COMMAND.md; do
+    for file in crates/command/src/help.rt README.md docs/COMMAND.md docs/PROVED.md; do
         grep -qF "$kit" "$file" || { echo "$file does not name the kit '$kit'" >&2; wrong=$((wrong + 1)); }
     done
 fi
