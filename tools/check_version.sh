@@ -33,11 +33,11 @@ says_edition() {
 }
 
 # names_edition FILE [OLDER]: the file names an edition of Unicode, and each that it names is that of data/EDITION,
-# whole or without its last number. If OLDER is given, the file names that edition too.
+# whole or without its last number. If OLDER is given, the file names that edition too, in the same ways.
 names_edition() {
     local named found=0 older=0
     while read -r named; do
-        if [ "$named" = "${2:-}" ]; then
+        if [ -n "${2:-}" ] && { [ "$named" = "$2" ] || [ "$named" = "${2%.*}" ]; }; then
             older=1
             continue
         fi
@@ -65,12 +65,13 @@ for file in crates/command/src/help.rt crates/transcript_rows/data/arguments.txt
     names_edition "$file"
 done
 older=$(sed -n 's/^pub const EDITION: &str = "\(.*\)";$/\1/p' crates/standard_15/src/facts.rt)
-for file in NOTICES docs/PROVED.md docs/ARCHITECTURE.md docs/crates.svg docs/crates_drawing.txt; do
+for file in NOTICES docs/{PROVED,DEFINITIONS,ARCHITECTURE}.md docs/crates.svg docs/crates_drawing.txt; do
     names_edition "$file" "$older"
 done
 built_in='s/^- The built-in tables are those of Unicode \([0-9.]*[0-9]\).*$/\1/p'
 says_edition CHANGELOG.md "$(sed -n "$built_in" CHANGELOG.md | head -n 1)"
-for file in c/bidi.h docs/{C,PYTHON,RUST}.md python/bidi_proved/tables.py rust/bidi-proved/src/lib.rs; do
+for file in c/bidi.h docs/{C,PYTHON,RUST}.md python/bidi_proved/tables.py rust/bidi-proved/src/lib.rs \
+    crates/bidi_c/src/tables_calls.rt; do
     says_edition "$file" "$(grep -oE '(as|like) ["`]?[0-9]+\.[0-9]+\.[0-9]+' "$file" | grep -oE '[0-9.]+$' |
         grep -vxF "$version" | sort -u | tr '\n' ' ' | sed 's/ $//')"
 done
