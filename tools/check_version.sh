@@ -4,9 +4,8 @@
 # installed file for pkg-config, the soname's number and, if the program is built, `bidi --version`. It checks likewise
 # that every place that names the built-in edition of Unicode agrees with data/EDITION: the facts, the header, the
 # command with its version and its help, the manual page, the documents, the drawing of the crates, NOTICES, the
-# changelog, the module for Python, the crate for Rust and the tests. Some of these also name the edition of
-# crates/standard_15. If there is `rt`, it also checks that the command and the documents name the kit that `rt version`
-# names. It ends with 0 if all agree, and with 1 if not.
+# changelog, the module for Python, the crate for Rust and the tests. If there is `rt`, it also checks that the command
+# and the documents name the kit that `rt version` names. It ends with 0 if all agree, and with 1 if not.
 #
 # usage: tools/check_version.sh
 set -u
@@ -32,24 +31,16 @@ says_edition() {
     fi
 }
 
-# names_edition FILE [OLDER]: the file names an edition of Unicode, and each that it names is that of data/EDITION,
-# whole or without its last number. If OLDER is given, the file names that edition too, in the same ways.
+# names_edition FILE: the file names an edition of Unicode, and each that it names is that of data/EDITION, whole or
+# without its last number.
 names_edition() {
-    local named found=0 older=0
+    local named found=0
     while read -r named; do
-        if [ -n "${2:-}" ] && { [ "$named" = "$2" ] || [ "$named" = "${2%.*}" ]; }; then
-            older=1
-            continue
-        fi
         found=1
         [ "$named" = "${edition%.*}" ] || says_edition "$1" "$named"
     done < <(tr '\n' ' ' < "$1" | grep -oE '(Unicode +\\? *`?|data/unicode-)[0-9]+\.[0-9]+(\.[0-9]+)?' |
         grep -oE '[0-9.]+$')
     [ "$found" -eq 1 ] || says_edition "$1" none
-    if [ -n "${2:-}" ] && [ "$older" -eq 0 ]; then
-        echo "$1 does not name the edition $2 of crates/standard_15" >&2
-        wrong=$((wrong + 1))
-    fi
 }
 
 [[ $version =~ ^[0-9]+\.[0-9]+\.[0-9]+$ ]] || { echo "VERSION is no version: '$version'" >&2; wrong=1; }
@@ -60,13 +51,9 @@ numbers=$(sed -n 's/^#define BIDI_VERSION_\(MAJOR\|MINOR\|PATCH\) \([0-9]*\)$/\2
 says "c/bidi.h, by numbers," "$(tr '\n' . <<< "$numbers" | sed 's/\.$//')"
 says_edition crates/standard "$(sed -n 's/^pub const EDITION: &str = "\(.*\)";$/\1/p' crates/standard/src/facts.rt)"
 says_edition c/bidi.h "$(sed -n 's/^#define BIDI_EDITION "\(.*\)"$/\1/p' c/bidi.h)"
-for file in crates/command/src/help.rt crates/transcript_rows/data/arguments.txt docs/COMMAND.md docs/bidi.1 \
-    README.md c/calls.out; do
+for file in crates/command/src/help.rt crates/transcript_rows/data/arguments.txt docs/{COMMAND,PROVED}.md docs/bidi.1 \
+    docs/{DEFINITIONS,ARCHITECTURE}.md docs/crates.svg docs/crates_drawing.txt README.md NOTICES c/calls.out; do
     names_edition "$file"
-done
-older=$(sed -n 's/^pub const EDITION: &str = "\(.*\)";$/\1/p' crates/standard_15/src/facts.rt)
-for file in NOTICES docs/{PROVED,DEFINITIONS,ARCHITECTURE}.md docs/crates.svg docs/crates_drawing.txt; do
-    names_edition "$file" "$older"
 done
 built_in='s/^- The built-in tables are those of Unicode \([0-9.]*[0-9]\).*$/\1/p'
 says_edition CHANGELOG.md "$(sed -n "$built_in" CHANGELOG.md | head -n 1)"

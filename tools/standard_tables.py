@@ -6,8 +6,7 @@ usage: tools/standard_tables.py [--check]
 The edition is the one that data/EDITION names, and its three property files are in data/unicode-EDITION. From these
 come, in crates/standard, src/facts.rt (what the files state, in the files' own form, without comments, with adjacent
 ranges of one class joined), src/{classes,brackets,mirrors}.rt (the same as the two stages that a look-up reads) and
-proofs/Numbering.antt (which bracket has which key). In crates/standard_15 the facts are those of an older edition and
-never change; the constants come from these facts.
+proofs/Numbering.antt (which bracket has which key).
 
 With --check nothing is written. It ends with status 1 if a file isn't the one that would be written, or if the class,
 the bracket or the mirrored character of some code point differs between the published files and the facts.
@@ -22,7 +21,6 @@ TOP = pathlib.Path(__file__).resolve().parent.parent
 EDITION = (TOP / "data/EDITION").read_text(encoding="utf-8").strip()
 PUBLISHED = TOP / f"data/unicode-{EDITION}"
 STANDARD = TOP / "crates/standard"
-OLDER = TOP / "crates/standard_15"
 FILES = {
     "CLASSES": "extracted/DerivedBidiClass.txt",
     "BRACKETS": "BidiBrackets.txt",
@@ -272,9 +270,7 @@ def main(words):
     if published != EDITION:
         sys.exit(f"data/EDITION says {EDITION}, and the published files are those of {published}")
     facts = facts_file(texts, EDITION)
-    older = (OLDER / "src/facts.rt").read_text(encoding="utf-8")
-    older_edition = re.search(r'EDITION: &str = "(.*)"', older)[1]
-    files = {**crate_files(STANDARD, facts, EDITION), **crate_files(OLDER, older, older_edition)}
+    files = crate_files(STANDARD, facts, EDITION)
     if words != ["--check"]:
         for path, made in files.items():
             path.parent.mkdir(parents=True, exist_ok=True)

@@ -103,7 +103,7 @@ fn print_each(
 
 /// Prints so many documents.
 pub fn print_documents(alloc: Global, form: Form, count: usize, seed: u64) -> io::Result<Digest> {
-    let tables = standard_15::tables();
+    let tables = standard::tables();
     let mut maker = DocumentMaker::new(alloc, seed);
     let mut printed = Vec::new(alloc);
     print_each(alloc, &tables, form, count, &mut maker, &mut printed)

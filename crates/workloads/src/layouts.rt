@@ -188,6 +188,6 @@ fn typeset(alloc: Global, tables: &Tables, text: &[u32], seed: u64) -> io::Resul
 /// Lays out the paragraphs of a text of so many characters.
 pub fn lay_out_paragraphs(alloc: Global, count: usize, seed: u64) -> io::Result<Digest> {
     let text = make(alloc, count, seed)?;
-    let tables = standard_15::tables();
+    let tables = standard::tables();
     typeset(alloc, &tables, &text, seed)
 }

@@ -165,7 +165,7 @@ fn show_lines(
 
 /// Lays out so many lines one by one.
 pub fn lay_out_lines(alloc: Global, count: usize, seed: u64) -> io::Result<Digest> {
-    let tables = standard_15::tables();
+    let tables = standard::tables();
     let mut lines = LineMaker::new(alloc, seed);
     show_lines(alloc, &tables, count, &mut lines)
 }

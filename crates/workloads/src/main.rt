@@ -1,7 +1,8 @@
 //! Jobs that users of these libraries wait for, each on texts that are made from a seed. A job prints how much it
 //! worked on and a digest of all its results, which is the same at each run with the same seed. No job gets a document,
-//! paragraph, line, file or text twice: one that equals an earlier one is drawn again or left out. The tables are
-//! always those of Unicode 15.0.0, so that a digest doesn't change with the edition that is built in.
+//! paragraph, line, file or text twice: one that equals an earlier one is drawn again or left out. The characters of
+//! its texts have had the same properties since Unicode 15.0.0 (`workloads.txt` of `table_rows`), so that a digest
+//! doesn't change with the edition that is built in.
 //!
 //! `workloads reorder 7` runs the job with this name from the seed 7, which must be below 2^32. The jobs are `reorder`,
 //! `levels`, `layout`, `lines`, `judge` and `hostile`. Without arguments it runs all of them, small, from the seed 1.

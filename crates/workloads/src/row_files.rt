@@ -146,7 +146,7 @@ fn work_on(
 
 /// Judges or reports on so many files.
 pub fn judge_files(alloc: Global, count: usize, seed: u64) -> io::Result<Digest> {
-    let tables = standard_15::tables();
+    let tables = standard::tables();
     let mut file = Vec::new(alloc);
     let mut files = Inputs::new(alloc);
     let mut digest = Digest::new();
