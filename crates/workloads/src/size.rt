@@ -22,34 +22,34 @@ impl Size {
 
     /// How many documents are printed as they are shown.
     pub fn documents(self) -> usize {
-        self.of(8, 1_600)
+        self.of(2, 1_600)
     }
 
     /// How many documents are printed with their levels.
     pub fn documents_with_levels(self) -> usize {
-        self.of(2, 400)
+        self.of(1, 400)
     }
 
     /// How many characters the text has whose paragraphs are laid out.
     pub fn characters(self) -> usize {
-        self.of(12_000, 3_000_000)
+        self.of(4_000, 3_000_000)
     }
 
     /// How many lines are laid out one by one.
     pub fn lines(self) -> usize {
-        self.of(128, 400_000)
+        self.of(40, 400_000)
     }
 
     /// How many test files are written and read.
     pub fn row_files(self) -> usize {
-        self.of(12, 240)
+        self.of(6, 240)
     }
 
     /// How many hostile texts are laid out, and how long they are.
     pub fn hostile(self) -> Amount {
         Amount {
             texts: self.of(9, 1_200),
-            units: self.of(2_000, 60_000),
+            units: self.of(500, 60_000),
         }
     }
 }
