@@ -1,13 +1,26 @@
-//! Finds the library libbidi_c: in the folder that BIDI_LIB_DIR names in full, or else the one that pkg-config names.
-//! It links the archives if the folder has them, or else the shared object; BIDI_LINK, `static` or `shared`, chooses.
+//! Finds the library libbidi_c: in the folder that BIDI_LIB_DIR names in full, or else in the crate's own folder
+//! lib/MACHINE, which a release has for x86_64 and aarch64, or else in the one that pkg-config names. It links the
+//! archives if the folder has them, or else the shared object; BIDI_LINK, `static` or `shared`, chooses. With `shared`
+//! the crate's own folder is left out.
 use std::env;
 use std::path::{Path, PathBuf};
 use std::process::Command;
 
 const VARIABLES: [&str; 4] = ["BIDI_LIB_DIR", "BIDI_LINK", "PKG_CONFIG", "PKG_CONFIG_PATH"];
 
-/// Returns the folder that pkg-config names.
-fn installed_folder() -> Result<PathBuf, String> {
+/// Returns the folder of the crate with the archives for the target, a Linux on x86_64 or aarch64.
+fn own_folder(target: &str) -> Option<PathBuf> {
+    let is_linux = ["-linux-gnu", "-linux-musl"].iter().any(|end| target.ends_with(end));
+    let machine = target.split('-').next().filter(|_| is_linux)?;
+    let folder = Path::new(&env::var_os("CARGO_MANIFEST_DIR")?).join("lib").join(machine);
+    folder.exists().then_some(folder)
+}
+
+/// Returns the folder that pkg-config names. That is one of this machine.
+fn installed_folder(target: &str) -> Result<PathBuf, String> {
+    if env::var("HOST").ok().as_deref() != Some(target) {
+        return Err(format!("no libbidi_c for {target}: name its folder in full in BIDI_LIB_DIR"));
+    }
     let command = env::var("PKG_CONFIG").unwrap_or("pkg-config".to_string());
     let output = Command::new(&command)
         .args(["--print-errors", "--variable=libdir", "bidi_c"])
@@ -21,10 +34,12 @@ fn installed_folder() -> Result<PathBuf, String> {
     Ok(folder.into())
 }
 
-/// Returns the folder that BIDI_LIB_DIR names, or else the one that pkg-config names.
+/// Returns the folder that BIDI_LIB_DIR names, or else the crate's own, or else the one that pkg-config names.
 fn library_folder() -> Result<PathBuf, String> {
+    let target = env::var("TARGET").map_err(|error| format!("no TARGET: {error}"))?;
+    let is_shared = env::var("BIDI_LINK").is_ok_and(|link| link == "shared");
     match env::var_os("BIDI_LIB_DIR").filter(|name| !name.is_empty()).map(PathBuf::from) {
-        None => installed_folder(),
+        None => own_folder(&target).filter(|_| !is_shared).map_or_else(|| installed_folder(&target), Ok),
         Some(folder) if folder.is_absolute() => Ok(folder),
         // cargo runs this program in the folder of the crate, not in the one where cargo was called.
         Some(folder) => Err(format!("BIDI_LIB_DIR is `{}`: name the folder in full, from /", folder.display())),
@@ -51,6 +66,9 @@ fn links_archives(folder: &Path) -> Result<bool, String> {
 /// Names the library for the linker.
 fn link() -> Result<(), String> {
     println!("cargo:rerun-if-changed=build.rs");
+    if Path::new("lib").exists() {
+        println!("cargo:rerun-if-changed=lib");
+    }
     for name in VARIABLES {
         println!("cargo:rerun-if-env-changed={name}");
     }
