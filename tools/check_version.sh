@@ -27,7 +27,7 @@ says crates/for_c "$(sed -n 's/^pub const VERSION: &str = "\(.*\)";$/\1/p' crate
 says c/bidi.h "$(sed -n 's/^#define BIDI_VERSION "\(.*\)"$/\1/p' c/bidi.h)"
 numbers=$(sed -n 's/^#define BIDI_VERSION_\(MAJOR\|MINOR\|PATCH\) \([0-9]*\)$/\2/p' c/bidi.h)
 says "c/bidi.h, by numbers," "$(tr '\n' . <<< "$numbers" | sed 's/\.$//')"
-tools/edition.py --check || wrong=$((wrong + 1))
+editions=$(tools/edition.py --check) || { echo "$editions" >&2; wrong=$((wrong + 1)); }
 edition=$(cat data/EDITION)
 built_in=$(sed -n 's/^- The built-in tables are those of Unicode \([0-9.]*[0-9]\).*$/\1/p' CHANGELOG.md | head -n 1)
 if [ "$built_in" != "$edition" ]; then

@@ -5,9 +5,9 @@ usage: tools/edition.py [--check]
 
 PLACES has the files, and for each what is before the number there. A number keeps its form: 17.0.0, or 17.0. With
 --check the script writes nothing. It names each place that has another edition, each text of PLACES that is nowhere in
-its file, and each other file that names this edition after the word Unicode. It ends with 0 if there is none of these,
-else with 1. tools/standard_tables.py writes the constants of `standard`; here they are only compared. Run tools/draw_crates.py after
-a change: it draws docs/crates.svg. A stored output with the number is written too.
+its file, and in a clone each other file that names this edition after the word Unicode. It ends with 0 if there is none
+of these, else with 1. tools/standard_tables.py writes the constants of `standard`; here they are only compared. Run
+tools/draw_crates.py after a change: it draws docs/crates.svg. A stored output with the number is written too.
 """
 import pathlib
 import re
@@ -78,9 +78,8 @@ def line_of(text, match):
 def unlisted():
     """Returns the files that name this edition after the word Unicode, and aren't listed above."""
     pattern = rf"Unicode {re.escape(in_form('0.0'))}([^0-9]|$)"
-    named = subprocess.run(
-        ["git", "grep", "-lIE", pattern], cwd=TOP, stdout=subprocess.PIPE, check=False, encoding="utf-8"
-    ).stdout.split("\n")
+    words = ["git", "grep", "-lIE", pattern]
+    named = subprocess.run(words, cwd=TOP, capture_output=True, check=False, encoding="utf-8").stdout.split("\n")
     known = {*PLACES, *WRITTEN}
     return [name for name in named if name and name not in known and not name.startswith(OTHERS)]
 
