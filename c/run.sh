@@ -17,20 +17,21 @@
 set -u
 here=$(cd "$(dirname "$0")" && pwd)
 folder=${1:-/usr/share/unicode}
-crate=$here/../crates/bidi_c
-library=$crate/out/libbidi_c.a
+# shellcheck source=c/machine.sh
+. "$here/machine.sh"
+library=$out/libbidi_c.a
 command=$here/../crates/bidi/out/bidi
 
 if ! command -v gcc > /dev/null; then
     echo "no gcc: the programs in C are not built"
     exit 0
 fi
-heap=${RATTLE_C:-$(dirname "$(readlink -f "$(command -v rt)")")/../c}/liblibc_c.a
+find_heap
 work=$(mktemp -d) || exit 2
 trap 'rm -r "$work"' EXIT
-if ! "$here/build_library.sh" > "$work/lib" 2>&1 || [ ! -e "$library" ] || [ ! -e "$heap" ]; then
+if ! "$here/build_library.sh" > "$work/lib" 2>&1 || [ ! -e "$library" ]; then
     tail -n 5 "$work/lib" >&2
-    echo "no $library, or no $heap (RATTLE_C names its folder)" >&2
+    echo "no $library" >&2
     exit 2
 fi
 failures=0

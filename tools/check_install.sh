@@ -53,7 +53,7 @@ parts() {
         printf '%s\n' bin/bidi bin/bidi-draw include/bidi.h share/man/man1/bidi.1 share/man/man1/bidi-draw.1 \
             "$1/libbidi_c.a" "$1/libbidi_c_heap.a" "$1/pkgconfig/bidi_c.pc" "$1/libbidi_c.so" \
             "$1/libbidi_c.so.${version%%.*}" "$1/libbidi_c.so.$version"
-        [ "$has_fribidi" = no ] || echo "$1/libfribidi_over_bidi.so"
+        [ "$has_fribidi" = no ] || echo "$1/bidi/libfribidi_over_bidi.so"
         (cd "$top" && printf 'share/doc/bidi/%s\n' LICENSE-* NOTICES ./*.md docs/*.md docs/*.svg | sed 's|/\./|/|')
     } | LC_ALL=C sort
 }
@@ -132,8 +132,8 @@ starts() {
 # replaces PREFIX: a program over FriBidi, linked with what is installed before FriBidi, calls this library alone.
 replaces() {
     [ "$has_fribidi" = yes ] || return 0
-    gcc -I/usr/include/fribidi -o calls "$top/c/fribidi/calls.c" "-L$1/$libdir" -lfribidi_over_bidi -lfribidi \
-        "-Wl,-rpath,$1/$libdir"
+    gcc -I/usr/include/fribidi -o calls "$top/c/fribidi/calls.c" "-L$1/$libdir/bidi" -lfribidi_over_bidi -lfribidi \
+        "-Wl,-rpath,$1/$libdir/bidi"
     is "FriBidi's calls of $1" "replaced: 10 of 10" "$(./calls < /dev/null 2>&1)"
 }
 

@@ -2,19 +2,21 @@
 # Makes a release twice (tools/release.sh), compares the bytes, and tries each file of it in an empty root: a folder
 # with the C library, a shell, gcc, pkg-config and Python, copied from the Debian packages of this machine, and without
 # the kit. There the program, a program in C and one in Python run from the archive and the wheel, and then from the
-# Debian packages, which `dpkg --root` installs and removes. If libfribidi-dev is installed, programs that use FriBidi
-# run there too, over this library. Nothing else is started there. Where cargo is, a program in Rust is built over the
-# crate and the archive, outside of the root. It says what it leaves out because this machine lacks it. It ends with 0
-# if all is as it should be, with 1 if not, and with 2 if no release can be made.
+# Debian packages, which `dpkg --root` installs and removes, with the tests of debian/tests. A program loads the shared
+# object for x86-64-v2 if the C library sees that level, and the other one if not. If libfribidi-dev is installed,
+# programs that use FriBidi run there too, over this library. Nothing else is started there. Where cargo is, a program
+# in Rust is built over the crate, outside of the root. What is for aarch64 is looked at, and tools/check_machines.sh
+# runs the library. It says what it leaves out because this machine lacks it. It ends with 0 if all is as it should be,
+# with 1 if not, and with 2 if no release can be made.
 #
-# usage: tools/check_release.sh      (some 30 seconds; build first, as tools/release.sh says)
+# usage: tools/check_release.sh      (a minute; build first, as tools/release.sh says)
 set -u
 tools=$(cd "$(dirname "$0")" && pwd)
 top=$(dirname "$tools")
 version=$(cat "$top/VERSION") || exit 2
 work=$(mktemp -d) || exit 2
 trap 'rm -rf "$work"' EXIT
-for command in git dpkg-deb python3 gcc strip; do
+for command in git dpkg-deb python3 gcc strip objdump; do
     command -v "$command" > /dev/null || { echo "no $command: no release is made"; exit 0; }
 done
 wrong=0
@@ -39,7 +41,8 @@ if [ -e /usr/include/fribidi/fribidi.h ]; then
 else
     echo "no libfribidi-dev: FriBidi's calls are not released"
 fi
-is "files of a release" $((5 + ${#released[@]})) "$(find "$work/dist" -type f | wc -l)"
+# Of each package whose name begins with lib there is one for each machine.
+is "files of a release" $((7 + 2 * ${#released[@]} - 3)) "$(find "$work/dist" -type f | wc -l)"
 for file in "$work"/dist/*.tar.gz "$work"/dist/*.crate; do
     is "times in ${file##*/}" "2023-11-14 22:13:20" \
         "$(tar -tvzf "$file" --full-time --utc | awk '{ print $4, $5 }' | sort -u)"
@@ -55,16 +58,53 @@ while read -r name; do
     is "the crate $name in NOTICES" 0 "$(grep -qw "$name" "$source/NOTICES"; echo $?)"
 done < <(sed -n '/^#/d; s/^[^:]*: //p' "$source/crates.txt" | tr ' ' '\n' | sort -u |
     while read -r name; do [ -e "$source/crates/$name" ] || echo "$name"; done)
+# No bug of Debian asks for the packages, so their first upload closes none.
 if command -v lintian > /dev/null; then
-    is "errors that lintian finds" "" "$(lintian --fail-on none "$work"/dist/*.deb 2> /dev/null | grep '^E:')"
+    is "what lintian finds" "" "$(lintian --fail-on none "$work"/dist/*.deb 2> /dev/null |
+        grep '^[EW]:' | grep -v ': initial-upload-closes-no-bugs ')"
 else
     echo "no lintian: the Debian packages are not checked with it"
 fi
 
-# try_crate: cargo takes the unpacked crate as it is, and the example of its README.md, built over it and over the
-# archive, prints what that says.
+# newest FILE: the newest symbol version of the C library that a shared object needs.
+newest() {
+    objdump -T "$1" | grep -oE 'GLIBC_[0-9.]+' | sort -Vu | tail -n 1
+}
+
+# Each wheel needs no symbol after GLIBC_2.17, which manylinux2014 has, and no library but the C library.
+for machine in x86_64 aarch64; do
+    python3 -m zipfile -e "$work"/dist/*_$machine.whl "$work/wheel-$machine"
+    shared=$(echo "$work/wheel-$machine"/bidi_proved/*.so.*)
+    is "symbols of the wheel for $machine" GLIBC_2.17 "$({ newest "$shared"; echo GLIBC_2.17; } | sort -V | tail -n 1)"
+    is "libraries of the wheel for $machine" libc.so.6 \
+        "$(objdump -p "$shared" | sed -n 's/^ *NEEDED *//p' | grep -v '^ld-linux-aarch64' | paste -sd' ')"
+    is "the tag of the wheel for $machine" "Tag: py3-none-manylinux2014_$machine" \
+        "$(grep '^Tag: ' "$work/wheel-$machine"/*.dist-info/WHEEL)"
+done
+
+# Each package and each archive has shared objects for its machine alone.
+while read -r name machine; do
+    mkdir -p "$work/of/$name"
+    for file in "$work"/dist/*"$name".{deb,tar.gz}; do
+        case $(test -e "$file" && echo "$file") in
+            *.deb) dpkg-deb -x "$file" "$work/of/$name" ;;
+            *.gz) tar -xzf "$file" -C "$work/of/$name" ;;
+        esac
+    done
+    is "machines of $name" "$machine" "$(find "$work/of/$name" -name '*.so.*' -type f -o -name '*.so' -type f |
+        xargs -r readelf -h | sed -n 's/^ *Machine: *//p' | sort -u)"
+done << END
+amd64 Advanced Micro Devices X86-64
+arm64 AArch64
+x86_64 Advanced Micro Devices X86-64
+aarch64 AArch64
+END
+
+# try_crate: cargo takes the unpacked crate as it is, and the example of its README.md, built over it, with the archives
+# in it and with the shared object of the archive, prints what that says. For each machine the crate's build program
+# names the archives for it, and for another one it fails.
 try_crate() {
-    local folder=$work/cargo crate=bidi-proved-$version
+    local folder=$work/cargo crate=bidi-proved-$version machine
     mkdir -p "$folder/program/src"
     tar -xzf "$work/dist/$crate.crate" -C "$folder"
     tar -xzf "$work/dist/bidi-$version-linux-x86_64.tar.gz" -C "$folder"
@@ -74,8 +114,19 @@ try_crate() {
     printf '[package]\nname = "program"\nedition = "2021"\n[dependencies]\nbidi-proved = { path = "../%s" }\n' \
         "$crate" > "$folder/program/Cargo.toml"
     awk '/^```/ { inside = /^```rust$/; next } inside' "$folder/$crate/README.md" > "$folder/program/src/main.rs"
-    is "a program in Rust" "12 (cd) בא" "$(cd "$folder/program" &&
-        BIDI_LIB_DIR=$folder/bidi-$version-linux-x86_64/lib cargo run -q --offline 2>&1 | head -n 1)"
+    is "a program in Rust" "12 (cd) בא" "$(cd "$folder/program" && cargo run -q --offline 2>&1 | head -n 1)"
+    is "a program in Rust, with the shared object" "12 (cd) בא" "$(cd "$folder/program" &&
+        BIDI_LINK=shared BIDI_LIB_DIR=$folder/bidi-$version-linux-x86_64/lib \
+            LD_LIBRARY_PATH=$folder/bidi-$version-linux-x86_64/lib cargo run -q --offline 2>&1 | head -n 1)"
+    rustc --edition 2021 -o "$folder/build" "$folder/$crate/build.rs"
+    for machine in x86_64 aarch64; do
+        is "the archives of the crate for $machine" "$folder/$crate/lib/$machine" "$(cd "$folder/$crate" &&
+            HOST=x86_64-unknown-linux-gnu TARGET=$machine-unknown-linux-gnu CARGO_MANIFEST_DIR=$PWD "$folder/build" |
+            sed -n 's/.*search=native=//p')"
+    done
+    is "the crate for another machine" "no libbidi_c for riscv64gc-unknown-linux-gnu: name its folder in full in \
+BIDI_LIB_DIR" "$(cd "$folder/$crate" && HOST=x86_64-unknown-linux-gnu TARGET=riscv64gc-unknown-linux-gnu \
+        CARGO_MANIFEST_DIR=$PWD "$folder/build" 2>&1 | grep -v '^cargo:')"
 }
 if cargo --version > /dev/null 2>&1; then
     try_crate
@@ -144,15 +195,16 @@ builds() {
         "$(inside "$environment" /tmp/demo /tmp/ucd 20 < "$top/c/demo.txt")"
 }
 
-# replaces LABEL PRELOAD WORD..: programs over FriBidi run on this library if this shared object is named at the start,
-# and if they are linked with these words before FriBidi. FriBidi 1.0.8 gets the row wrong.
+# replaces LABEL FOLDER WORD..: programs over FriBidi run on this library if the shared object in this folder is named
+# at the start, and if they are linked with it before FriBidi, and with these words. FriBidi 1.0.8 gets the row wrong.
 replaces() {
-    local label=$1 preload=$2 row='2068 0026 2069 2068 05D0;0;0;0 2 0 0 1;0 1 2 3 4'
+    local label=$1 folder=$2 row='2068 0026 2069 2068 05D0;0;0;0 2 0 0 1;0 1 2 3 4'
     shift 2
     [ -e "$root/usr/include/fribidi/fribidi.h" ] || return 0
     inside gcc -I/usr/include/fribidi -o /tmp/calls /tmp/calls.c -lfribidi
-    is "$label: FriBidi's calls" "replaced: 10 of 10" "$(inside "LD_PRELOAD=$preload" /tmp/calls < /dev/null)"
-    inside gcc -I/usr/include/fribidi -o /tmp/rows /tmp/rows.c "$@" -lfribidi
+    is "$label: FriBidi's calls" "replaced: 10 of 10" \
+        "$(inside "LD_PRELOAD=$folder/libfribidi_over_bidi.so" /tmp/calls < /dev/null)"
+    inside gcc -I/usr/include/fribidi -o /tmp/rows /tmp/rows.c "-L$folder" -lfribidi_over_bidi "$@" -lfribidi
     is "$label: a program over FriBidi" "$row" "$(inside /tmp/rows <<< "$row")"
 }
 
@@ -163,6 +215,22 @@ import bidi_proved as bidi, importlib.metadata as installed
 print(installed.version("bidi_proved"), *bidi.display("אב (cd) 12", bidi.Tables.standard()))')"
 }
 
+# levels LABEL LIBDIR: the demo that was built last loads the shared object of the level that the C library sees, and
+# prints the same. A tunable hides what makes a processor one of x86-64-v2.
+levels() {
+    local tunable folder
+    while read -r tunable folder; do
+        is "$1: a program in C, $tunable" "$(cat "$top/c/demo.out")" \
+            "$(inside "GLIBC_TUNABLES=$tunable" "LD_LIBRARY_PATH=$2" /tmp/demo /tmp/ucd 20 < "$top/c/demo.txt")"
+        is "$1: what it loads, $tunable" "$2${folder:+/$folder}/libbidi_c.so.${version%%.*}" \
+            "$(inside "GLIBC_TUNABLES=$tunable" LD_DEBUG=libs "LD_LIBRARY_PATH=$2" /tmp/demo /tmp/ucd 20 \
+                < "$top/c/demo.txt" | sed -n 's/.*calling init: \(.*libbidi_c.*\)/\1/p')"
+    done << END
+glibc.malloc.check=0 glibc-hwcaps/x86-64-v2
+glibc.cpu.hwcaps=-SSE4_2
+END
+}
+
 try_archive() {
     local name=bidi-$version-linux-x86_64 libdir=/opt/bidi-$version-linux-x86_64/lib
     mkdir "$root/opt"
@@ -171,16 +239,17 @@ try_archive() {
     flags "$libdir" --libs
     builds "archive, its folder named" "LD_LIBRARY_PATH=$libdir" "${said_flags[@]}"
     builds "archive, its folder noted" A=1 "${said_flags[@]}" "-Wl,-rpath,$libdir"
+    levels archive "$libdir"
     flags "$libdir" --cflags
     builds "archive, static" A=1 "${said_flags[@]}" "$libdir/libbidi_c.a" "$libdir/libbidi_c_heap.a"
-    replaces archive "$libdir/libfribidi_over_bidi.so" "-L$libdir" -lfribidi_over_bidi "-Wl,-rpath,$libdir"
+    replaces archive "$libdir/bidi" "-Wl,-rpath,$libdir/bidi"
     if python3 -m pip --version > /dev/null 2>&1; then
-        python3 -m pip install -q --no-index --no-deps --no-compile --target "$root/site" "$work"/dist/*.whl \
+        python3 -m pip install -q --no-index --no-deps --no-compile --target "$root/site" "$work"/dist/*_x86_64.whl \
             > "$work/said" 2>&1
         is "status of pip" 0 $?
     else
         echo "no pip: the wheel is unpacked by hand"
-        python3 -m zipfile -e "$work"/dist/*.whl "$root/site"
+        python3 -m zipfile -e "$work"/dist/*_x86_64.whl "$root/site"
     fi
     imports wheel /site
     rm -r "${root:?}/opt" "$root/site"
@@ -192,15 +261,21 @@ files() {
 }
 
 try_packages() {
+    local libdir=/usr/lib/x86_64-linux-gnu test
     files > "$work/before"
-    dpkg --root="$root" --log="$work/log" -i "$work"/dist/*.deb > "$work/said" 2>&1
+    dpkg --root="$root" --log="$work/log" -i "$work"/dist/*_{amd64,all}.deb > "$work/said" 2>&1
     is "status of dpkg" 0 $?
     is "packages installed" ${#released[@]} \
         "$(dpkg-query --root="$root" -W -f '${Source} ${db:Status-Status}\n' | grep -c '^bidi installed')"
     runs packages /usr
     flags /none --libs
     builds packages A=1 "${said_flags[@]}"
-    replaces packages libfribidi_over_bidi.so -lfribidi_over_bidi
+    levels packages "$libdir"
+    replaces packages "$libdir/bidi" "-Wl,-rpath,$libdir/bidi"
+    for test in library module program; do
+        cp "$source/debian/tests/$test" "$root/tmp/"
+        is "the test $test of the packages" 0 "$(inside sh "/tmp/$test" > "$work/said"; echo $?)"
+    done
     imports packages /none
     dpkg --root="$root" --log="$work/log" -P "${released[@]}" > "$work/said" 2>&1
     is "status of dpkg at the end" 0 $?

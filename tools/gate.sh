@@ -5,8 +5,8 @@
 #   program on files of the system, the commands of the documents and the version. If a C compiler is installed, tests
 #   and the program also run with each growth refused.
 # - In a clone of what is committed the library for C and the program are built. Then come the programs in C, what is
-#   installed, the module for Python, the crate for Rust, FriBidi's calls, the drawings and a release, and last edits of
-#   wrong/, over what was proved for the library and the program.
+#   installed, the module for Python, the crate for Rust, FriBidi's calls, the drawings, the library for other machines
+#   and a release, and last edits of wrong/, over what was proved for the library and the program.
 #
 # The kit stores on the machine what `rt ci` passed, for later runs of `rt ci`, and what `rt check` proved, for later
 # checks. So on a machine that has seen most of the files before, both lines are short. Neither starts from what the
@@ -30,8 +30,8 @@ if command -v "${CC:-cc}" > /dev/null; then
 fi
 here+=(tools/check_docs.py tools/check_version.sh)
 there=(c/build_library.sh "bash -c 'cd crates/bidi && rt run -- --version'" c/run.sh tools/check_install.sh
-    tools/check_python.sh tools/check_rust.sh tools/check_fribidi.sh tools/check_draw.sh tools/check_release.sh
-    "$edits")
+    tools/check_python.sh tools/check_rust.sh tools/check_fribidi.sh tools/check_draw.sh tools/check_machines.sh
+    tools/check_release.sh "$edits")
 
 work=$(mktemp -d)
 leave() {

@@ -6,7 +6,8 @@
 # usage: tools/install.sh [--uninstall] [--libdir DIR] PREFIX      (--help says what is installed and what it needs)
 #
 # It ends with 1 if something that was built is not installed, and with 2, before it does anything, if an argument is
-# unknown or the program is missing.
+# unknown or the program is missing. MACHINE in the environment names another machine to install for (c/machine.sh). For
+# aarch64 there are no programs, since the kit links them for x86-64 alone; the library and the documents are installed.
 set -u
 top=$(cd "$(dirname "$0")/.." && pwd)
 version=$(cat "$top/VERSION") || exit 2
@@ -28,32 +29,37 @@ changed. The library and the shared objects are installed if they were built. Wh
   PREFIX/include/bidi.h
   PREFIX/LIBDIR/libbidi_c.a, PREFIX/LIBDIR/libbidi_c_heap.a, PREFIX/LIBDIR/pkgconfig/bidi_c.pc
   PREFIX/LIBDIR/libbidi_c.so.$version, and the links libbidi_c.so.${version%%.*} and libbidi_c.so to it
-  PREFIX/LIBDIR/libfribidi_over_bidi.so, which docs/FRIBIDI.md describes
+  PREFIX/LIBDIR/bidi/libfribidi_over_bidi.so, which docs/FRIBIDI.md describes
 
 The program needs Linux on x86-64-v2 (a processor of 2009 or later) and the C library, no other library. bidi-draw
-needs Python 3.8 or later. DIR of the option --tables holds the property files of Unicode, as the package unicode-data
-has them."
+needs Python 3.8 or later. MACHINE=x86_64 in the environment installs what tools/build_machines.sh built for each x86-64
+processor, and MACHINE=aarch64 the library for 64-bit ARM. DIR of the option --tables holds the property files of
+Unicode, as the package unicode-data has them."
 # shellcheck source=tools/prefix.sh
 . "$top/tools/prefix.sh"
 read_words "$help" "$@"
-program=$top/crates/bidi/out/bidi
-if [ "$uninstall" = no ] && [ ! -x "$program" ]; then
-    echo "no program at $program, so nothing is installed: run rt run -- --help in crates/bidi" >&2
-    exit 2
+# shellcheck source=c/machine.sh
+. "$top/c/machine.sh"
+program=$top/crates/bidi/out$folder/bidi
+if [ "${MACHINE:-}" != aarch64 ]; then
+    if [ "$uninstall" = no ] && [ ! -x "$program" ]; then
+        echo "no program at $program, so nothing is installed: run rt run -- --help in crates/bidi" >&2
+        exit 2
+    fi
+    put 755 "$program" bin/bidi &&
+        put 755 "$top/draw/bidi-draw" bin/bidi-draw &&
+        put 644 "$top/docs/bidi.1" share/man/man1/bidi.1 &&
+        put 644 "$top/docs/bidi-draw.1" share/man/man1/bidi-draw.1 || exit 1
 fi
-put 755 "$program" bin/bidi &&
-    put 755 "$top/draw/bidi-draw" bin/bidi-draw &&
-    put 644 "$top/docs/bidi.1" share/man/man1/bidi.1 &&
-    put 644 "$top/docs/bidi-draw.1" share/man/man1/bidi-draw.1 &&
-    put_documents "$top" &&
-    put_licences "$top" || exit 1
+put_documents "$top" && put_licences "$top" || exit 1
 if [ "$uninstall" = yes ]; then
     "$top/c/install.sh" --uninstall --libdir "$libdir" "$prefix" || exit 1
     echo "removed from $root"
     exit 0
 fi
 installed="installed in $root: the programs, their manual pages and the documents"
-if [ ! -e "$top/crates/bidi_c/out/libbidi_c.a" ]; then
+[ "${MACHINE:-}" != aarch64 ] || installed="installed in $root: the documents"
+if [ ! -e "$out/libbidi_c.a" ]; then
     echo "$installed; no library for C was built"
 elif said=$("$top/c/install.sh" --libdir "$libdir" "$prefix" 2>&1); then
     printf '%s\n' "$installed; the library for C and its header" ${said:+"$said"}

@@ -61,7 +61,7 @@ put() {
     fi
 }
 
-# link TARGET NAME: the same for a link.
+# link TARGET NAME: the same for a link, whose folder is there.
 link() {
     if [ "$uninstall" = yes ]; then
         rm -f -- "$root/$2"

@@ -1,0 +1,32 @@
+# shellcheck shell=bash disable=SC2034
+# The machine that the library is built, linked or installed for; the scripts of c/ and tools/ source this file. MACHINE
+# in the environment names it: x86_64 is each x86-64 processor, aarch64 each 64-bit ARM processor. Without it, it is
+# what `rt lib` builds by itself, x86-64-v2. It sets
+#   for_rt   the words of `rt` for it
+#   cross    what the names of its gcc, nm and strip begin with
+#   folder   the end of the name of a folder out/ for it: nothing, or its name after a slash
+#   out      the folder of its built library
+case ${MACHINE:-} in
+    '') for_rt=() cross='' folder='' ;;
+    x86_64) for_rt=(--cpu x86-64) cross='' folder=/x86_64 ;;
+    aarch64) for_rt=(--target aarch64-unknown-linux-gnu) cross=aarch64-linux-gnu- folder=/aarch64 ;;
+    *) echo "MACHINE is '$MACHINE', neither x86_64 nor aarch64" >&2; exit 2 ;;
+esac
+out=$(cd "$(dirname "${BASH_SOURCE[0]}")/.." && pwd)/crates/bidi_c/out$folder
+
+# find_heap: sets `heap` to the part that allocates: the kit's, which the command rt finds or RATTLE_C in the
+# environment names, or for aarch64 that of heap.c. It ends with 2 if there is none.
+find_heap() {
+    local rt
+    if [ "${MACHINE:-}" = aarch64 ]; then
+        heap=$out/libbidi_c_heap.a
+    elif [ -n "${RATTLE_C:-}" ]; then
+        heap=$RATTLE_C/liblibc_c.a
+    elif rt=$(command -v rt); then
+        heap=$(dirname "$(readlink -f "$rt")")/../c/liblibc_c.a
+    else
+        echo "no rt on PATH: set RATTLE_C to the kit's folder c, of liblibc_c.a" >&2
+        exit 2
+    fi
+    [ -e "$heap" ] || { echo "no $heap" >&2; exit 2; }
+}
