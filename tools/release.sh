@@ -47,7 +47,7 @@ done
 git -C "$top" diff --quiet HEAD || stop "not all is committed, and the source archive has only what is"
 SOURCE_DATE_EPOCH=${SOURCE_DATE_EPOCH:-$(git -C "$top" log -1 --format=%ct)}
 export SOURCE_DATE_EPOCH
-maintainer=$(git -C "$top" log -1 --format='%an <%ae>')
+maintainer=$(sed -n 's/^Maintainer: //p' "$top/debian/control")
 mkdir -p "$dist"
 dist=$(cd "$dist" && pwd)
 work=$(mktemp -d)
@@ -131,26 +131,24 @@ add_documents() {
     } > "$folder/copyright"
 }
 
-# build PACKAGE ARCHITECTURE SECTION FIELDS: the package of its files, with a description from standard input.
+# build PACKAGE ARCHITECTURE [LIBC]: the package of its files, as debian/control describes it. LIBC is the C library
+# that its files need.
 build() {
-    local package=$1 architecture=$2 section=$3 fields=$4 root=$stage/$1 size
+    local package=$1 architecture=$2 root=$stage/$1 size
     add_documents "$package"
     size=$(find "$root" -type f -printf '%s\n' | awk '{ sum += int(($1 + 1023) / 1024) } END { print sum }')
     mkdir -p "$root/DEBIAN"
     {
         printf 'Package: %s\nSource: bidi\nVersion: %s\nArchitecture: %s\n' "$package" "$debian" "$architecture"
-        printf 'Maintainer: %s\nInstalled-Size: %s\n%s\n' "$maintainer" "$size" "$fields"
+        printf 'Maintainer: %s\nInstalled-Size: %s\nPriority: optional\n' "$maintainer" "$size"
         [ -z "${HOMEPAGE:-}" ] || printf 'Homepage: %s\n' "$HOMEPAGE"
-        printf 'Section: %s\nPriority: optional\nDescription: ' "$section"
-        cat
+        awk -v RS= -v begin="Package: $package\n" 'index($0, begin) == 1' "$top/debian/control" |
+            sed -e '/^Package:/d; /^Architecture:/d' -e "s/\${shlibs:Depends}/${3:-}/" \
+                -e "s/\${binary:Version}/$debian/; s/\${source:Upstream-Version}/$version/"
     } > "$root/DEBIAN/control"
     (cd "$root" && find usr -type f | sort | xargs -d '\n' md5sum) > "$root/DEBIAN/md5sums"
     dpkg-deb --root-owner-group -Zxz --build "$root" "$dist/${package}_${debian}_$architecture.deb" > /dev/null
 }
-
-ABOUT=' The Unicode Bidirectional Algorithm (UAX #9) defines how text that mixes
- left-to-right and right-to-left scripts is shown. This engine (rules P1 to L2
- and L4) is proved to compute what the rules define, on every input.'
 
 make_program_packages() {
     local libc
@@ -161,23 +159,11 @@ make_program_packages() {
     mv "$installed/usr/share/doc/bidi" "$stage/bidi/usr/share/doc/bidi"
     rm "$stage"/bidi/usr/share/doc/bidi/LICENSE-* "$stage/bidi/usr/share/doc/bidi/CHANGELOG.md"
     gzip -9n "$stage/bidi/usr/share/man/man1/bidi.1"
-    build bidi "$architecture" text "Depends: $libc
-Suggests: bidi-draw, unicode-data" << TEXT
-lay out bidirectional text, and judge engines that do
-$ABOUT
- .
- The program prints levels and lines, explains each rule, and judges the
- conformance files of the algorithm.
-TEXT
+    build bidi "$architecture" "$libc"
     take bidi-draw bin/bidi-draw share/man/man1/bidi-draw.1
     sed -i '1s|.*|#!/usr/bin/python3|' "$stage/bidi-draw/usr/bin/bidi-draw"
     gzip -9n "$stage/bidi-draw/usr/share/man/man1/bidi-draw.1"
-    build bidi-draw all text "Depends: bidi (>= $version), python3 (>= 3.8)" << TEXT
-draw bidirectional text, as stored and as shown
- The program draws a text as SVG: its characters as they are stored, their
- levels by the Unicode Bidirectional Algorithm (UAX #9), and the characters as
- they are shown.
-TEXT
+    build bidi-draw all
 }
 
 # The shared object for x86-64-v2, if there is one, is beside the other one: the C library takes it where it can.
@@ -194,26 +180,12 @@ make_library_packages() {
     cp "$top/c/libbidi-c1.symbols" "$control/symbols"
     echo "libbidi_c ${version%%.*} libbidi-c1 (>= $version)" > "$control/shlibs"
     echo "activate-noawait ldconfig" > "$control/triggers"
-    build libbidi-c1 "$architecture" libs "Depends: $libc
-Multi-Arch: same" << TEXT
-Unicode Bidirectional Algorithm, proved: shared library
-$ABOUT
- .
- This package has the shared library for programs in C.
-TEXT
+    build libbidi-c1 "$architecture" "$libc"
     take libbidi-c-dev include/bidi.h "$multiarch/libbidi_c.so" "$multiarch/libbidi_c.a" \
         "$multiarch/libbidi_c_heap.a" "$multiarch/pkgconfig/bidi_c.pc"
     "${cross}strip" --strip-debug --remove-section=.comment --enable-deterministic-archives \
         "$stage/libbidi-c-dev/usr/$multiarch"/*.a
-    build libbidi-c-dev "$architecture" libdevel "Depends: libbidi-c1 (= $debian)
-Suggests: bidi, pkg-config
-Multi-Arch: same" << TEXT
-Unicode Bidirectional Algorithm, proved: files for programs in C
-$ABOUT
- .
- This package has the header, the archives for static linking, and the file for
- pkg-config. The manual is docs/C.md of the package bidi.
-TEXT
+    build libbidi-c-dev "$architecture"
 }
 
 # The shared object of this package is linked with the one of libbidi-c1. The installed one has the library in it. No
@@ -227,15 +199,7 @@ make_fribidi_package() {
     lighten "$shared"
     chmod 644 "$shared"
     install -m 644 "$top/docs/FRIBIDI.md" "$root/usr/share/doc/$package/"
-    build "$package" "$architecture" libs "Depends: libbidi-c1 (>= $version), $libc
-Enhances: libfribidi0
-Multi-Arch: same" << TEXT
-Unicode Bidirectional Algorithm, proved: in the place of FriBidi
- The shared object libfribidi_over_bidi.so has FriBidi's calls of the Unicode
- Bidirectional Algorithm (UAX #9) over the library of libbidi-c1. A program that
- uses FriBidi runs on that library with LD_PRELOAD. So does a program that is
- linked with this shared object before FriBidi. FriBidi itself is unchanged.
-TEXT
+    build "$package" "$architecture" "$libc"
 }
 
 # make_wheel: the wheel with the shared object of the chosen machine, whose name it adds to the file `wheels`.
@@ -257,13 +221,7 @@ make_python_package() {
     printf '#!/bin/sh\nset -e\n# What Python itself wrote there, if root ran a program with the module.\nrm -rf %s\n' \
         /usr/lib/python3/dist-packages/bidi_proved/__pycache__ > "$root/DEBIAN/prerm"
     chmod 755 "$root/DEBIAN/prerm"
-    build python3-bidi-proved all python "Depends: libbidi-c1 (>= $version), python3 (>= 3.8)
-Suggests: bidi" << TEXT
-Unicode Bidirectional Algorithm, proved: module for Python
- The module bidi_proved lays out texts by the Unicode Bidirectional Algorithm
- (UAX #9), and judges and reports on its conformance files, with the library of
- libbidi-c1. The manual is docs/PYTHON.md of the package bidi.
-TEXT
+    build python3-bidi-proved all
 }
 
 # The crate has the files that `cargo package` takes, with the archives and the licences. Publish it from the unpacked
