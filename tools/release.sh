@@ -1,7 +1,7 @@
 #!/bin/bash
 # Makes a release from what was built, in a folder. docs/RELEASE.md says what each file needs:
 #
-#   bidi-VERSION.tar.gz                     the source, as it is committed
+#   bidi-VERSION.tar.gz                     the source, as it is committed, with debian/changelog
 #   bidi-VERSION-linux-x86_64.tar.gz        program, library, documents: what tools/install.sh installs
 #   bidi-VERSION-linux-aarch64.tar.gz       the same without the program
 #   bidi_VERSION-1_amd64.deb                the program, its manual page, the documents
@@ -61,8 +61,12 @@ pack() {
 }
 
 make_source() {
+    local date
     mkdir -p "$work/source"
     git -C "$top" archive --prefix="bidi-$version/" HEAD | tar -C "$work/source" -xf -
+    date=$(date -u -R -d "@$SOURCE_DATE_EPOCH")
+    printf 'bidi (%s) unstable; urgency=medium\n\n  * Version %s; CHANGELOG.md lists what changed.\n\n -- %s  %s\n' \
+        "$debian" "$version" "$maintainer" "$date" > "$work/source/bidi-$version/debian/changelog"
     pack "$work/source" "bidi-$version" "bidi-$version.tar.gz"
 }
 
@@ -117,11 +121,9 @@ as_field() {
 
 # add_documents PACKAGE: what each package has in its folder of documents.
 add_documents() {
-    local folder=$stage/$1/usr/share/doc/$1 date
+    local folder=$stage/$1/usr/share/doc/$1
     mkdir -p "$folder"
-    date=$(date -u -R -d "@$SOURCE_DATE_EPOCH")
-    printf 'bidi (%s) unstable; urgency=medium\n\n  * Version %s; CHANGELOG.md lists what changed.\n\n -- %s  %s\n' \
-        "$debian" "$version" "$maintainer" "$date" | gzip -9n > "$folder/changelog.Debian.gz"
+    gzip -9n < "$work/source/bidi-$version/debian/changelog" > "$folder/changelog.Debian.gz"
     gzip -9n < "$top/CHANGELOG.md" > "$folder/changelog.gz"
     install -m 644 "$top/NOTICES" "$folder/"
     {
