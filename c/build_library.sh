@@ -13,7 +13,7 @@ cd "$(dirname "$0")"
 # shellcheck source=c/machine.sh
 . ./machine.sh
 made=../crates/bidi_c/out/libbidi_c.a
-if [ -z "$folder" ]; then
+if [ -z "$subfolder" ]; then
     (cd ../crates/bidi_c && rt lib)
 else
     mkdir -p "$out"

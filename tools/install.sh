@@ -40,7 +40,7 @@ Unicode, as the package unicode-data has them."
 read_words "$help" "$@"
 # shellcheck source=c/machine.sh
 . "$top/c/machine.sh"
-program=$top/crates/bidi/out$folder/bidi
+program=$top/crates/bidi/out$subfolder/bidi
 if [ "${MACHINE:-}" != aarch64 ]; then
     if [ "$uninstall" = no ] && [ ! -x "$program" ]; then
         echo "no program at $program, so nothing is installed: run rt run -- --help in crates/bidi" >&2
