@@ -19,7 +19,9 @@ mkdir -p "out$subfolder"
 # `rt run` has one file for all machines, and a stamp that says which sources it is of.
 for file in bidi bidi.stamp; do [ ! -e "out/$file" ] || mv "out/$file" "out$subfolder/other.$file"; done
 restore() {
-    for file in bidi bidi.stamp; do [ ! -e "out$subfolder/other.$file" ] || mv "out$subfolder/other.$file" "out/$file"; done
+    for file in bidi bidi.stamp; do
+        [ ! -e "out$subfolder/other.$file" ] || mv "out$subfolder/other.$file" "out/$file"
+    done
 }
 trap restore EXIT
 rt run "${for_rt[@]}" -- --version
