@@ -30,3 +30,14 @@ find_heap() {
     fi
     [ -e "$heap" ] || { echo "no $heap" >&2; exit 2; }
 }
+
+# machines_here: prints the machines that a release can be made for here, one a line. If the compiler for 64-bit ARM is
+# missing, it says so and leaves that out.
+machines_here() {
+    echo x86_64
+    if command -v aarch64-linux-gnu-gcc > /dev/null; then
+        echo aarch64
+    else
+        echo "no aarch64-linux-gnu-gcc (gcc-aarch64-linux-gnu): nothing is made for 64-bit ARM" >&2
+    fi
+}

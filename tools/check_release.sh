@@ -19,6 +19,9 @@ trap 'rm -rf "$work"' EXIT
 for command in git dpkg-deb python3 gcc strip objdump; do
     command -v "$command" > /dev/null || { echo "no $command: no release is made"; exit 0; }
 done
+# shellcheck source=c/machine.sh
+. "$top/c/machine.sh"
+mapfile -t machines < <(machines_here)
 wrong=0
 checks=0
 
@@ -41,8 +44,8 @@ if [ -e /usr/include/fribidi/fribidi.h ]; then
 else
     echo "no libfribidi-dev: FriBidi's calls are not released"
 fi
-# Of each package whose name begins with lib there is one for each machine.
-is "files of a release" $((7 + 2 * ${#released[@]} - 3)) "$(find "$work/dist" -type f | wc -l)"
+# Of each archive, each wheel and each package whose name begins with lib there is one for each machine.
+is "files of a release" $((6 + ${#machines[@]} * (${#released[@]} - 1))) "$(find "$work/dist" -type f | wc -l)"
 for file in "$work"/dist/*.tar.gz "$work"/dist/*.crate; do
     is "times in ${file##*/}" "2023-11-14 22:13:20" \
         "$(tar -tvzf "$file" --full-time --utc | awk '{ print $4, $5 }' | sort -u)"
@@ -72,7 +75,7 @@ newest() {
 }
 
 # Each wheel needs no symbol after GLIBC_2.17, which manylinux2014 has, and no library but the C library.
-for machine in x86_64 aarch64; do
+for machine in "${machines[@]}"; do
     python3 -m zipfile -e "$work"/dist/*_$machine.whl "$work/wheel-$machine"
     shared=$(echo "$work/wheel-$machine"/bidi_proved/*.so.*)
     is "symbols of the wheel for $machine" GLIBC_2.17 "$({ newest "$shared"; echo GLIBC_2.17; } | sort -V | tail -n 1)"
@@ -83,7 +86,8 @@ for machine in x86_64 aarch64; do
 done
 
 # Each package and each archive has shared objects for its machine alone.
-while read -r name machine; do
+while read -r of name machine; do
+    [[ " ${machines[*]} " == *" $of "* ]] || continue
     mkdir -p "$work/of/$name"
     for file in "$work"/dist/*"$name".{deb,tar.gz}; do
         case $(test -e "$file" && echo "$file") in
@@ -94,10 +98,10 @@ while read -r name machine; do
     is "machines of $name" "$machine" "$(find "$work/of/$name" -name '*.so.*' -type f -o -name '*.so' -type f |
         xargs -r readelf -h | sed -n 's/^ *Machine: *//p' | sort -u)"
 done << END
-amd64 Advanced Micro Devices X86-64
-arm64 AArch64
-x86_64 Advanced Micro Devices X86-64
-aarch64 AArch64
+x86_64 amd64 Advanced Micro Devices X86-64
+aarch64 arm64 AArch64
+x86_64 x86_64 Advanced Micro Devices X86-64
+aarch64 aarch64 AArch64
 END
 
 # try_crate: cargo takes the unpacked crate as it is, and the example of its README.md, built over it, with the archives
@@ -119,7 +123,7 @@ try_crate() {
         BIDI_LINK=shared BIDI_LIB_DIR=$folder/bidi-$version-linux-x86_64/lib \
             LD_LIBRARY_PATH=$folder/bidi-$version-linux-x86_64/lib cargo run -q --offline 2>&1 | head -n 1)"
     rustc --edition 2021 -o "$folder/build" "$folder/$crate/build.rs"
-    for machine in x86_64 aarch64; do
+    for machine in "${machines[@]}"; do
         is "the archives of the crate for $machine" "$folder/$crate/lib/$machine" "$(cd "$folder/$crate" &&
             HOST=x86_64-unknown-linux-gnu TARGET=$machine-unknown-linux-gnu CARGO_MANIFEST_DIR=$PWD "$folder/build" |
             sed -n 's/.*search=native=//p')"

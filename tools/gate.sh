@@ -17,7 +17,8 @@
 # The gate fails if one of the first two kinds isn't decided then; the last line counts what isn't decided of the third.
 # With FULL=1 all edits are tried. The gate writes no record.
 #
-# What each step took is printed last and left in gate-minutes.md, if a step failed too.
+# What each step took is printed last and left in gate-minutes.md, if a step failed too. On a machine without qemu-user
+# or the compiler for 64-bit ARM, the library for other machines is not run under an emulator; the last line says so.
 set -euo pipefail
 cd "$(dirname "$0")/.."
 edits='tools/try_edits.py --here --changed --minutes=90'
@@ -30,8 +31,15 @@ if command -v "${CC:-cc}" > /dev/null; then
 fi
 here+=(tools/check_docs.py tools/check_version.sh)
 there=(c/build_library.sh "bash -c 'cd crates/bidi && rt run -- --version'" c/run.sh tools/check_install.sh
-    tools/check_python.sh tools/check_rust.sh tools/check_fribidi.sh tools/check_draw.sh tools/check_machines.sh
-    tools/check_release.sh "$edits")
+    tools/check_python.sh tools/check_rust.sh tools/check_fribidi.sh tools/check_draw.sh)
+left_out=
+if command -v qemu-aarch64 > /dev/null && command -v aarch64-linux-gnu-gcc > /dev/null; then
+    there+=(tools/check_machines.sh)
+else
+    left_out='left out: tools/check_machines.sh, since qemu-aarch64 or aarch64-linux-gnu-gcc is missing'
+    there+=(tools/build_machines.sh)
+fi
+there+=(tools/check_release.sh "$edits")
 
 work=$(mktemp -d)
 leave() {
@@ -44,6 +52,7 @@ leave() {
         fi
     done > gate-minutes.md
     cat gate-minutes.md
+    [ -z "$left_out" ] || echo "$left_out"
     rm -rf "$work"
 }
 trap leave EXIT

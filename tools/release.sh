@@ -20,7 +20,8 @@
 #
 # Build first: the library (c/build_library.sh), and what tools/build_machines.sh builds. It ends with 2 if one of these
 # or a tool is missing, if VERSION is no version, or if a tracked file is not committed, and with 1 if making a file
-# fails. Without FriBidi's headers (the package libfribidi-dev) it leaves out libfribidi-over-bidi, and says so.
+# fails. Without FriBidi's headers (the package libfribidi-dev) it leaves out libfribidi-over-bidi, and without the
+# compiler for 64-bit ARM (gcc-aarch64-linux-gnu) what is for that machine, and says so.
 # HOMEPAGE in the environment is the address that the Debian packages name, if there is one.
 set -eu
 umask 022
@@ -28,7 +29,10 @@ top=$(cd "$(dirname "$0")/.." && pwd)
 dist=${1:-$top/dist}
 version=$(cat "$top/VERSION")
 debian=$version-1
-machines=(x86_64 aarch64)
+unset MACHINE
+# shellcheck source=c/machine.sh
+. "$top/c/machine.sh"
+mapfile -t machines < <(machines_here)
 export LC_ALL=C TZ=UTC DPKG_DEB_THREADS_MAX=1
 unset DESTDIR
 
@@ -38,10 +42,10 @@ stop() {
     exit 2
 }
 [[ $version =~ ^[0-9]+\.[0-9]+\.[0-9]+$ ]] || stop "VERSION is no version: '$version'"
-for command in git tar gzip dpkg-deb python3 gcc readelf strip aarch64-linux-gnu-gcc; do
+for command in git tar gzip dpkg-deb python3 gcc readelf strip; do
     command -v "$command" > /dev/null || stop "no $command"
 done
-for file in bidi/out/x86_64/bidi bidi_c/out/libbidi_c.a bidi_c/out/{x86_64,aarch64}/libbidi_c.a; do
+for file in bidi/out/x86_64/bidi bidi_c/out/libbidi_c.a $(printf 'bidi_c/out/%s/libbidi_c.a ' "${machines[@]}"); do
     [ -e "$top/crates/$file" ] || stop "no crates/$file: build it first"
 done
 git -C "$top" diff --quiet HEAD || stop "not all is committed, and the source archive has only what is"
