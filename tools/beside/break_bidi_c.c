@@ -1,7 +1,7 @@
 /* The engine of this repository, through the library for C: breaks a text that is laid out into lines of 80 again, and
  * copies out each line's order. Only that is timed. */
 #include "lay_out.h"
-#include "../c/bidi.h"
+#include "../../c/bidi.h"
 
 static bidi_tables tables = BIDI_NONE;
 static bidi_room text_room = BIDI_NONE;

@@ -1,7 +1,7 @@
 /* The engine of this repository, through the library for C: the layout, with its levels and its order copied out. */
 #define WITH_LINES
 #include "lay_out.h"
-#include "../c/bidi.h"
+#include "../../c/bidi.h"
 
 static bidi_tables tables = BIDI_NONE;
 static bidi_room text_room = BIDI_NONE;

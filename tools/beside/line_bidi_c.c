@@ -1,7 +1,7 @@
 /* The engine of this repository, through the library for C: lays out each line of 80 of a text that is laid out, alone,
  * one after another, with its levels and its order. Only that is timed. */
 #include "lay_out.h"
-#include "../c/bidi.h"
+#include "../../c/bidi.h"
 
 static bidi_tables tables = BIDI_NONE;
 static bidi_room text_room = BIDI_NONE;

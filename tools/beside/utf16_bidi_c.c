@@ -1,7 +1,7 @@
 /* The engine of this repository, through the library for C: decodes and lays out a text in UTF-16, made beforehand, and
  * copies out the levels and the order of its characters. */
 #include "lay_out.h"
-#include "../c/bidi.h"
+#include "../../c/bidi.h"
 
 static bidi_tables tables = BIDI_NONE;
 static bidi_room text_room = BIDI_NONE;

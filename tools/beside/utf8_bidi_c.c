@@ -2,7 +2,7 @@
  * levels and the order of its characters. */
 #define WITH_LINES
 #include "lay_out.h"
-#include "../c/bidi.h"
+#include "../../c/bidi.h"
 
 static bidi_tables tables = BIDI_NONE;
 static bidi_room text_room = BIDI_NONE;
