@@ -32,11 +32,11 @@ fi
 here+=(tools/check_docs.py tools/check_version.sh)
 there=(c/build_library.sh "bash -c 'cd crates/bidi && rt run -- --version'" c/run.sh tools/check_install.sh
     tools/check_python.sh tools/check_rust.sh tools/check_fribidi.sh tools/check_draw.sh)
-left_out=
+omitted=
 if command -v qemu-aarch64 > /dev/null && command -v aarch64-linux-gnu-gcc > /dev/null; then
     there+=(tools/check_machines.sh)
 else
-    left_out='left out: tools/check_machines.sh, since qemu-aarch64 or aarch64-linux-gnu-gcc is missing'
+    omitted='omitted: tools/check_machines.sh, since qemu-aarch64 or aarch64-linux-gnu-gcc is missing'
     there+=(tools/build_machines.sh)
 fi
 there+=(tools/check_release.sh "$edits")
@@ -52,7 +52,7 @@ leave() {
         fi
     done > gate-minutes.md
     cat gate-minutes.md
-    [ -z "$left_out" ] || echo "$left_out"
+    [ -z "$omitted" ] || echo "$omitted"
     rm -rf "$work"
 }
 trap leave EXIT
