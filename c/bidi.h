@@ -1,9 +1,10 @@
 /* bidi.h: the Unicode Bidirectional Algorithm (UAX #9, P1 to L2, L4) and a judge of its conformance files, proved.
  *
- * Link with what `pkg-config --libs bidi_c` prints, or link program.o libbidi_c.a libbidi_c_heap.a. The second archive
- * has malloc, realloc and free under the names that the first one calls; before it is installed it is liblibc_c.a of
- * the kit, and for aarch64 c/heap.c. The manual is share/doc/bidi/docs/C.md below the prefix, and docs/C.md of the
- * source. The contracts of crates/bidi_c say what is proved of each call.
+ * Link with what `pkg-config --libs bidi_c` prints (with `--static` if only the archives are installed), or link
+ * program.o libbidi_c.a libbidi_c_heap.a. The second archive has malloc, realloc and free under the names that the
+ * first one calls; before it is installed it is liblibc_c.a of the kit, and for aarch64 c/heap.c. The manual is
+ * share/doc/bidi/docs/C.md below the prefix, and docs/C.md of the source. The contracts of crates/bidi_c say what is
+ * proved of each call.
  *
  * Preconditions (unchecked), each with what goes wrong otherwise:
  *  - A handle (bidi_tables, bidi_room, bidi_judge, bidi_report) is BIDI_NONE before its first call, and only these

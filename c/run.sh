@@ -34,14 +34,8 @@ if ! "$here/build_library.sh" > "$work/lib" 2>&1 || [ ! -e "$library" ]; then
     echo "no $library" >&2
     exit 2
 fi
-failures=0
-
-# fails WHAT: counts a failure, and shows what was printed.
-fails() {
-    echo "$1: otherwise"
-    head -n 5 "$work/errors"
-    failures=$((failures + 1))
-}
+# shellcheck source=c/expect.sh
+. "$here/expect.sh"
 
 # build NAME WORD..: builds a program of this folder with these arguments of gcc.
 build() {
@@ -49,18 +43,6 @@ build() {
     shift
     gcc -O2 -Wall -Wextra -Wno-unused -o "$work/$name" "$here/$name.c" "$library" "$heap" "$@" 2> "$work/errors" ||
         fails "gcc $name"
-}
-
-# expect NAME STORED WORD..: a command prints what is stored in this file.
-expect() {
-    local name=$1 stored=$2
-    shift 2
-    if "$@" > "$work/printed" 2> "$work/errors" && cmp -s "$work/printed" "$stored"; then
-        echo "$name: as stored"
-    else
-        diff "$stored" "$work/printed" | head -n 5 >> "$work/errors"
-        fails "$name"
-    fi
 }
 
 # says_no WORD..: succeeds if a command ends with 1.

@@ -29,25 +29,12 @@ END
 "$top/tools/build_machines.sh" || exit 2
 work=$(mktemp -d) || exit 2
 trap 'rm -r "$work"' EXIT
-wrong=0
+# shellcheck source=c/expect.sh
+. "$top/c/expect.sh"
 mkdir "$work/files"
 for name in DerivedBidiClass BidiBrackets BidiMirroring BidiTest BidiCharacterTest; do
     cp "$(find $unicode -name "$name.txt" | head -n 1)" "$work/files/" || exit 2
 done
-
-# expect WHAT FILE WORD..: a command prints what this file has.
-expect() {
-    local what=$1 stored=$2
-    shift 2
-    if "$@" > "$work/printed" 2> "$work/errors" && cmp -s "$work/printed" "$stored"; then
-        echo "$MACHINE: $what: as stored"
-    else
-        echo "$MACHINE: $what: otherwise"
-        diff "$stored" "$work/printed" | head -n 5
-        head -n 5 "$work/errors"
-        wrong=1
-    fi
-}
 
 # runs WORD..: the programs of c/ for the machine, under this emulator, print what is stored.
 runs() {
@@ -60,12 +47,12 @@ runs() {
         [ $name != refused ] || wrap=(-Wl,--wrap=malloc,--wrap=realloc)
         "${cross}gcc" -O2 "${wrap[@]}" -o "$work/$name" "$top/c/$name.c" "$out/libbidi_c.a" "$heap" || exit 2
     done
-    expect "official files" "$top/c/official.out" "$@" "$work/official" "$work/files"
-    expect "every call" "$top/c/calls.out" "$@" "$work/calls" "$top/c/ucd"
-    expect "each allocation refused" "$top/c/refused.out" "$@" "$work/refused" "$top/c/ucd"
+    expect "$MACHINE: official files" "$top/c/official.out" "$@" "$work/official" "$work/files"
+    expect "$MACHINE: every call" "$top/c/calls.out" "$@" "$work/calls" "$top/c/ucd"
+    expect "$MACHINE: each allocation refused" "$top/c/refused.out" "$@" "$work/refused" "$top/c/ucd"
     ln -sf "$out/libbidi_c.so.$version" "$work/libbidi_c.so.${version%%.*}"
     "${cross}gcc" -O2 -o "$work/calls" "$top/c/calls.c" "$work/libbidi_c.so.${version%%.*}" || exit 2
-    expect "every call, with the shared object" "$top/c/calls.out" \
+    expect "$MACHINE: every call, with the shared object" "$top/c/calls.out" \
         "$@" -E "LD_LIBRARY_PATH=$work" "$work/calls" "$top/c/ucd"
 }
 
@@ -82,8 +69,8 @@ MACHINE=x86_64
 old=(qemu-x86_64 -cpu qemu64,-ssse3,-sse4.1,-sse4.2,-popcnt,-cx16)
 runs "${old[@]}"
 found=$(newer "$out/libbidi_c.a" "$heap" "$top/crates/bidi/out/x86_64/bidi")
-[ -z "$found" ] || { echo "x86_64: instructions beyond its level: $found"; wrong=1; }
+[ -z "$found" ] || { echo "$found" > "$work/errors"; fails "x86_64: instructions up to its level alone"; }
 printf 'yes: 490846 rows, 770241 cases\n' > "$work/verdict"
-expect "the program" "$work/verdict" "${old[@]}" "$top/crates/bidi/out/x86_64/bidi" judge --kind classes \
+expect "$MACHINE: the program" "$work/verdict" "${old[@]}" "$top/crates/bidi/out/x86_64/bidi" judge --kind classes \
     "$work/files/BidiTest.txt"
-exit "$wrong"
+[ "$failures" -eq 0 ]
